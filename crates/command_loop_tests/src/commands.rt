@@ -107,7 +107,11 @@ fn ask_16(
     for offset in 0..16 {
         let line = format!(in alloc; "{:x}\n", from.saturating_add(offset))?;
         input.extend_from_slice(line.as_bytes())?;
-        let answer = if offset < 4 { b"/src/a.c:10\n" } else { b"/src/a.c:11\n" };
+        let answer = if offset < 4 {
+            b"/src/a.c:10\n"
+        } else {
+            b"/src/a.c:11\n"
+        };
         wanted.extend_from_slice(answer)?;
     }
     Ok(())

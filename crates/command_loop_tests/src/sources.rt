@@ -13,7 +13,8 @@ use std::test::*;
 #[test]
 fn each_load_asks_once(rt: HostRuntime) {
     let alloc = rt.alloc();
-    let lines = b"load a 0 A\nload b x B\nload b 0\n1004\nlist\nunload a\nmove a 0\nload c 10 none\n";
+    let lines =
+        b"load a 0 A\nload b x B\nload b 0\n1004\nlist\nunload a\nmove a 0\nload c 10 none\n";
     let mut source = Recorder::new(&rt, alloc, Shelf::new(alloc));
     let mut writer = Paper::new();
     let options = Options::plain(alloc);

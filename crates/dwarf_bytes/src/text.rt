@@ -46,7 +46,7 @@ pub fn text_at(section: &[u8], offset: u64) -> Result<&[u8], ReadFault>
 }
 
 /// Returns the offset after the last NUL of a section, or 0 if there is none. A string starts at
-/// each offset below it, and at no other, so such an offset is validated without reading the string.
+/// each offset below it and at no other offset. So an offset is validated without reading bytes.
 pub fn strings_end(bytes: &[u8]) -> usize
     ensures { EndsStrings bytes.now result }
 {

@@ -61,11 +61,11 @@ fn first_nuls(alloc: Global, section: &[u8]) -> Result<Vec<Option<usize>>, Alloc
 {
     let mut nuls = Vec::new(alloc);
     let mut block = section.len().div_ceil(BLOCK_LEN);
-    let mut behind = None;
+    let mut later = None;
     while block > 0 {
         block -= 1;
-        behind = nul_in_block(section, block * BLOCK_LEN).or(behind);
-        nuls.push(behind)?;
+        later = nul_in_block(section, block * BLOCK_LEN).or(later);
+        nuls.push(later)?;
     }
     nuls.reverse();
     Ok(nuls)
@@ -76,11 +76,11 @@ fn nul_in_block(section: &[u8], at: usize) -> Option<usize>
     ensures { result ≡ option_map (λ n. at + n)
         (position (λ byte. byte == 0) (take BLOCK_LEN (drop at section.now))) }
 {
-    let near = Span {
+    let block = Span {
         place: at,
         len: BLOCK_LEN,
     };
-    match first_nul(near.of(section)) {
+    match first_nul(block.of(section)) {
         Some(n) => Some(at + n),
         None => None,
     }

@@ -40,7 +40,7 @@ ArePartsFrom number end (root ∷ roots) =
 pub record IsOfUnit (root : Root) (scope : Scope) : Type 0 where
   pub stmt_list_is : scope.stmt_list ≡ root.stmt_list
   pub ends : scope.«end» ≤ root.past
-  pub stands : root.offset ≤ scope.offset
+  pub starts : root.offset ≤ scope.offset
 
 -- The units with their entries and tables, which the scopes are read from.
 unfoldable pub units_read : Sections → Result (List CompilationUnit) LoadFault

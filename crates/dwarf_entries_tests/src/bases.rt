@@ -10,7 +10,7 @@ use std::test::*;
 /// A table of one range list, whose entries contain address indexes.
 const INDEXED: [u8; 55] = [
     51, 0, 0, 0, 5, 0, 8, 0, 1, 0, 0, 0, // a table of one offset, whose base is 12
-    4, 0, 0, 0, // its offset, so that the list stands at 16
+    4, 0, 0, 0, // its offset, so that the list is at 16
     1, 0, // base_addressx 0, which is 0x1000
     4, 1, 2, // offset_pair 1 to 2
     2, 0, 1, // startx_endx 0 and 1

@@ -44,8 +44,8 @@ fn the_last_of_seventy_thousand_scopes(rt: HostRuntime) {
     let Some(last) = read.scopes().last() else {
         panic!(rt; "no scope");
     };
-    let stands = (last.number(), last.offset(), last.end());
-    are_equal(&rt, stands, (70_000, 1_539_994, 70_001));
+    let actual = (last.number(), last.offset(), last.end());
+    are_equal(&rt, actual, (70_000, 1_539_994, 70_001));
     let covered = [range(1_124_080, 1_124_096)];
     are_equal(&rt, last.ranges(&read), covered.as_slice());
     are_equal(&rt, last.name(), text(Section::DebugInfo, 14));

@@ -50,13 +50,13 @@ constant-encoded form section at read h =
     (IsEncodedAt (EncodesConstant form) section at read.0 read.1)
     (λ test is. let found = bind_ok (reading (sleb_at section at)) (λ c. Ok (Some c.0, c.1)) read
     is in
-    let stands = sleb-encoded section at found.0.0 found.0.1
+    let is_encoded = sleb-encoded section at found.0.0 found.0.1
     (reading-ok (sleb_at section at) found.0 found.1) in
     let there : IsEncodedAt (EncodesConstant form) section at (Some found.0.0) found.0.1 =
-    encoded-from (EncodesConstant form) section at (Some found.0.0) found.0.1 stands.front
-    stands.rest
-    (stretch-of IsSleb section at found.0.0 found.0.1 stands)
-    (alike form DW_FORM_IMPLICIT_CONST test, stands.encoded) in
+    encoded-from (EncodesConstant form) section at (Some found.0.0) found.0.1 is_encoded.front
+    is_encoded.rest
+    (stretch-of IsSleb section at found.0.0 found.0.1 is_encoded)
+    (alike form DW_FORM_IMPLICIT_CONST test, is_encoded.encoded) in
     subst (λ (r : Option ℤ × ℕ). IsEncodedAt (EncodesConstant form) section at r.0 r.1)
     (same-ok (Some found.0.0, found.0.1) read found.2) there)
     (λ test is. subst (λ (r : Option ℤ × ℕ). IsEncodedAt (EncodesConstant form) section at r.0 r.1)
@@ -145,7 +145,7 @@ attribute-encoded section = record { item = item; end = end }
         (stretch-of (EncodesConstant form.0) section form.1 constant.0 constant.1 c) in
         let it : AttributeSpecification =
         record { name = name.0; form = form.0; constant = constant.0 } in
-        let stands : IsEncodedAt EncodesAttribute section at it constant.1 =
+        let is_encoded : IsEncodedAt EncodesAttribute section at it constant.1 =
         encoded-from EncodesAttribute section at it constant.1 ((a.front ++ b.front) ++ c.front)
         c.rest abc
         (record {
@@ -163,7 +163,7 @@ attribute-encoded section = record { item = item; end = end }
         (refused-parts name.0 (form_of form.0) usable, once) in (
           subst (λ (k : ℕ). IsEncodedAt EncodesAttribute section at x k) same.1
               (subst (λ (y : AttributeSpecification). IsEncodedAt EncodesAttribute section at y
-              constant.1) same.0 stands),
+              constant.1) same.0 is_encoded),
           subst
               (λ (y : AttributeSpecification). IsNew IsUsable name_of before y) same.0 good,
         )))))))

@@ -82,7 +82,7 @@ head-encoded budget section before at head next h =
     let it : Head = record { code = code.0; tag = tag.0; children = children.0 == 1 } in
     let byte : c.0 ≡ (if children.0 == 1 then 1 else 0) ∷ [] = one_byte c.0 children.0 c.2 c.3
     ∙ ap (λ (k : ℕ). k ∷ []) (flag-of children.0 (ltb-false 1 children.0 flag)) in
-    let stands : IsEncodedAt EncodesHead section at it children.1 =
+    let is_encoded : IsEncodedAt EncodesHead section at it children.1 =
     encoded-from EncodesHead section at it children.1 ((a.front ++ b.front) ++ c.0)
     (drop 1 (drop tag.1 section)) abc
     (record {
@@ -103,7 +103,7 @@ head-encoded budget section before at head next h =
     } in
     let same = same-item it head children.1 next h7 in (
       subst (λ (k : ℕ). IsEncodedAt EncodesHead section at head k) same.1
-          (subst (λ (y : Head). IsEncodedAt EncodesHead section at y children.1) same.0 stands),
+          (subst (λ (y : Head). IsEncodedAt EncodesHead section at y children.1) same.0 is_encoded),
       subst (λ (y : Head). HeadFits budget before y.code) same.0 good,
     ))))))))
 

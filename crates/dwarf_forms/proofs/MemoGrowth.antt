@@ -55,8 +55,8 @@ may-follow section memoized places sets seen number place k bytes are view is th
 
     here : is_memoized_at memoized number place ≡ true → bytes ≡ section
         → MayFollow bytes place sets k (attributes_from memoized number)
-    here stands same =
-        let found = memoized-at memoized number place stands in
+    here is_there same =
+        let found = memoized-at memoized number place is_there in
         subst (λ (b : List ℕ). MayFollow b place sets k (attributes_from memoized number))
         (sym same)
         (by_item found.0 found.1 found.2

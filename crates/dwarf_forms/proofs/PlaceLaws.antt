@@ -143,10 +143,10 @@ pub places-differ : (section : List ℕ) (places : List ℕ)
     (attributes rest : List AttributeSpecification) (after i k d : ℕ)
     → AreReadAt section places attributes rest after → length places ≡ length attributes → i < k
     → k < length places → get_or places k d ≢ get_or places i d
-places-differ section places attributes rest after i k d stand lengths before within same =
+places-differ section places attributes rest after i k d read_at lengths before within same =
     let read : Ok (drop k attributes ++ rest, after) ≡ Ok (drop i attributes ++ rest, after) =
-    sym (stand k d within) ∙ (ap (λ (p : ℕ). attributes_at section p) same
-    ∙ stand i d (omega (arith, before, within))) in
+    sym (read_at k d within) ∙ (ap (λ (p : ℕ). attributes_at section p) same
+    ∙ read_at i d (omega (arith, before, within))) in
     let lists : drop k attributes ++ rest ≡ drop i attributes ++ rest =
     ap (λ (r : List AttributeSpecification × ℕ). r.0)
     (same-ok (drop k attributes ++ rest, after) (drop i attributes ++ rest, after) read) in

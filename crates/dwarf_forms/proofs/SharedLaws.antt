@@ -131,7 +131,7 @@ pub put-turn : (old now new : MemoizedAttributes) (attributes : List AttributeSp
     → AreReadAt old.section places attributes rest after → left ≡ k + 1
     → new.section ≡ now.section → IsPut now.memoized new.memoized number (get_or places k d)
     (get_or attributes k e) next after → PutFrom old new attributes places rest (Some number) k
-put-turn old now new attributes places rest next left k number d after e so_far lengths stand is
+put-turn old now new attributes places rest next left k number d after e so_far lengths read_at is
     section put = record {
       few = omega (arith, within);
       list = list_is;
@@ -146,7 +146,7 @@ put-turn old now new attributes places rest next left k number d after e so_far 
           (get_or places i f))
           (sym put.memoized) (unknown-put now.memoized last (get_or places i f)
           (so_far.unknown i f (omega (arith, lt, is)))
-          (λ same. places-differ old.section places attributes rest after i k d stand lengths lt
+          (λ same. places-differ old.section places attributes rest after i k d read_at lengths lt
           within
           (same ∙ default places i f d (omega (arith, lt, within)))));
       grows = grows-put old now new number (get_or places k d) (get_or attributes k e) next after

@@ -21,8 +21,8 @@ pub attribute-again : (section : List ℕ) (before other : List AttributeSpecifi
     (x : AttributeSpecification) (next : ℕ) → attribute_at section before at ≡ Ok (Item x next)
     → list_any (named x.name) other ≡ false → attribute_at section other at ≡ Ok (Item x next)
 attribute-again section before other at x next read new =
-    let stands = (attribute-encoded section).item before at x next read in
-    (attribute-read section).item other at x next stands.0 (stands.1.0, new)
+    let is_encoded = (attribute-encoded section).item before at x next read in
+    (attribute-read section).item other at x next is_encoded.0 (is_encoded.1.0, new)
 
 -- .. and no attribute before it has its name
 pub attribute-new : (section : List ℕ) (before : List AttributeSpecification) (at : ℕ)

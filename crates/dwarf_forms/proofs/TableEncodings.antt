@@ -93,7 +93,7 @@ declaration-encoded budget section = record { item = item; end = end }
             } in
             let fits : DeclarationFits budget before it = (front.1.limit-left, (good, front.1.new))
             in
-            let stands : IsEncodedAt EncodesDeclaration section at it attributes.1 =
+            let is_encoded : IsEncodedAt EncodesDeclaration section at it attributes.1 =
             encoded-from EncodesDeclaration section at it attributes.1
             (front.0.front ++ others.0.front) others.0.rest whole
             (record {
@@ -115,7 +115,7 @@ declaration-encoded budget section = record { item = item; end = end }
               subst (λ (k : ℕ). IsEncodedAt EncodesDeclaration section at x k) same.1
                   (subst (λ (y : Declaration). IsEncodedAt EncodesDeclaration section at y
                   attributes.1)
-                  same.0 stands),
+                  same.0 is_encoded),
               subst (λ (y : Declaration). DeclarationFits budget before y) same.0
                   fits,
             ))

@@ -108,10 +108,10 @@ pub value-encoded : (form : ℕ) (format : Format) (constant : Option ℤ) (byte
 unfolding value_at
 value-encoded form format constant bytes at value next h = by_form (form_of form) refl h
   where
-    stands : (f : Option Shape) → form_of form ≡ f → (front rest : List ℕ)
+    is_encoded : (f : Option Shape) → form_of form ≡ f → (front rest : List ℕ)
         → Stretch bytes at front next rest → Spells_by f form format constant front value
         → IsEncodedAt (Spells form format constant) bytes at value next
-    stands f is front rest s encoded = encoded-from (Spells form format constant) bytes at
+    is_encoded f is front rest s encoded = encoded-from (Spells form format constant) bytes at
         value next
         front rest s (subst (λ (f : Option Shape). Spells_by f form format constant front value)
         (sym is) encoded)
@@ -124,7 +124,7 @@ value-encoded form format constant bytes at value next h = by_form (form_of form
     by_constant (Some c) memoized is h =
         let same = same-ok (record { form = form; content = Signed c }, at) (value, next) h in
         let place : at ≡ next = ap (λ (r : Value × ℕ). r.1) same in
-        stands (Some ImplicitConst) is [] (drop at bytes)
+        is_encoded (Some ImplicitConst) is [] (drop at bytes)
         (subst (λ (k : ℕ). Stretch bytes at [] k (drop at bytes)) place (nothing bytes at))
         (c, memoized, refl, sym (ap (λ (r : Value × ℕ). r.0) same))
 
@@ -133,7 +133,7 @@ value-encoded form format constant bytes at value next h = by_form (form_of form
     by_form None is h = cc
     by_form (Some (Direct layout)) is h =
         let s = direct-encoded form format bytes at (value, next) h in
-        stands (Some (Direct layout)) is s.front s.rest
+        is_encoded (Some (Direct layout)) is s.front s.rest
         (stretch-of (SpellsDirectly form format) bytes at value next s) s.encoded
     by_form (Some ImplicitConst) is h = by_constant constant refl is h
     by_form (Some Indirect) is h =
@@ -145,7 +145,7 @@ value-encoded form format constant bytes at value next h = by_form (form_of form
         let both = both-parts bytes at inner.front s.front found.0.1 next inner.rest s.rest
         (stretch-of IsUleb bytes at found.0.0 found.0.1 inner)
         (stretch-of (SpellsDirectly found.0.0 format) bytes found.0.1 value next s) in
-        stands (Some Indirect) is (inner.front ++ s.front) s.rest both
+        is_encoded (Some Indirect) is (inner.front ++ s.front) s.rest both
         (record {
           front = inner.front;
           rest = s.front;

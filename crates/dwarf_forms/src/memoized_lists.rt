@@ -120,7 +120,7 @@ impl<'a> MemoizedLists<'a> {
         cursor: &mut Cursor,
     ) -> Result<(), Cause>
         requires bytes { cursor.old.bytes ≡ self.now.section }
-        requires stands { is_memoized_at self.now.memoized number cursor.old.place ≡ true }
+        requires memoized { is_memoized_at self.now.memoized number cursor.old.place ≡ true }
         ensures { ReadsField (λ _. attributes_from self.now.memoized number) result
             (λ bytes at. without_offset (items_from (length bytes) (attribute_at bytes) own.now at))
             cursor.old cursor.new }

@@ -150,7 +150,7 @@ fn put_all(
 ) -> Result<Option<usize>, AllocError>
     requires lengths { length places.now ≡ length attributes.now }
     requires rest { IsMemoized lists.old.memoized rest }
-    requires stand { AreReadAt lists.old.section places.now attributes.now
+    requires read_at { AreReadAt lists.old.section places.now attributes.now
         (rest_attributes lists.old.memoized rest) after }
     requires unknown { All (IsNotMemoized lists.old.memoized) places.now }
     ensures list { IfOk result (λ first. rest_attributes lists.new.memoized first

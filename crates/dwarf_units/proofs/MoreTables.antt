@@ -32,7 +32,7 @@ pub cached-permanent : (section : List ℕ) (tables after : List Table)
     → now ≡ length after → AreCached section tables permanent budget numbers
     → AreCached section after now (budget - size) next
 cached-permanent section tables after permanent budget now size numbers next table elsewhere sets
-    stands
+    parsed
     is size_is
     fits now_is all =
     let before : List Table = take permanent tables in
@@ -46,7 +46,7 @@ cached-permanent section tables after permanent budget now size numbers next tab
     ap (λ (ts : List Table). sum_by table_size ts) is
     ∙ sum_by_push table_size (take permanent tables) table in
     record {
-      stand = parsed-after section tables after permanent table all.stand stands is;
+      parsed = parsed-after section tables after permanent table all.parsed parsed is;
       found = subst (λ (ts : List Table). AreFound next ts) (sym is)
           (found-push before next table here
           (found-short tables permanent numbers next table.format table.offset permanent
@@ -122,10 +122,10 @@ cached-too-long section tables number len memoized d offset left read all at sam
     let short : length read ≤ left = table-few left section offset read ok in
     let again : declarations_of declarations_limit section offset ≡ Ok read =
     table-again left declarations_limit section offset read ok (omega (arith, short, few)) in
-    let stands : declarations_of declarations_limit section offset ≡ Ok memoized.declarations =
+    let parsed : declarations_of declarations_limit section offset ≡ Ok memoized.declarations =
     cached-parsed section tables number memoized offset all at same in
     let lens : length memoized.declarations ≡ length read =
-    ap (λ (ds : List Declaration). length ds) (same-ok (sym stands ∙ again)) in
+    ap (λ (ds : List Declaration). length ds) (same-ok (sym parsed ∙ again)) in
     let one : length (get_or tables number d).declarations ≡ length memoized.declarations =
     ap (λ (t : Table). length t.declarations)
     (get_or_from_slice_get tables number memoized d at) in

@@ -34,8 +34,8 @@ got-before (x ∷ xs) ys (suc i) t at = got-before xs ys i t at
 -- What holds for the table of a unit still holds after more tables are cached.
 pub stays-on : (old new : CachedTables) (unit : UnitHeader) → Grows old new
     → new.section ≡ old.section → IsCachedOrTooLarge old unit → IsCachedOrTooLarge new unit
-stays-on old new unit grows same (table, at, stands, is) =
-    (table, at, subst (λ (s : List ℕ). IsParsedFrom s table) (sym same) stands, by_case is)
+stays-on old new unit grows same (table, at, parsed, is) =
+    (table, at, subst (λ (s : List ℕ). IsParsedFrom s table) (sym same) parsed, by_case is)
   where
     by_case : ((number : ℕ) × (slice_get (take old.permanent old.tables) number ≡ Some table))
         ⊎ (size_limit old.section < sum_by table_size (take old.permanent old.tables) + table_size
@@ -62,7 +62,7 @@ pub stays-with : (old : CachedTables) (unit : UnitHeader) (table : Table)
     → old.permanent ≤ length old.tables → IsAt unit.format unit.abbreviations table
     → IsParsedFrom old.section table → IsCachedOrTooLarge (with_table old table) unit
     × Grows old (with_table old table)
-stays-with old unit table within at stands =
+stays-with old unit table within at parsed =
     let before : List Table = take old.permanent old.tables in
     by_test before (length-take-le old.permanent old.tables within) refl
     (nat_le (sum_by table_size (before ++ table ∷ [])) (size_limit old.section)) refl
@@ -87,7 +87,7 @@ stays-with old unit table within at stands =
           (
             table,
             at,
-            stands,
+            parsed,
             inl (
               length before,
               ap (λ (ts : List Table). slice_get ts (length before)) whole
@@ -104,7 +104,7 @@ stays-with old unit table within at stands =
         ap (λ (ts : List Table). sum_by table_size ts) front in
         let large : size_limit old.section < sum_by table_size tables =
         gt (sum_by table_size tables) (size_limit old.section) past in (
-          (table, at, stands, inr (omega (arith, sum, large, sum_by_push table_size before table))),
+          (table, at, parsed, inr (omega (arith, sum, large, sum_by_push table_size before table))),
           ([], front ∙ (is ∙ append-none (take old.permanent old.tables))),
         )
 
@@ -114,11 +114,11 @@ pub stays-parsed : (old new : CachedTables) (unit : UnitHeader) (budget left num
     → IsAdded unit.format unit.abbreviations budget left old new number
     → IsCachedOrTooLarge new unit × Grows old new
 stays-parsed old new unit budget left number within few added =
-    let stands : IsParsedFrom old.section added.table =
+    let parsed : IsParsedFrom old.section added.table =
     parsed-at old.section budget added.table unit.abbreviations added.at.0 added.read
     (omega (arith, added.counted, few)) in
     subst (λ (k : CachedTables). IsCachedOrTooLarge k unit × Grows old k) (sym added.added)
-    (stays-with old unit added.table within added.at stands)
+    (stays-with old unit added.table within added.at parsed)
 
 -- It holds for the units up to the next index.
 pub stays-next : (old new : CachedTables) (units : List UnitHeader) (index : ℕ) (d : UnitHeader)

@@ -115,14 +115,14 @@ is-new old new store view table format offset left grows are same readable at re
     let here : in_section sections.DebugAbbrev (declarations_of left view.section offset)
     ≡ Ok resolved.declarations = subst (λ (s : List ℕ). in_section sections.DebugAbbrev
     (declarations_of left s offset) ≡ Ok resolved.declarations) section read in
-    let stands : IsParsedFrom old.places.section resolved =
+    let parsed : IsParsedFrom old.places.section resolved =
     parsed-at old.places.section left resolved offset at.0 read
     (omega (arith, few, length-map table.declarations (full_by new))) in
     let tables : view.tables ≡ full_tables new.places.memoized store.tables.items =
     ap (λ (k : CachedTables). k.tables) (sym same ∙ sym (seen-grows old new store grows are)) in
     record {
       readable = readable;
-      stands = subst (λ (s : List ℕ). IsParsedFrom s resolved) (sym grows.places.section) stands;
+      parsed = subst (λ (s : List ℕ). IsParsedFrom s resolved) (sym grows.places.section) parsed;
       fresh = subst (λ (ts : List Table). AreElsewhere table.format table.offset ts) tables
           (elsewhere-as resolved format offset view.tables at.0 at.1
           (fresh resolved.declarations here));

@@ -113,7 +113,7 @@ cached-truncated section tables after permanent budget numbers next format offse
     subst (λ (k : ℕ). take k (take permanent tables) ≡ take permanent tables) len
     (take_all (take permanent tables)) in
     subst (λ (ts : List Table). AreCached section ts permanent budget next) (sym is) (record {
-      stand = parsed-before section tables (take permanent tables) permanent all.stand refl;
+      parsed = parsed-before section tables (take permanent tables) permanent all.parsed refl;
       found = found-short tables permanent numbers next format offset permanent
           all.within elsewhere sets
           all.found;
@@ -132,7 +132,7 @@ pub cached-temporary : (section : List ℕ) (tables after : List Table) (permane
     → AreCached section tables permanent budget numbers
     → AreCached section after permanent budget next
 cached-temporary section tables after permanent budget size numbers next table elsewhere sets
-    stands is size_is
+    parsed is size_is
     past all =
     let before : List Table = take permanent tables in
     let len : length before ≡ permanent = length-take-le permanent tables all.within in
@@ -147,7 +147,7 @@ cached-temporary section tables after permanent budget size numbers next table e
     let last : slice_get (before ++ table ∷ []) permanent ≡ Some table =
     last-at before (before ++ table ∷ []) permanent table refl (sym len) in
     subst (λ (ts : List Table). AreCached section ts permanent budget next) (sym is) (record {
-      stand = parsed-after section tables (before ++ table ∷ []) permanent table all.stand stands
+      parsed = parsed-after section tables (before ++ table ∷ []) permanent table all.parsed parsed
           refl;
       found = found-push before next table here
           (found-short tables permanent numbers next table.format table.offset permanent

@@ -50,7 +50,7 @@ pub memoized-stays : (lists : LinkedPlaces) (store : TableStore) (number : ℕ) 
     ≡ Some table → IsAt unit.format unit.abbreviations table
     → IsCachedOrTooLarge (seen lists store) unit
 memoized-stays lists store number table unit are at is =
-    (table, is, stands, by_place (cases_lt number store.permanent))
+    (table, is, parsed, by_place (cases_lt number store.permanent))
   where
     tables : List Table
     tables = full_tables lists.places.memoized store.tables.items
@@ -58,10 +58,10 @@ memoized-stays lists store number table unit are at is =
     within : number < length tables
     within = slice_get_within tables number table at
 
-    stands : IsParsedFrom lists.places.section table
-    stands = subst (λ (t : Table). IsParsedFrom lists.places.section t)
+    parsed : IsParsedFrom lists.places.section table
+    parsed = subst (λ (t : Table). IsParsedFrom lists.places.section t)
         (get_or_from_slice_get tables number table table at)
-        (are.permanent.stand number table within)
+        (are.permanent.parsed number table within)
 
     by_place : (number < store.permanent) ⊎ (store.permanent ≤ number)
         → ((k : ℕ) × (slice_get (take store.permanent tables) k ≡ Some table))
@@ -130,7 +130,7 @@ memoized-too-long lists store view number len table at_index offset left read ar
     memoized-resolved lists.places.memoized store.tables.items number table at in
     let memoized : Table = full_table lists.places.memoized table in
     cached-too-long lists.places.section tables number len memoized memoized offset left read
-    are.permanent.stand there place
+    are.permanent.parsed there place
     (subst (λ (s : List ℕ). in_section sections.DebugAbbrev (declarations_of left s offset)
     ≡ Ok read) (sym (ap (λ (k : CachedTables). k.section) same)) is_read) few
     (sym (memoized-len lists.places.memoized store.tables.items number len table at_index at
@@ -157,7 +157,7 @@ memoized-fits lists store view number len table at_index offset left are same at
       memoized.declarations,
       subst (λ (s : List ℕ). in_section sections.DebugAbbrev (declarations_of left s offset)
           ≡ Ok memoized.declarations) (ap (λ (k : CachedTables). k.section) same)
-          (cached-again lists.places.section tables number memoized offset left are.permanent.stand
+          (cached-again lists.places.section tables number memoized offset left are.permanent.parsed
           there
           place (omega (arith, lens, fits))),
       lens,
@@ -177,14 +177,14 @@ memoized-is lists store view number shared format offset are same at place form 
     let table : Table = full_table lists.places.memoized shared in
     let there : slice_get tables number ≡ Some table =
     memoized-resolved lists.places.memoized store.tables.items number shared at in
-    let stands : declarations_of declarations_limit lists.places.section offset
+    let parsed : declarations_of declarations_limit lists.places.section offset
     ≡ Ok table.declarations = cached-parsed lists.places.section tables number table offset
-    are.permanent.stand there place in (
+    are.permanent.parsed there place in (
       table,
       ap (λ (k : CachedTables). slice_get k.tables number) (sym same) ∙ there,
       ap (λ (k : CachedTables). in_section sections.DebugAbbrev
           (declarations_of declarations_limit k.section offset)) (sym same)
-          ∙ ap (λ (r : Result (List Declaration) At). in_section sections.DebugAbbrev r) stands,
+          ∙ ap (λ (r : Result (List Declaration) At). in_section sections.DebugAbbrev r) parsed,
       place,
       form,
     )

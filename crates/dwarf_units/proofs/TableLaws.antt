@@ -194,10 +194,10 @@ pub cached-parsed : (section : List ℕ) (tables : List Table) (number : ℕ) (t
 cached-parsed section tables number table offset all at same =
     let here : get_or tables number table ≡ table =
     get_or_from_slice_get tables number table table at in
-    let stands : IsParsedFrom section (get_or tables number table) =
+    let parsed : IsParsedFrom section (get_or tables number table) =
     all number table (slice_get_within tables number table at) in
     subst (λ (k : ℕ). declarations_of declarations_limit section k ≡ Ok table.declarations) same
-    (subst (λ (t : Table). IsParsedFrom section t) here stands)
+    (subst (λ (t : Table). IsParsedFrom section t) here parsed)
 
 -- Parsing a cached table again succeeds if the budget is large enough.
 pub cached-again : (section : List ℕ) (tables : List Table) (number : ℕ) (table : Table)

@@ -58,7 +58,7 @@ impl<'a> UnitTable<'a> {
         place: usize,
     ) -> Option<(FixedSizeHead, usize)>
         ensures found { result ≡ fixed_size_entry_at self.now depth bytes.now place }
-        ensures stands { IfSome result (IsFixedSizeNode self.now depth bytes.now place) }
+        ensures node { IfSome result (IsFixedSizeNode self.now depth bytes.now place) }
         ensures limit { IfSome result (λ _. depth ≤ depth_limit) }
     {
         if depth == 0 || depth > DEPTH_LIMIT {

@@ -57,8 +57,8 @@ pub fixed_size-taken : (table : Table) (w taken : WalkState) (unit : List ℕ) (
     → ((attributes : List Attribute) → taken
     ≡ after_node w at (Entry found.0.tag found.0.children attributes))
     → state_at table.format table.declarations w unit at ≡ Ok (taken, found.1)
-fixed_size-taken table w taken unit at found rooted stands is =
-    rw (rooted, stands.1) (ap (λ (x : WalkState). Ok (x, found.1)) (sym (is stands.0)))
+fixed_size-taken table w taken unit at found rooted is_node is =
+    rw (rooted, is_node.1) (ap (λ (x : WalkState). Ok (x, found.1)) (sym (is is_node.0)))
 
 pub fixed_size-bitmap : (table : Table) (w : WalkState) (unit : List ℕ) (at : ℕ)
     (found : FixedSizeHead
@@ -69,9 +69,9 @@ pub fixed_size-bitmap : (table : Table) (w : WalkState) (unit : List ℕ) (at : 
     → (node : Node × ℕ) → node_at_depth table.format table.declarations w.depth
     (is_some w.root) unit
     at ≡ Ok node → AddsOffsets bitmap marked (places_of at node.0)
-fixed_size-bitmap table w unit at found bitmap marked rooted stands adds node is =
+fixed_size-bitmap table w unit at found bitmap marked rooted is_node adds node is =
     let there = subst (λ (r : Bool). node_at_depth table.format table.declarations w.depth r unit at
-    ≡ Ok (Entry found.0.tag found.0.children stands.0, found.1)) (sym rooted) stands.1 in
+    ≡ Ok (Entry found.0.tag found.0.children is_node.0, found.1)) (sym rooted) is_node.1 in
     bitmap-of bitmap marked at (node_at_depth table.format table.declarations w.depth
     (is_some w.root)
-    unit at) (Entry found.0.tag found.0.children stands.0, found.1) node there adds is
+    unit at) (Entry found.0.tag found.0.children is_node.0, found.1) node there adds is

@@ -46,12 +46,12 @@ read-encoded : {X : Type 0} (S : List ℕ → X → Type 0) (T : List ℕ → Co
     → ((x : X) (n : ℕ) → read ≡ Ok (x, n) → IsEncodedAt S bytes at x n)
     → read_as make read ≡ Ok (content, next)
     → IsEncodedAt T bytes at content next
-read-encoded {X = X} S T make bytes at content next as_content read stands e =
+read-encoded {X = X} S T make bytes at content next as_content read is_encoded e =
     let r = bind_ok read (λ x. Ok (make x.0, x.1)) (content, next) e in
     let pairs = same-content (make r.0.0, r.0.1) (content, next) r.2 in
     let here = standing-as S T bytes at r.0.0 (make r.0.0) r.0.1
     (λ front s. as_content front r.0.0 s)
-    (stands r.0.0 r.0.1 r.1) in
+    (is_encoded r.0.0 r.0.1 r.1) in
     let whole : IsEncodedAt T bytes at (make r.0.0) next =
     subst (λ (n : ℕ). IsEncodedAt T bytes at (make r.0.0) n) (ap (λ (p : Content × ℕ). p.1) pairs)
     here in
@@ -81,9 +81,9 @@ counted-encoded : (L : List ℕ → ℕ → Type 0) (bytes : List ℕ) (at : ℕ
     (read : Result (ℕ × ℕ) ReadFault) → ((x n : ℕ) → read ≡ Ok (x, n) → IsEncodedAt L bytes at x n)
     → (read >>= λ len. block_at len.0 bytes len.1) ≡ Ok (block, next)
     → IsEncodedAt (IsCounted L) bytes at block next
-counted-encoded L bytes at block next read stands e =
+counted-encoded L bytes at block next read is_encoded e =
     let r = bind_ok read (λ len. block_at len.0 bytes len.1) (block, next) e in
-    let s = stands r.0.0 r.0.1 r.1 in
+    let s = is_encoded r.0.0 r.0.1 r.1 in
     let b = block-encoded r.0.0 bytes r.0.1 block next r.2 in
     let rest-is : s.rest ≡ b.front ++ b.rest =
     sym (bytes-after bytes at s.front s.rest s.parts) ∙ ap (λ (n : ℕ). drop n bytes) (sym s.next_is)

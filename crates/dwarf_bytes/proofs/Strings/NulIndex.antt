@@ -51,12 +51,12 @@ pub nul-indexed : (section : List ℕ) (nuls : List (Option ℕ)) (at : ℕ) (fo
     → found ≡ nul_from section at
 nul-indexed section nuls at found are none there =
     let block : ℕ = at / block_len + 1 in
-    let near = block-bounds at in
+    let bounds = block-bounds at in
     let j : ℕ = block_len * block - at in
-    let place : at + j ≡ block_len * (0 + block) = omega (arith, near.0) in
-    let told = nuls-get section 0 are.count block found
+    let place : at + j ≡ block_len * (0 + block) = omega (arith, bounds.0) in
+    let indexed = nuls-get section 0 are.count block found
     (ap (λ (ns : List (Option ℕ)). slice_get ns block) (sym are.nuls_are) ∙ there) in
-    told ∙ sym (nul-after section at j (omega (arith, near.1)) none
+    indexed ∙ sym (nul-after section at j (omega (arith, bounds.1)) none
     ∙ ap (λ (k : ℕ). nul_from section k) place)
 
 pub nul-unindexed : (section : List ℕ) (nuls : List (Option ℕ)) (at : ℕ) → AreNuls section nuls
@@ -64,13 +64,14 @@ pub nul-unindexed : (section : List ℕ) (nuls : List (Option ℕ)) (at : ℕ) �
     → None ≡ nul_from section at
 nul-unindexed section nuls at are none past =
     let block : ℕ = at / block_len + 1 in
-    let near = block-bounds at in
+    let bounds = block-bounds at in
     let j : ℕ = block_len * block - at in
-    let place : at + j ≡ block_len * block = omega (arith, near.0) in
+    let place : at + j ≡ block_len * block = omega (arith, bounds.0) in
     let sizes : length nuls ≡ are.count =
     ap (λ (ns : List (Option ℕ)). length ns) are.nuls_are ∙ nuls-length section 0 are.count in
     let beyond : length section ≤ at + j = omega (arith, place, are.all, sizes, past) in
-    sym (nul-after section at j (omega (arith, near.1)) none ∙ nul-outside section (at + j) beyond)
+    sym (nul-after section at j (omega (arith, bounds.1)) none
+    ∙ nul-outside section (at + j) beyond)
 
 -- without a NUL in the next block_len bytes, the index entry is the first NUL, if there is one
 pub nul-from-index : (section : List ℕ) (nuls : List (Option ℕ)) (at : ℕ) → AreNuls section nuls
@@ -105,12 +106,12 @@ nul-past-end section at past =
 -- ---- the loop that builds the index, from the last block to the first
 
 pub record BuiltNuls (section : List ℕ) (nuls : List (Option ℕ)) (block : ℕ)
-    (behind : Option ℕ) : Type 0 where
+    (later : Option ℕ) : Type 0 where
   pub count : ℕ
   pub all : length section ≤ block_len * count
   pub needed : block_len * count < length section + block_len
   pub few : block ≤ count
-  pub behind_is : behind ≡ nul_from section (block_len * block)
+  pub later_is : later ≡ nul_from section (block_len * block)
   pub built : reverse nuls ≡ nuls_from section block (count - block)
 
 pub nuls-none : (section : List ℕ) (count : ℕ) → length section ≤ block_len * count
@@ -120,30 +121,30 @@ nuls-none section count all needed = record {
   all = all;
   needed = needed;
   few = omega arith;
-  behind_is = sym (nul-outside section (block_len * count) all);
+  later_is = sym (nul-outside section (block_len * count) all);
   built = ap (λ (k : ℕ). nuls_from section count k)
       (let none : 0 ≡ count - count = omega arith in none);
 }
 
-nul-or : (section : List ℕ) (at after : ℕ) (near behind : Option ℕ)
-    → near ≡ option_map (λ n. at + n) (position is_nul (take block_len (drop at section)))
-    → behind ≡ nul_from section after → after ≡ at + block_len
-    → option_or near behind ≡ nul_from section at
-nul-or section at after (Some nul) behind near_is behind_is next =
-    nul-in-block section at nul near_is
-nul-or section at after None behind near_is behind_is next =
-    behind_is ∙ (ap (λ (k : ℕ). nul_from section k) next
-    ∙ sym (nul-after section at block_len (omega arith) (none-in-block section at near_is)))
+nul-or : (section : List ℕ) (at after : ℕ) (own later : Option ℕ)
+    → own ≡ option_map (λ n. at + n) (position is_nul (take block_len (drop at section)))
+    → later ≡ nul_from section after → after ≡ at + block_len
+    → option_or own later ≡ nul_from section at
+nul-or section at after (Some nul) later own_is later_is next =
+    nul-in-block section at nul own_is
+nul-or section at after None later own_is later_is next =
+    later_is ∙ (ap (λ (k : ℕ). nul_from section k) next
+    ∙ sym (nul-after section at block_len (omega arith) (none-in-block section at own_is)))
 
-pub nuls-next : (section : List ℕ) (nuls : List (Option ℕ)) (block at : ℕ) (behind near : Option ℕ)
-    → BuiltNuls section nuls block behind → 0 < block → at ≡ (block - 1) * block_len
-    → near ≡ option_map (λ n. at + n) (position is_nul (take block_len (drop at section)))
-    → BuiltNuls section (nuls ++ option_or near behind ∷ []) (block - 1) (option_or near behind)
-nuls-next section nuls block at behind near so_far some at_is near_is =
+pub nuls-next : (section : List ℕ) (nuls : List (Option ℕ)) (block at : ℕ) (later own : Option ℕ)
+    → BuiltNuls section nuls block later → 0 < block → at ≡ (block - 1) * block_len
+    → own ≡ option_map (λ n. at + n) (position is_nul (take block_len (drop at section)))
+    → BuiltNuls section (nuls ++ option_or own later ∷ []) (block - 1) (option_or own later)
+nuls-next section nuls block at later own so_far some at_is own_is =
     let place : at ≡ block_len * (block - 1) = omega (arith, at_is) in
     let next : block_len * block ≡ at + block_len = omega (arith, place, some) in
-    let here : option_or near behind ≡ nul_from section (block_len * (block - 1)) =
-    nul-or section at (block_len * block) near behind near_is so_far.behind_is next
+    let here : option_or own later ≡ nul_from section (block_len * (block - 1)) =
+    nul-or section at (block_len * block) own later own_is so_far.later_is next
     ∙ ap (λ (k : ℕ). nul_from section k) place in
     let size : suc (so_far.count - block) ≡ so_far.count - (block - 1) =
     omega (arith, some, so_far.few) in
@@ -156,17 +157,17 @@ nuls-next section nuls block at behind near so_far some at_is near_is =
       all = so_far.all;
       needed = so_far.needed;
       few = omega (arith, so_far.few);
-      behind_is = here;
-      built = reverse-append nuls (option_or near behind ∷ [])
-          ∙ (ap (λ (ns : List (Option ℕ)). option_or near behind ∷ ns)
+      later_is = here;
+      built = reverse-append nuls (option_or own later ∷ [])
+          ∙ (ap (λ (ns : List (Option ℕ)). option_or own later ∷ ns)
           (so_far.built ∙ ap (λ (k : ℕ). nuls_from section k (so_far.count - block)) block_is)
           ∙ (ap (λ (o : Option ℕ). o ∷ nuls_from section (block - 1 + 1) (so_far.count - block))
           here ∙ front));
     }
 
-pub nuls-end : (section : List ℕ) (nuls items : List (Option ℕ)) (block : ℕ) (behind : Option ℕ)
-    → BuiltNuls section nuls block behind → block ≤ 0 → items ≡ reverse nuls → AreNuls section items
-nuls-end section nuls items block behind so_far none items_are =
+pub nuls-end : (section : List ℕ) (nuls items : List (Option ℕ)) (block : ℕ) (later : Option ℕ)
+    → BuiltNuls section nuls block later → block ≤ 0 → items ≡ reverse nuls → AreNuls section items
+nuls-end section nuls items block later so_far none items_are =
     let zero_is : block ≡ 0 = omega (arith, none) in
     let size : so_far.count - block ≡ so_far.count = omega (arith, zero_is) in
     record {

@@ -155,6 +155,6 @@ of-unit s units unit root from end (die ∷ dies) before js made past le rise st
           stmt_list_is = sym stmt_list_is ∙ stmt_list;
           ends =
               omega (arith, end_is, count, few, past);
-          stands = omega (arith, offset_is, at, le);
+          starts = omega (arith, offset_is, at, le);
         })
         (rest (before ++ j ∷ []) js made.1 (omega (arith, size, count, past)))

@@ -110,8 +110,8 @@ entry-there s u index stored header known =
     let table = known.read.table in
     ap (λ (h : UnitHeader). scope_entry_at h.format table (bytes_in s h) stored.offset) known.same
     ∙ (ap (λ (k : ℕ). scope_entry_at u.header.format table (bytes_in s u.header) k) p.offset_is
-    ∙ scope-there s u p.stands.index p.place.member.die p.place.kind known.read p.stands.there
-    p.stands.kind_is)
+    ∙ scope-there s u p.is_place.index p.place.member.die p.place.kind known.read p.is_place.there
+    p.is_place.kind_is)
 
 -- The site of a scope, after the scopes before it.
 pub is-place : (s : Sections) (us : List CompilationUnit) (u : CompilationUnit)
@@ -129,9 +129,9 @@ is-place s us u before numbers index lists left stored header entry so_far found
     let sizes = checked-count (roots_from 0 us) so_far.parsed lists left so_far.are_parsed in
     let dies = has_entries u u.dies index p.place (drop (index + 1) (sites_in u u.dies)) p.rest in
     record {
-      unit_is = found ∙ ap (λ (v : CompilationUnit). Some v) (sym p.stands.unit_is);
+      unit_is = found ∙ ap (λ (v : CompilationUnit). Some v) (sym p.is_place.unit_is);
       root_is = rooted dies.0 dies.1 dies.2 ∙ ap (λ (v : CompilationUnit). stmt_list_of v.dies)
-          (sym p.stands.unit_is);
+          (sym p.is_place.unit_is);
       entry_is = same-ok entry (scope_entry p.place.member.die p.place.kind)
           (sym again ∙ entry-there s u index stored header known);
       descendants_are = descendants_are ∙ p.descendants_are;

@@ -95,7 +95,7 @@ pub record SiteAt (u : CompilationUnit) (i : ℕ) (stored : ScopePlace) : Type 0
   pub rest : drop i (sites_in u u.dies) ≡ place ∷ drop (i + 1) (sites_in u u.dies)
   pub offset_is : stored.offset ≡ place.member.die.offset
   pub descendants_are : stored.inside ≡ place.inside
-  pub stands : IsPlaceIn u u.dies place
+  pub is_place : IsPlaceIn u u.dies place
 
 abbrev no_place : CompilationUnit → ScopeSite
 no_place u = record {
@@ -125,5 +125,5 @@ site-at u places i x stored are within here =
       rest = rw (add-one, drop-cons sites i (no_place u) there) refl;
       offset_is = ap (λ (q : ScopePlace). q.offset) is;
       descendants_are = ap (λ (q : ScopePlace). q.inside) is;
-      stands = sites-each u u.dies i (no_place u) there;
+      is_place = sites-each u u.dies i (no_place u) there;
     }

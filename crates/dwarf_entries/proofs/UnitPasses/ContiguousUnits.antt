@@ -109,11 +109,11 @@ entries-contiguous info headers header table dies read inside h =
     let size : length unit ≡ header.end = let taken = length-take header.end info in
     omega (arith, taken, places.1) in
     list-in info header table dies ((all : List LocatedNode) × FillsUnit info header table all
-    × (filter_map die_of all ≡ dies)) h (λ all after stand same.
+    × (filter_map die_of all ≡ dies)) h (λ all after lists same.
     let end_is : after ≡ header.end = filled header.format table unit [] header.first all after
-    stand (omega (arith, size, places.0)) ∙ size in (
+    lists (omega (arith, size, places.0)) ∙ size in (
       all,
       subst (λ (k : ℕ). Lists (node_at header.format table unit) [] header.first all k) end_is
-          stand,
+          lists,
       same,
     ))

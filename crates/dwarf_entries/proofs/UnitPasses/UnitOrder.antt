@@ -113,15 +113,15 @@ in-order : (s : Sections) (size from : ℕ) (headers : List UnitHeader)
     → each_from (entries_for s.debug_info) before (zip headers tables) ≡ Ok dies
     → each_from (unit_for s) front (zip headers dies) ≡ Ok units → Ordered s from headers dies units
 unfolding each_from
-in-order s size from [] tables before dies front units order stand read made =
+in-order s size from [] tables before dies front units order parsed read made =
     subst (λ (ds : List (List Die)). Ordered s from [] ds units) (same-ok [] dies read)
     (no-units s from front units made)
-in-order s size from (header ∷ headers) [] before dies front units order stand read made =
+in-order s size from (header ∷ headers) [] before dies front units order parsed read made =
     let none : [] ≡ dies = same-ok [] dies read in
     subst (λ (ds : List (List Die)). Ordered s from (header ∷ headers) ds units) none
     (no-units s from front units (subst (λ (ds : List (List Die)). each_from (unit_for s) front
     (zip (header ∷ headers) ds) ≡ Ok units) (sym none) made))
-in-order s size from (header ∷ headers) (table ∷ tables) before dies front units order stand read
+in-order s size from (header ∷ headers) (table ∷ tables) before dies front units order parsed read
     made =
     let P : Type 0 = Ordered s from (header ∷ headers) dies units in
     after-bind (entries_of s.debug_info header table) _ dies read P (λ first first_is h1.
@@ -132,7 +132,7 @@ in-order s size from (header ∷ headers) (table ∷ tables) before dies front u
     (behind first rest first_is (subst (λ (ds : List (List Die)). each_from (unit_for s) front
     (zip (header ∷ headers) ds) ≡ Ok units) (sym all) made)
     (λ front units made. in-order s size header.end headers tables (before ++ first ∷ []) rest front
-    units order.4 stand.1 rest-is made))))
+    units order.4 parsed.1 rest-is made))))
   where
     behind : (first : List Die) (rest : List (List Die)) → entries_of s.debug_info header table
         ≡ Ok first → each_from (unit_for s) front ((header, first) ∷ zip headers rest) ≡ Ok units
@@ -165,7 +165,7 @@ in-order s size from (header ∷ headers) (table ∷ tables) before dies front u
               (
                 record {
                   table = table;
-                  table_is = stand.0;
+                  table_is = parsed.0;
                   again =
                       entries-again s.debug_info header table first first_is;
                 },

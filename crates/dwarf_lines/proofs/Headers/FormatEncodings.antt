@@ -32,17 +32,17 @@ pub each-encoded : {X : Type 0} (encodes : ℕ → List ℕ → X → Type 0)
     ≡ Ok (xs, next)
     → IsEncodedAt (EncodesEach encodes at) bytes at xs next × (length xs ≡ count)
 unfolding repeated_at
-each-encoded {X = X} encodes item bytes zero at xs next stands h =
+each-encoded {X = X} encodes item bytes zero at xs next are_encoded h =
     subst (λ (p : List X × ℕ). IsEncodedAt (EncodesEach encodes at) bytes at p.0 p.1
     × (length p.0 ≡ 0))
     (ok-is {E = Cause} ([], at) (xs, next) h)
     (encoded-of (EncodesEach encodes at) bytes at [] at [] (none-at bytes at) refl, refl)
-each-encoded {X = X} encodes item bytes (suc count) at xs next stands h =
+each-encoded {X = X} encodes item bytes (suc count) at xs next are_encoded h =
     let P : Type 0 = IsEncodedAt (EncodesEach encodes at) bytes at xs next
     × (length xs ≡ suc count) in
     after-bind (item bytes at) _ (xs, next) h P (λ first first_is h1.
     after-bind (repeated_at item count bytes first.1) _ (xs, next) h1 P (λ rest rest-is h2.
-    let every = stands (omega arith) in
+    let every = are_encoded (omega arith) in
     let here = every at first.0 first.1 first_is in
     let others = each-encoded encodes item bytes count first.1 rest.0 rest.1 (λ some. every)
     rest-is in

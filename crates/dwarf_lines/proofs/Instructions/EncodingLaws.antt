@@ -34,8 +34,8 @@ module _ (e : Encoding) (bytes : List ℕ) (at : ℕ) where
   is_read : (j i : Instruction) (after next : ℕ)
       → (let f : Instruction × ℕ → Result (Instruction × ℕ) Cause = λ z. Ok z in
       f (j, after) ≡ f (i, next)) → ReadsAreEncoded j after → ReadsAreEncoded i next
-  is_read j i after next h stands = subst (λ (p : Instruction × ℕ). ReadsAreEncoded p.0 p.1)
-      (ok-is {E = Cause} (j, after) (i, next) h) stands
+  is_read j i after next h is_encoded = subst (λ (p : Instruction × ℕ). ReadsAreEncoded p.0 p.1)
+      (ok-is {E = Cause} (j, after) (i, next) h) is_encoded
 
   module _ (opcode place : ℕ) (first : Stretch bytes at (opcode ∷ []) place) where
     behind : (operand : List ℕ) (next : ℕ) (i : Instruction) → Stretch bytes place operand next

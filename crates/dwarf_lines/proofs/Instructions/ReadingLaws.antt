@@ -74,14 +74,14 @@ module _ (e : Encoding) (bytes : List ℕ) where
           let clean : rest ≡ valid rest.instructions =
           ap (λ (f : Option Cause). record { instructions = rest.instructions; fault = f })
           fault in
-          let stands = instruction_encoded e bytes at i next found in
-          let there = stretch-of (Encodes e) bytes at i next stands in
-          let some = encoded-some e stands.front i stands.encoded in
+          let is_encoded = instruction_encoded e bytes at i next found in
+          let there = stretch-of (Encodes e) bytes at i next is_encoded in
+          let some = encoded-some e is_encoded.front i is_encoded.encoded in
           let last = there.next_is in
           let others = further next rest.instructions (omega (arith, last, some)) clean in
           subst (λ (list : List Instruction). AreEncoded e (drop at bytes) list) same
           (subst (λ (b : List ℕ). AreEncoded e b (i ∷ rest.instructions)) (sym there.parts)
-          (and_then stands.front i stands.encoded others))
+          (and_then is_encoded.front i is_encoded.encoded others))
 
   spelled_read : (steps at : ℕ) (stretch_bytes : List ℕ) (is : List Instruction) → 0 < e.opcode_base
       → AreEncoded e stretch_bytes is

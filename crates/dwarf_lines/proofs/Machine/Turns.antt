@@ -16,7 +16,7 @@ use Rattle.dwarf_lines.specs.Instructions.{Encoding, Reading, onto_reading, no_m
 use Rattle.dwarf_lines.specs.Instructions.{reading_from}
 use Rattle.dwarf_lines.specs.Matrix.{made, rows_from, ending, is_open, latest_first, matrix_after}
 use Rattle.dwarf_lines.specs.Matrix.{matrix_at, with_front}
-use Rattle.dwarf_lines.specs.Private.Registers.{AreRegisters, IsNear, line_reach}
+use Rattle.dwarf_lines.specs.Private.Registers.{AreRegisters, Reaches, line_reach}
 
 -- The invariant of a loop over the instructions of the bytes: the current offset, the instructions
 -- before it, and the remaining number of steps.
@@ -91,11 +91,11 @@ module _ (e : Encoding) (o : Origin) (bytes : List ℕ) (total : Result (List Ro
   pub goes_on : (steps place after : ℕ) (i : Instruction) (old new : Registers)
       (rows row : List Row) → place < length bytes → place < after
       → instruction_at e bytes place ≡ Ok (i, after)
-      → made e o before i ≡ Ok row → AreRegisters e (i ∷ before) new → IsNear old.line new.line i
+      → made e o before i ≡ Ok row → AreRegisters e (i ∷ before) new → Reaches old.line new.line i
       → line_reach i ≤ 2 ^ 62 * (after - place)
       → IsRunning e o bytes total before (suc steps) place old rows
       → IsRunning e o bytes total (i ∷ before) steps after new (rows ++ row)
-  goes_on steps place after i old new rows row lt moves h makes registers near reach run = record {
+  goes_on steps place after i old new rows row lt moves h makes registers within reach run = record {
     registers = registers;
     enough = let enough = run.enough in omega arith;
     outcome = sym (front-front rows row (matrix_after e o (i ∷ before)

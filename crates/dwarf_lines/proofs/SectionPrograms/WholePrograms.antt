@@ -98,15 +98,15 @@ program-encoded s number place program h =
     }) program h2 in
     let read : Reading = reading_of header.encoding (take header.past s.line) header.first in
     let found = matrix-is header.encoding o read rows rows_is in
-    let stands = header_encoded s place header header_is in
-    let inside = first-inside s place header stands.front stands.encoded in
+    let is_encoded = header_encoded s place header header_is in
+    let inside = first-inside s place header is_encoded.front is_encoded.encoded in
     let places = header_at-past s place header header_is in
     let size = length-take header.past s.line in
     let made : rows ≡ program.rows = ap (λ (p : Program). p.rows) same in
     record {
       header = header;
       instructions = read.instructions;
-      header_is = stands;
+      header_is = is_encoded;
       instructions_are = reading_is_encoded header.encoding (take header.past s.line) header.first
           read.instructions (omega (arith, inside.0, places.1, size)) found.0;
       rows_are = sym (rows-by-machine header.encoding o read.instructions) ∙ found.1

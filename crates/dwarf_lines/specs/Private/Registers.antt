@@ -62,8 +62,8 @@ line_reach (AdvanceLine change) = unsigned_abs change
 line_reach _ = 0
 
 -- a bound on the change of the line register by a special opcode or an operand
-abbrev pub IsNear : ℤ → ℤ → Instruction → Type 0
-IsNear old new i = unsigned_abs new ≤ 2 ^ 10 + unsigned_abs old + line_reach i
+abbrev pub Reaches : ℤ → ℤ → Instruction → Type 0
+Reaches old new i = unsigned_abs new ≤ 2 ^ 10 + unsigned_abs old + line_reach i
 
 -- The rows of the outcome were appended, or the fault is that of the outcome, unless memory ran
 -- out.

@@ -89,7 +89,7 @@ with_table k table =
 pub record AreCached (section : List ℕ) (tables : List Table) (permanent budget : ℕ)
     (numbers : Numbers)
     : Type 0 where
-  pub stand : All (IsParsedFrom section) tables
+  pub parsed : All (IsParsedFrom section) tables
   pub found : (i : ℕ) (table : Table) → slice_get tables i ≡ Some table
       → number_at numbers table.format table.offset ≡ Some i
   pub counted : budget + sum_by table_size (take permanent tables) ≡ size_limit section
@@ -117,7 +117,7 @@ pub record AreStored (lists : LinkedPlaces) (store : TableStore) : Type 0 where
 -- offset.
 pub record IsNew (lists : LinkedPlaces) (store : TableStore) (table : SharedTable) : Type 0 where
   pub readable : IsReadable lists table
-  pub stands : IsParsedFrom lists.places.section (full_table lists.places.memoized table)
+  pub parsed : IsParsedFrom lists.places.section (full_table lists.places.memoized table)
   pub fresh : AreElsewhere table.format table.offset
       (full_tables lists.places.memoized store.tables.items)
 

@@ -16,21 +16,21 @@ put_all-requires-clause-lengths c =
     ap length c.deref-2.ensures.value ∙ (stretch-lengths c.args.lists.now c.args.cursor.now.place
     c.next_stretch.new.cursor.place read c.in_ok-attributes.ensures.0 ∙ ap length (sym behind))
 
-pub put_all-requires-clause-stand : goal.put_all-requires-clause-stand
-put_all-requires-clause-stand c =
+pub put_all-requires-clause-read_at : goal.put_all-requires-clause-read_at
+put_all-requires-clause-read_at c =
     let read = c.in_ok-attributes.field-0 in
     let section = c.args.lists.now.section in
     let rest = rest_attributes c.args.lists.now.memoized read.rest in
     let behind : c.split_at.result.1.now ≡ drop 64 read.attributes.items =
     c.split_at.ensures.back ∙ ap (drop 64) c.deref.ensures.value in
-    let stand = stretch-read c.args.lists.now c.args.cursor.now.place
+    let read_at = stretch-read c.args.lists.now c.args.cursor.now.place
     c.next_stretch.new.cursor.place read c.in_ok-attributes.ensures.0 in
     subst (λ (after : ℕ). AreReadAt section c.deref-2.result.now c.split_at.result.1.now rest after)
     (sym c.place.ensures.place)
     (subst (λ (xs : List AttributeSpecification). AreReadAt section c.deref-2.result.now xs rest
     c.next_stretch.new.cursor.place) (sym behind)
     (subst (λ (ps : List ℕ). AreReadAt section ps (drop 64 read.attributes.items) rest
-    c.next_stretch.new.cursor.place) (sym c.deref-2.ensures.value) stand))
+    c.next_stretch.new.cursor.place) (sym c.deref-2.ensures.value) read_at))
 
 pub returns-clause-reads : goal.returns-clause-reads
 returns-clause-reads c =

@@ -66,7 +66,7 @@ loop-cursor-preserved-in-Continue-branch-4 c =
           goes_on _ _ _ _ c.loop-cursor.invariant.1.0 l.0 c.loop-cursor.cursor.place
               c.decode.new.cursor.place c.in_ok-instruction.instruction c.loop-cursor.registers
               c.step.new.self c.loop-cursor.rows.items (c.in-Some.row ∷ [])
-              lt c.in_ok-instruction.ensures.moves read.0 makes.0 makes.1 c.in_ok-row.ensures.near
+              lt c.in_ok-instruction.ensures.moves read.0 makes.0 makes.1 c.in_ok-row.ensures.line
               c.in_ok-instruction.ensures.reach l.1,
         ),
       ),
@@ -88,7 +88,7 @@ loop-cursor-preserved c =
           rw append-nil at (goes_on _ _ _ _ c.loop-cursor.invariant.1.0 l.0
               c.loop-cursor.cursor.place c.decode.new.cursor.place c.in_ok-instruction.instruction
               c.loop-cursor.registers c.step.new.self c.loop-cursor.rows.items []
-              lt c.in_ok-instruction.ensures.moves read.0 makes.0 makes.1 c.in_ok-row.ensures.near
+              lt c.in_ok-instruction.ensures.moves read.0 makes.0 makes.1 c.in_ok-row.ensures.line
               c.in_ok-instruction.ensures.reach l.1),
         ),
       ),

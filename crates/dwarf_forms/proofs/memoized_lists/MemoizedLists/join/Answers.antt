@@ -16,7 +16,7 @@ returns-then-has_any c =
     let first = c.index-first.result.now in
     let j = may-follow c.self.inside.section.now c.self.inside.memoized.items c.self.inside.places
     c.self.inside.names c.args.self.now c.args.number c.args.cursor.now.place first bytes
-    c.self.invariant c.self.view_is c.index-first.ensures c.requires.stands c.requires.bytes in
+    c.self.invariant c.self.view_is c.index-first.ensures c.requires.memoized c.requires.bytes in
     let shared : shares_name c.args.own.now rest ≡ true =
     sym (j.share c.args.own.now) ∙ (sym c.has_any.ensures ∙ c.if-has_any.true) in
     append-err bytes c.args.own.now c.args.cursor.now.place rest first.after causes.AttrTwice j.read
@@ -29,7 +29,7 @@ returns-in_err-seek c =
     let first = c.index-first.result.now in
     let j = may-follow c.self.inside.section.now c.self.inside.memoized.items c.self.inside.places
     c.self.inside.names c.args.self.now c.args.number c.args.cursor.now.place first bytes
-    c.self.invariant c.self.view_is c.index-first.ensures c.requires.stands c.requires.bytes in
+    c.self.invariant c.self.view_is c.index-first.ensures c.requires.memoized c.requires.bytes in
     let moved = attributes_at-moves bytes c.args.cursor.now.place (rest, first.after) j.read in
     absurd (false≢true (c.in_err-seek.ensures.within.1 moved.1))
 
@@ -40,7 +40,7 @@ returns c =
     let first = c.index-first.result.now in
     let j = may-follow c.self.inside.section.now c.self.inside.memoized.items c.self.inside.places
     c.self.inside.names c.args.self.now c.args.number c.args.cursor.now.place first bytes
-    c.self.invariant c.self.view_is c.index-first.ensures c.requires.stands c.requires.bytes in
+    c.self.invariant c.self.view_is c.index-first.ensures c.requires.memoized c.requires.bytes in
     let apart : shares_name c.args.own.now rest ≡ false =
     sym (j.share c.args.own.now) ∙ (sym c.has_any.ensures ∙ c.if-has_any.false) in (
       rw (ap (λ (p : Position). p.place) c.in_ok-seek.ensures.ok)

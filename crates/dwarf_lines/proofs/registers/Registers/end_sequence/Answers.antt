@@ -15,5 +15,5 @@ returns-clause-made c = λ e before r. (
   starts-again e before c.at_start.result (c.at_start.ensures.registers e),
 )
 
-pub returns-clause-near : goal.returns-clause-near
-returns-clause-near c = rw c.at_start.ensures.line (omega arith)
+pub returns-clause-line : goal.returns-clause-line
+returns-clause-line c = rw c.at_start.ensures.line (omega arith)

@@ -5,7 +5,7 @@ use Rattle.dwarf_lines.specs.declared.instruction.Instruction.TheVariants.{Speci
 use Rattle.dwarf_lines.specs.declared.registers.Registers.{Registers}
 use Rattle.dwarf_lines.specs.Instructions.{encoding}
 use Rattle.dwarf_lines.specs.Matrix.{line_change}
-use Rattle.dwarf_lines.specs.Private.Registers.{IsNear}
+use Rattle.dwarf_lines.specs.Private.Registers.{Reaches}
 use Rattle.dwarf_lines.proofs.Machine.StepKinds.{moves-by, where-ok, row_step, special-sums}
 use Rattle.dwarf_lines.proofs.registers.Registers.special.Goals as goal
 
@@ -22,13 +22,13 @@ returns-clause-made c = λ before r.
     s.2 (λ kept. s.3 ∙ r.previous kept) s.4 c.make_row.result c.make_row.new.self
     c.make_row.ensures.row
 
-pub returns-clause-near : goal.returns-clause-near
-returns-clause-near c =
+pub returns-clause-line : goal.returns-clause-line
+returns-clause-line c =
     let line : c.make_row.new.self.line ≡ c.args.self.now.line +ℤ c.special_line.result =
     c.make_row.ensures.line ∙ ap (λ (r : Registers). r.line)
     (moves-by c.advance.new.self c.move_line.new.self c.special_line.result
     c.special_line.result (record { sfits = c.special_line.type_inv }) refl c.move_line.ensures)
     ∙ ap (λ (r : Registers). r.line +ℤ c.special_line.result) c.advance.ensures.rest in
     let small = c.special_line.ensures.small in
-    where-ok c.make_row.result (IsNear c.args.self.now.line c.make_row.new.self.line
+    where-ok c.make_row.result (Reaches c.args.self.now.line c.make_row.new.self.line
     (Special c.args.adjusted)) (rw line (omega (arith, ints)))

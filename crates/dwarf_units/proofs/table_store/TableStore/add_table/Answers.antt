@@ -40,7 +40,7 @@ returns-then-size-self-clause-stored c = λ lists stored new.
           (full_tables lists.places.memoized store.tables.items)
           (full_tables lists.places.memoized after) store.permanent store.budget c.len-self.result
           c.size-size.result store.numbers c.insert.new.self
-          (full_table lists.places.memoized c.args.table) new.fresh sets new.stands
+          (full_table lists.places.memoized c.args.table) new.fresh sets new.parsed
           (resolved-more lists.places.memoized store.tables.items after store.permanent c.args.table
           c.in_ok-number.ensures.ok.0)
           (c.size-size.ensures ∙ own_size-is lists.places.memoized c.args.table
@@ -65,7 +65,7 @@ returns-else-size-self-clause-stored c = λ lists stored new.
           (full_tables lists.places.memoized store.tables.items)
           (full_tables lists.places.memoized after) store.permanent store.budget c.size-size.result
           store.numbers c.insert.new.self (full_table lists.places.memoized c.args.table) new.fresh
-          sets new.stands
+          sets new.parsed
           (resolved-more lists.places.memoized store.tables.items after store.permanent c.args.table
           c.in_ok-number.ensures.ok.0)
           (c.size-size.ensures ∙ own_size-is lists.places.memoized c.args.table

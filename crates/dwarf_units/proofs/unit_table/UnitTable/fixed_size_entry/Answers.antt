@@ -55,8 +55,8 @@ returns-clause-found c =
     (sym same ∙ sym c.in_ok-head.ensures)
     (ap (λ (b : Bool). cond b None (Some (head, c.args.place + 1 + head.len))) fits))
 
-pub returns-clause-stands : goal.returns-clause-stands
-returns-clause-stands c =
+pub returns-clause-node : goal.returns-clause-node
+returns-clause-node c =
     let code = c.in_ok-code.field-0.now in
     let head = c.in_ok-head.head in
     let byte : slice_get c.args.bytes.now c.args.place ≡ Some code =
