@@ -20,24 +20,25 @@ files_at lines stmt_list =
     option_map_or (file_count lines) (option_and_then (program_at lines) stmt_list) 0
 
 -- whether the stmt_list of a root is not the start of a program
-unfoldable pub is_bad_root : Lines → Root → Bool
-is_bad_root lines root =
+unfoldable pub is_invalid_root : Lines → Root → Bool
+is_invalid_root lines root =
     option_map_or (λ start. is_none (program_at lines start)) root.stmt_list false
 
 -- whether a call file is not a file of the program at a stmt_list
-abbrev pub is_bad_call : Lines → Option ℕ → Option ℕ → Bool
-is_bad_call lines call_file stmt_list =
+abbrev pub is_invalid_call : Lines → Option ℕ → Option ℕ → Bool
+is_invalid_call lines call_file stmt_list =
     option_map_or (λ file. not (nat_lt file (files_at lines stmt_list))) call_file false
 
 -- whether a scope is an inlined subroutine with an invalid call file
-unfoldable pub is_bad_scope : Lines → Scope → Bool
-is_bad_scope lines s = is_kind Inlined s.kind && is_bad_call lines s.call_file s.stmt_list
+unfoldable pub is_invalid_scope : Lines → Scope → Bool
+is_invalid_scope lines s = is_kind Inlined s.kind && is_invalid_call lines s.call_file s.stmt_list
 
 abbrev pub check_root : Lines → Root → Result (Unit {0}) At
-check_root lines root = with_offset root.offset (refuse_if (is_bad_root lines root) causes.StmtList)
+check_root lines root =
+    with_offset root.offset (refuse_if (is_invalid_root lines root) causes.StmtList)
 
 abbrev pub check_scope : Lines → Scope → Result (Unit {0}) At
-check_scope lines s = with_offset s.offset (refuse_if (is_bad_scope lines s) causes.CallFile)
+check_scope lines s = with_offset s.offset (refuse_if (is_invalid_scope lines s) causes.CallFile)
 
 -- checks a root, and then each scope of its unit
 abbrev pub check_unit : Lines → List Scope → Root → Result (List (Unit {0})) At

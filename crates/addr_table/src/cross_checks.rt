@@ -4,7 +4,8 @@ ghost use Rattle.std.specs.Prelude.{◌≡◌, ◌≤◌, ◌<◌, slice_range, 
 ghost use Rattle.dwarf_bytes.specs.Items.{each};
 ghost use Rattle.dwarf_entries.specs.Scopes.{Scope as ScopeSeen};
 ghost use Rattle.dwarf_entries.specs.Order.{AreInOrder, HasDataOf};
-ghost use Rattle.addr_table.specs.CrossChecks.{files_at, is_bad_root, is_bad_call, is_bad_scope};
+ghost use Rattle.addr_table.specs.CrossChecks.{files_at, is_invalid_root, is_invalid_call};
+ghost use Rattle.addr_table.specs.CrossChecks.{is_invalid_scope};
 ghost use Rattle.addr_table.specs.CrossChecks.{check_scope, check_unit, cross_checks_of, RefusesAs};
 
 use crate::scopes::{count, scope_at};
@@ -27,9 +28,9 @@ fn files_at(lines: &LineTables, stmt_list: Option<u64>) -> u64
 }
 
 /// Returns whether the `stmt_list` of a root is not the start of a line program.
-#[tactic(auto, unfolding(crate::specs::CrossChecks::is_bad_root))]
-fn is_bad_root(lines: &LineTables, root: &Root) -> bool
-    ensures { result ≡ is_bad_root lines.now root.now }
+#[tactic(auto, unfolding(crate::specs::CrossChecks::is_invalid_root))]
+fn is_invalid_root(lines: &LineTables, root: &Root) -> bool
+    ensures { result ≡ is_invalid_root lines.now root.now }
 {
     match root.stmt_list {
         Some(start) => lines.program_at(start).is_none(),
@@ -38,8 +39,8 @@ fn is_bad_root(lines: &LineTables, root: &Root) -> bool
 }
 
 /// Returns whether `call_file` is not a file of the line program at `stmt_list`.
-fn is_bad_call(lines: &LineTables, call_file: Option<u64>, stmt_list: Option<u64>) -> bool
-    ensures { result ≡ is_bad_call lines.now call_file stmt_list }
+fn is_invalid_call(lines: &LineTables, call_file: Option<u64>, stmt_list: Option<u64>) -> bool
+    ensures { result ≡ is_invalid_call lines.now call_file stmt_list }
 {
     match call_file {
         Some(file) => file >= files_at(lines, stmt_list),
@@ -48,13 +49,17 @@ fn is_bad_call(lines: &LineTables, call_file: Option<u64>, stmt_list: Option<u64
 }
 
 /// Returns whether a scope is an inlined subroutine with an invalid call file.
-fn is_bad_scope(lines: &LineTables, scopes: &Scopes, scope: &Scope) -> bool
+fn is_invalid_scope(lines: &LineTables, scopes: &Scopes, scope: &Scope) -> bool
     ensures { (s : ScopeSeen) → HasDataOf scopes.now.scopes scope.now s →
-        result ≡ is_bad_scope lines.now s }
+        result ≡ is_invalid_scope lines.now s }
 {
     match scope.kind() {
         ScopeKind::Subprogram => false,
-        ScopeKind::Inlined => is_bad_call(lines, scope.call_file(scopes), scope.stmt_list(scopes)),
+        ScopeKind::Inlined => is_invalid_call(
+            lines,
+            scope.call_file(scopes),
+            scope.stmt_list(scopes),
+        ),
     }
 }
 
@@ -71,7 +76,7 @@ fn check_scopes(
 {
     for number in first..past.min(count(scopes)) {
         let scope = scope_at(scopes, number);
-        if is_bad_scope(lines, scopes, scope) {
+        if is_invalid_scope(lines, scopes, scope) {
             let at = scope.offset() as u64;
             return Err(LoadFault::at_item(Section::DebugInfo, Cause::CallFile, at));
         }
@@ -84,7 +89,7 @@ fn check_unit(lines: &LineTables, scopes: &Scopes, root: &Root) -> Result<(), Lo
     requires { AreInOrder scopes.now.scopes }
     ensures { RefusesAs result (check_unit lines.now scopes.now.scopes root.now) }
 {
-    if is_bad_root(lines, root) {
+    if is_invalid_root(lines, root) {
         let at = root.offset as u64;
         return Err(LoadFault::at_item(Section::DebugInfo, Cause::StmtList, at));
     }

@@ -7,7 +7,7 @@ use Rattle.command_line.specs.CommandLine.{our_app}
 use Rattle.command_line.specs.Settings.{words_of, numbers_of}
 use Rattle.command_line.specs.Settings.{settings_of, settings_with}
 use Rattle.command_line.specs.Refusals.{IsAccepted, IsRefused}
-use Rattle.command_line.specs.Private.Parsing.{IsBadWord, IsFaultOf, texts_of}
+use Rattle.command_line.specs.Private.Parsing.{IsInvalidArgument, IsFaultOf, texts_of}
 use Rattle.std.specs.Prelude.{option_map, map, []}
 use Rattle.std.specs.Option.{option_map_or}
 use Rattle.std.specs.Borrow.{Bor}
@@ -26,7 +26,7 @@ module _ (words : List (List ℕ)) (rows : List Row) (are : rows ≡ matches_of 
 
 -- an address is invalid
 pub word-refused : (words : List (List ℕ)) (rows : List Row) (outcome : Result (List ℕ) (List ℕ))
-    (fault : CliFault) → IsBadWord outcome fault → IsAccepted words
+    (fault : CliFault) → IsInvalidArgument outcome fault → IsAccepted words
     → settings_of (matches_of our_app words) ≡ settings_with rows outcome → IsRefused words fault
 word-refused words rows outcome (Usage e) bad accepted is = absurd bad
 word-refused words rows outcome (Address w) bad accepted is =

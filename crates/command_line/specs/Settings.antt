@@ -37,7 +37,7 @@ words_of rows = option_map_or (λ texts. texts) (all_of (codes "words") rows) []
 abbrev pub number_then : List ℕ → Option ℕ → Result (List ℕ) (List ℕ) → Result (List ℕ) (List ℕ)
 number_then word None rest = Err word
 number_then word (Some n) (Ok ns) = Ok (n ∷ ns)
-number_then word (Some n) (Err bad) = Err bad
+number_then word (Some n) (Err fault) = Err fault
 
 -- the numbers of all arguments, or the first argument that is not a number
 abbrev pub numbers_of : List (List ℕ) → Result (List ℕ) (List ℕ)

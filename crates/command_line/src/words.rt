@@ -2,7 +2,7 @@
 
 ghost use Rattle.std.specs.Prelude.{◌≡◌, map, Ok, MatchResult};
 ghost use Rattle.command_line.specs.Settings.{numbers_of};
-ghost use Rattle.command_line.specs.Private.Parsing.{IsBadWord, texts_of};
+ghost use Rattle.command_line.specs.Private.Parsing.{IsInvalidArgument, texts_of};
 
 use crate::faults::CliFault;
 use crate::numbers::parse_number;
@@ -12,7 +12,7 @@ use std::alloc::Global;
 fn numbers<'a>(alloc: Global, words: &[&'a str]) -> Result<Vec<u64>, CliFault<'a>>
     ensures { MatchResult result
         (λ numbers. numbers_of (map (λ w. w.now) words.now) ≡ Ok numbers.items)
-        (IsBadWord (numbers_of (map (λ w. w.now) words.now))) }
+        (IsInvalidArgument (numbers_of (map (λ w. w.now) words.now))) }
 {
     let mut numbers = Vec::new(alloc);
     for word in words {
@@ -27,7 +27,7 @@ fn numbers<'a>(alloc: Global, words: &[&'a str]) -> Result<Vec<u64>, CliFault<'a
 /// Parses the positional arguments as addresses, if there are any.
 pub fn addresses<'a>(alloc: Global, words: Option<&[&'a str]>) -> Result<Vec<u64>, CliFault<'a>>
     ensures { MatchResult result (λ numbers. numbers_of (texts_of words.entry) ≡ Ok numbers.items)
-        (IsBadWord (numbers_of (texts_of words.entry))) }
+        (IsInvalidArgument (numbers_of (texts_of words.entry))) }
 {
     match words {
         Some(words) => numbers(alloc, words),

@@ -68,7 +68,7 @@ pub world-then : (rs ss : Requests) (world : World) (os os' : List Outcome)
     → world_after world (rs ++ ss) (os ++ os') ≡ world_after (world_after world rs os) ss os'
 world-then [] ss world [] os' e = refl
 world-then [] ss world (o ∷ os) os' e = absurd (omega arith)
-world-then (Err bad ∷ rs) ss world os os' e = world-then rs ss _ os os' e
+world-then (Err fault ∷ rs) ss world os os' e = world-then rs ss _ os os' e
 world-then (Ok (Ask a) ∷ rs) ss world os os' e = world-then rs ss _ os os' e
 world-then (Ok ListAll ∷ rs) ss world os os' e = world-then rs ss _ os os' e
 world-then (Ok (Unload n) ∷ rs) ss world os os' e = world-then rs ss _ os os' e
@@ -86,9 +86,9 @@ pub replies-then : (options : Options) (rs ss : Requests) (world : World) (os os
     ++ replies options (world_after world rs os) ss os'
 replies-then options [] ss world [] os' e = refl
 replies-then options [] ss world (o ∷ os) os' e = absurd (omega arith)
-replies-then options (Err bad ∷ rs) ss world os os' e =
-    let next : World = (step world (Err bad) os).world in
-    push-text (text options (step world (Err bad) os).reply) (replies options next rs os)
+replies-then options (Err fault ∷ rs) ss world os os' e =
+    let next : World = (step world (Err fault) os).world in
+    push-text (text options (step world (Err fault) os).reply) (replies options next rs os)
     (replies options (world_after next rs os) ss os') _ (replies-then options rs ss next os os' e)
 replies-then options (Ok (Ask a) ∷ rs) ss world os os' e =
     let next : World = (step world (Ok (Ask a)) os).world in

@@ -16,4 +16,4 @@ request_of (command.Ask address) = Ask address
 -- the request of a parsed line, or the reason why there is none
 abbrev pub parse_result : Result Command BadLine → Result Request BadLine
 parse_result (Ok c) = Ok (request_of c)
-parse_result (Err bad) = Err bad
+parse_result (Err fault) = Err fault

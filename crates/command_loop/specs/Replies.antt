@@ -79,7 +79,7 @@ move_step world name m base = moved_step world name (move_fault m world base) m 
 
 -- a load takes the first remaining outcome
 abbrev pub step : World → Result Request BadLine → List Outcome → Stepped
-step world (Err bad) outcomes = record { reply = Unreadable bad; world = world }
+step world (Err fault) outcomes = record { reply = Unreadable fault; world = world }
 step world (Ok (Ask address)) outcomes =
     record { reply = Answered (answer_at world address); world = world }
 step world (Ok ListAll) outcomes =

@@ -56,7 +56,7 @@ list_text modules = flat_map module_text modules ++ codes "end\n"
 
 -- the bytes of a reply; each of its lines ends with a line feed
 unfoldable pub text : Options → Reply → List ℕ
-text options (Unreadable bad) = refusal_text (line_word bad)
+text options (Unreadable fault) = refusal_text (line_word fault)
 text options (NotFetched fault) = refusal_text (fetch_word fault)
 text options (Refused fault overlap) = refusal_text (map_words fault overlap)
 text options (LoadedAt name low high) = extent_text (codes "loaded ") name low high

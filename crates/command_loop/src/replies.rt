@@ -185,7 +185,7 @@ pub fn write_reply<W: Sink>(
     ensures failures { W.failures writer.new ≡ failures_after (W.failures writer.old) result }
 {
     match done {
-        Done::Unreadable(bad) => write_refusal(bad.word(), writer),
+        Done::Unreadable(fault) => write_refusal(fault.word(), writer),
         Done::NotFetched(fault) => write_refusal(fault.word(), writer),
         Done::Refused(fault) => write_map_refusal(modules, *fault, writer),
         Done::LoadedAt(name, extent) => write_extent(b"loaded ", name, extent, writer),

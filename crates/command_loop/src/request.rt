@@ -88,7 +88,7 @@ fn act<'a, O: Objects>(
         (O.asked source.old) (O.asked source.new) result }
 {
     let command = match request {
-        Err(bad) => return Done::Unreadable(bad),
+        Err(fault) => return Done::Unreadable(fault),
         Ok(command) => command,
     };
     match command {

@@ -75,9 +75,9 @@ Gives view (Err cause) outcome = Fails cause outcome
 
 -- A validation pass, which stores nothing, fails if and only if the outcome does, with the same
 -- fault, unless memory ran out.
-abbrev pub Judges : {Y : Type 0} → Result (Unit {0}) LoadFault → Result Y LoadFault → Type 0
-Judges {Y} (Ok u) outcome = (y : Y) × (outcome ≡ Ok y)
-Judges (Err fault) outcome = (fault ≡ memory_fault) ⊎ (outcome ≡ Err fault)
+abbrev pub Validates : {Y : Type 0} → Result (Unit {0}) LoadFault → Result Y LoadFault → Type 0
+Validates {Y} (Ok u) outcome = (y : Y) × (outcome ≡ Ok y)
+Validates (Err fault) outcome = (fault ≡ memory_fault) ⊎ (outcome ≡ Err fault)
 
 -- The value that a step builds, converted by view, is `whole`, unless memory ran out.
 abbrev pub Builds : {X Y : Type 0} → (X → Y) → Result X LoadFault → Y → Type 0

@@ -5,7 +5,8 @@ ghost use Rattle.std.specs.Prelude.{IfOk, IsTrue, false};
 ghost use Rattle.dwarf_bytes.specs.Faults.{first_failure};
 ghost use Rattle.dwarf_bytes.specs.Headers.{file_header};
 ghost use Rattle.dwarf_bytes.specs.Elf.{is_not_elf, is_other_class, is_other_type};
-ghost use Rattle.dwarf_bytes.specs.Elf.{is_bad_segment_table, is_bad_section_table, header_tests};
+ghost use Rattle.dwarf_bytes.specs.Elf.{is_invalid_segment_table, is_invalid_section_table};
+ghost use Rattle.dwarf_bytes.specs.Elf.{header_tests};
 
 use crate::fault::Cause;
 use crate::fields::byte_at;
@@ -25,7 +26,7 @@ pub(crate) fn checked_header(bytes: &[u8]) -> Result<FileHeader, Cause>
         (λ header. (first_failure (header_tests bytes.now) ≡ None)
         × (header ≡ file_header bytes.now))
         (λ cause. first_failure (header_tests bytes.now) ≡ Some cause) }
-    ensures sections { IfOk result (λ header. is_bad_section_table bytes.now header ≡ false) }
+    ensures sections { IfOk result (λ header. is_invalid_section_table bytes.now header ≡ false) }
     ensures segments { IfOk result (λ header. 0 < header.phnum →
         header.phoff + 56 * header.phnum ≤ length bytes.now) }
 {
@@ -42,10 +43,10 @@ pub(crate) fn checked_header(bytes: &[u8]) -> Result<FileHeader, Cause>
     if is_other_type(&header) {
         return Err(Cause::FileType);
     }
-    if is_bad_segment_table(bytes, &header) {
+    if is_invalid_segment_table(bytes, &header) {
         return Err(Cause::Table);
     }
-    if is_bad_section_table(bytes, &header) {
+    if is_invalid_section_table(bytes, &header) {
         return Err(Cause::Table);
     }
     Ok(header)
@@ -71,16 +72,16 @@ fn is_other_type(header: &FileHeader) -> bool
     header.e_type != ET_EXEC && header.e_type != ET_DYN
 }
 
-fn is_bad_segment_table(bytes: &[u8], header: &FileHeader) -> bool
-    ensures { result ≡ is_bad_segment_table bytes.now header.now }
+fn is_invalid_segment_table(bytes: &[u8], header: &FileHeader) -> bool
+    ensures { result ≡ is_invalid_segment_table bytes.now header.now }
 {
     let size = 56 * u64::from(header.phnum);
     header.phnum == PN_XNUM
         || (header.phnum > 0 && (header.phentsize != 56 || is_outside(bytes, header.phoff, size)))
 }
 
-fn is_bad_section_table(bytes: &[u8], header: &FileHeader) -> bool
-    ensures { result ≡ is_bad_section_table bytes.now header.now }
+fn is_invalid_section_table(bytes: &[u8], header: &FileHeader) -> bool
+    ensures { result ≡ is_invalid_section_table bytes.now header.now }
 {
     let size = 64 * u64::from(header.shnum);
     (header.shnum != 0 || header.shoff != 0)

@@ -4,7 +4,8 @@ ghost use Rattle.std.specs.Prelude.{◌≡◌, ◌≤◌, ◌<◌, ◌+◌, ◌*
 ghost use Rattle.std.specs.Prelude.{false, Ok, Err};
 ghost use Rattle.dwarf_bytes.specs.Faults.{first_failure, item_fault, first_fault};
 ghost use Rattle.dwarf_bytes.specs.Headers.{file_header};
-ghost use Rattle.dwarf_bytes.specs.Elf.{is_bad_section_table, section_header, names, names_item};
+ghost use Rattle.dwarf_bytes.specs.Elf.{is_invalid_section_table, section_header, names};
+ghost use Rattle.dwarf_bytes.specs.Elf.{names_item};
 ghost use Rattle.dwarf_bytes.specs.Elf.{section_item, load_items, section_items, elf_fault, layout};
 ghost use Rattle.dwarf_bytes.specs.Elf.{low, high, AreInside};
 ghost use Rattle.dwarf_bytes.specs.declared.fault.Section.TheVariants as sections;
@@ -203,7 +204,7 @@ fn with_section(
 /// Finds the spans of the wanted sections. Returns the fault of the first invalid header.
 fn sections(bytes: &[u8], header: &FileHeader) -> Result<[Option<Span>; 8], LoadFault>
     requires header { header.now ≡ file_header bytes.now }
-    requires sound { is_bad_section_table bytes.now header.now ≡ false }
+    requires sound { is_invalid_section_table bytes.now header.now ≡ false }
     ensures { MatchResult result (λ found.
         (first_fault sections.Elf (section_items bytes.now) ≡ None)
         × (found ≡ spans_before bytes.now header.now.shnum))

@@ -40,12 +40,12 @@ fn forms_of_attributes(rt: HostRuntime) {
         (&[0x3a, 0x0a], &[9, 0], Cause::Short),
     ];
     for (declared, values, cause) in refused {
-        is_bad_scope(&rt, (declared, values), cause);
+        is_invalid_scope(&rt, (declared, values), cause);
     }
 }
 
 /// Checks that a subprogram at offset 13 with these attributes is refused.
-fn is_bad_scope(rt: &(impl Abort + AllocGlobal), attributes: Attributes<'_>, cause: Cause) {
+fn is_invalid_scope(rt: &(impl Abort + AllocGlobal), attributes: Attributes<'_>, cause: Cause) {
     let object = OneScope::new(rt, (&[], &[]), attributes);
     is_refused(rt, &object.sections(), cause, 13);
 }

@@ -105,12 +105,12 @@ fn low_pc_of_no_address(rt: HostRuntime) {
         (&[0x11, 0x29], &[0], Cause::Base),
     ];
     for (declared, values, cause) in indexed {
-        is_bad_root(&rt, (declared, values), cause);
+        is_invalid_root(&rt, (declared, values), cause);
     }
 }
 
 /// Checks that a root at offset 12 with these attributes is refused.
-fn is_bad_root(rt: &(impl Abort + AllocGlobal), root: Attributes<'_>, cause: Cause) {
+fn is_invalid_root(rt: &(impl Abort + AllocGlobal), root: Attributes<'_>, cause: Cause) {
     let object = OneScope::new(rt, root, (&[], &[]));
     let all = Sections {
         debug_addr: &ADDRESSES,

@@ -21,13 +21,13 @@ const DROPPED: [u8; 8] = [0xff; 8];
 /// A subprogram with low_pc and high_pc.
 const PAIR: [u8; 10] = [3, 0xff, 0xff, 0xff, 0xff, 0xff, 0xff, 0xff, 0xff, 1];
 
-/// Builds a unit with this low_pc and `count` subprograms, followed by the entries `behind`. The
+/// Builds a unit with this low_pc and `count` subprograms, followed by the entries `later`. The
 /// first subprogram is at offset 21. Each has five bytes and refers to the list at offset 0.
 fn listed_scopes(
     rt: &(impl Abort + AllocGlobal),
     low_pc: &[u8; 8],
     count: usize,
-    behind: &[u8],
+    later: &[u8],
 ) -> Vec<u8> {
     let mut entries = Vec::new(rt.alloc());
     put(rt, &mut entries, &[1]);
@@ -35,7 +35,7 @@ fn listed_scopes(
     for _ in 0..count {
         put(rt, &mut entries, &[2, 0, 0, 0, 0]);
     }
-    put(rt, &mut entries, behind);
+    put(rt, &mut entries, later);
     put(rt, &mut entries, &[0]);
     unit(rt, &entries)
 }
@@ -56,11 +56,11 @@ fn has_too_many(
     rt: &(impl Abort + AllocGlobal),
     low_pc: &[u8; 8],
     count: usize,
-    behind: &[u8],
+    later: &[u8],
     cause: Option<Cause>,
 ) {
     let lists = empty_pairs(rt, 65_536);
-    let info = listed_scopes(rt, low_pc, count, behind);
+    let info = listed_scopes(rt, low_pc, count, later);
     let all = Sections {
         debug_rnglists: &lists,
         ..sections(&info, &TABLE)

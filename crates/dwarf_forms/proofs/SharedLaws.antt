@@ -28,14 +28,14 @@ pub stretch-is : (lists : MemoizedAttributes) (bytes : List ℕ) (first after : 
     → IsMemoized lists.memoized stretch.rest → IfSome stretch.rest
     (λ _. UNSHARED ≤ length stretch.attributes.items)
     → All (IsNotMemoized lists.memoized) stretch.places.items → IsStretch lists first stretch after
-stretch-is lists bytes first after stretch same read places rest behind unknown = record {
+stretch-is lists bytes first after stretch same read places rest full unknown = record {
   read = subst (λ (b : List ℕ). attributes_at b first
       ≡ Ok (stretch.attributes.items ++ rest_attributes lists.memoized stretch.rest, after))
       same read;
   places = subst (λ (b : List ℕ). stretch.places.items
       ≡ drop UNSHARED (places_from b first (length stretch.attributes.items))) same places;
   rest = rest;
-  behind = behind;
+  full = full;
   unknown = unknown;
 }
 

@@ -152,8 +152,8 @@ impl<'a> MemoizedLists<'a> {
         ensures section { self.new.section ≡ self.old.section }
     {
         let number = self.memoized.len();
-        let behind = names_from(&self.memoized, next);
-        let names = self.names.with(behind, attribute.name)?;
+        let later = names_from(&self.memoized, next);
+        let names = self.names.with(later, attribute.name)?;
         self.places.insert(place, number)?;
         self.memoized.push(MemoizedAttribute {
             place,

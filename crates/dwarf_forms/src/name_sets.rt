@@ -32,23 +32,20 @@ impl Branch {
     }
 
     /// Returns the node with another child for the lowest bit of a name.
-    fn with_side(self, name: u64, behind: u32) -> Branch
+    fn with_side(self, name: u64, child: u32) -> Branch
         ensures ends { result.ends ≡ self.ends }
-        ensures behind { side result (name % 2) ≡ behind }
+        ensures child { side result (name % 2) ≡ child }
         ensures others { (bit : ℕ) → bit < 2 → bit ≢ name % 2 → side result bit ≡ side self bit }
-        ensures within { (count : ℕ) → IsWithin count self → behind < count
+        ensures within { (count : ℕ) → IsWithin count self → child < count
             → IsWithin count result }
     {
         if name % 2 == 0 {
             Branch {
-                zero: behind,
+                zero: child,
                 ..self
             }
         } else {
-            Branch {
-                one: behind,
-                ..self
-            }
+            Branch { one: child, ..self }
         }
     }
 }
@@ -113,8 +110,8 @@ impl NameSets {
                 ..branch
             });
         }
-        let behind = self.with(branch.side(name), name / 2)?;
-        self.put(branch.with_side(name, behind))
+        let child = self.with(branch.side(name), name / 2)?;
+        self.put(branch.with_side(name, child))
     }
 
     /// Returns the root of a set.

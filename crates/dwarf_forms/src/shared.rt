@@ -80,9 +80,9 @@ pub(crate) fn shared_attributes(
             rest,
         });
     }
-    let (first, behind) = attributes.split_at(UNSHARED);
+    let (first, later) = attributes.split_at(UNSHARED);
     let own = Vec::from_slice(alloc, first)?;
-    let rest = put_all(lists, behind, &places, rest, cursor.place())?;
+    let rest = put_all(lists, later, &places, rest, cursor.place())?;
     Ok(SharedList { own, rest })
 }
 
@@ -132,7 +132,7 @@ fn next_stretch(
 fn memoized_at(lists: &MemoizedLists<'_>, count: usize, place: usize) -> Option<usize>
     ensures none { IfNone result (UNSHARED ≤ count → IsNotMemoized lists.now.memoized place) }
     ensures some { IfSome result (λ number. is_memoized_at lists.now.memoized number place ≡ true) }
-    ensures behind { IfSome result (λ _. UNSHARED ≤ count) }
+    ensures full { IfSome result (λ _. UNSHARED ≤ count) }
 {
     if count < UNSHARED {
         return None;

@@ -83,13 +83,13 @@ fn is_alone(
 fn tables_within_one_list(rt: HostRuntime) {
     let section = one_list(&rt);
     let mut lists = lists_of(&rt, &section);
-    let behind = 100 - UNSHARED;
-    is_shared(&rt, &mut lists, 0, 0x80, UNSHARED, behind);
+    let later = 100 - UNSHARED;
+    is_shared(&rt, &mut lists, 0, 0x80, UNSHARED, later);
     // from the forms of the attributes 9, 34 and 35: their tables have the attributes after the
     // next one
-    is_shared(&rt, &mut lists, 32, 0x8b, UNSHARED, behind);
-    is_shared(&rt, &mut lists, 107, 0xa4, UNSHARED, behind);
-    is_shared(&rt, &mut lists, 110, 0xa5, 63, behind);
+    is_shared(&rt, &mut lists, 32, 0x8b, UNSHARED, later);
+    is_shared(&rt, &mut lists, 107, 0xa4, UNSHARED, later);
+    is_shared(&rt, &mut lists, 110, 0xa5, 63, later);
 }
 
 #[test]

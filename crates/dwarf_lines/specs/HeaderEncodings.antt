@@ -80,7 +80,7 @@ pub record EncodesEntry (s : LineSections) (format : Format) (table : EntryTable
     (fields : List Field) (place : ℕ) (bytes : List ℕ) (entry : Entry) : Type 0 where
   pub parts : EncodesEach (EncodesPart s format table entry) place bytes fields
   pub default_directory : count_by (is_index table) fields ≡ 0 → entry.directory ≡ 0
-  pub known : has_directory table entry ≡ true
+  pub in_table : has_directory table entry ≡ true
 
 -- The bytes at the offset encode a table: the number of fields of its format, the format, the
 -- number of entries, and the entries. The format of a nonempty table is valid.

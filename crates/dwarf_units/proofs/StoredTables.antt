@@ -153,7 +153,8 @@ memoized-fits lists store view number len table at_index offset left are same at
     let there : slice_get tables number ≡ Some memoized =
     memoized-resolved lists.places.memoized store.tables.items number table at in
     let lens : length memoized.declarations ≡ len =
-    memoized-len lists.places.memoized store.tables.items number len table at_index at is len_is in (
+    memoized-len lists.places.memoized store.tables.items number len table at_index at is len_is
+    in (
       memoized.declarations,
       subst (λ (s : List ℕ). in_section sections.DebugAbbrev (declarations_of left s offset)
           ≡ Ok memoized.declarations) (ap (λ (k : CachedTables). k.section) same)

@@ -47,7 +47,7 @@ impl Links {
         ensures { (memoized : List MemoizedAttribute) (number : ℕ) → AreLinked format memoized
             links.now
             → attributes_from memoized number ≡ attribute.now ∷ rest_attributes memoized next
-            → IfSome next (λ behind. behind < number)
+            → IfSome next (λ after. after < number)
             → (keep : _) → IsLink keep format memoized number (link_by keep result) }
     {
         Links {
@@ -68,17 +68,17 @@ fn linked_step(
     requires { IfSome next (λ number. number < length links.now) }
     ensures { (memoized : List MemoizedAttribute) (number : ℕ) → AreLinked format memoized links.now
         → attributes_from memoized number ≡ attribute.now ∷ rest_attributes memoized next
-        → IfSome next (λ behind. behind < number) → IsLink keep format memoized number result }
+        → IfSome next (λ after. after < number) → IsLink keep format memoized number result }
 {
     let step = step_of(keep, format, attribute);
     let Some(number) = next else {
         return LinkedStep { step, next: None };
     };
-    let behind = *links[number].by(keep);
-    match merged_step(step, behind.step) {
+    let later = *links[number].by(keep);
+    match merged_step(step, later.step) {
         Some(both) => LinkedStep {
             step: both,
-            next: behind.next,
+            next: later.next,
         },
         None => LinkedStep { step, next },
     }

@@ -28,12 +28,12 @@ pub(crate) fn merged_step(step: AttributeStep, next: AttributeStep) -> Option<At
     ensures { result ≡ merged_step step next }
 {
     match (step, next) {
-        (AttributeStep::Skip(len), AttributeStep::Skip(behind)) => {
-            let both = len.checked_add(behind)?;
+        (AttributeStep::Skip(len), AttributeStep::Skip(later)) => {
+            let both = len.checked_add(later)?;
             Some(AttributeStep::Skip(both))
         }
-        (AttributeStep::Skip(len), AttributeStep::Keep(behind, name, specification, layout)) => {
-            let both = len.checked_add(behind)?;
+        (AttributeStep::Skip(len), AttributeStep::Keep(later, name, specification, layout)) => {
+            let both = len.checked_add(later)?;
             Some(AttributeStep::Keep(both, name, specification, layout))
         }
         _ => None,

@@ -147,7 +147,7 @@ impl Modules {
         let extent = extent_of(&object, base);
         let at = match self.sorted.free_index(extent, self.sorted.len()) {
             Ok(at) => at,
-            Err(met) => return Err(MapFault::Overlap(met)),
+            Err(other) => return Err(MapFault::Overlap(other)),
         };
         let Ok(loaded) = LoadedModule::new(self.alloc, self.loads, name, base, object) else {
             return Err(MapFault::Memory);
@@ -183,7 +183,7 @@ impl Modules {
             return Err(MapFault::Range);
         };
         match self.sorted.free_index(extent, own) {
-            Err(met) => Err(MapFault::Overlap(met)),
+            Err(other) => Err(MapFault::Overlap(other)),
             Ok(at) => {
                 self.sorted.relocate(own, at, base);
                 Ok(extent)

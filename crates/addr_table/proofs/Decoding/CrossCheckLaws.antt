@@ -15,7 +15,8 @@ use Rattle.dwarf_entries.specs.Scopes.{Scope, Own, own_of, call_file_at, stmt_li
 use Rattle.dwarf_entries.specs.Order.{HasDataOf}
 use Rattle.addr_table.specs.Chains.{is_kind}
 use Rattle.dwarf_lines.specs.Lines.{Lines}
-use Rattle.addr_table.specs.CrossChecks.{is_bad_root, is_bad_call, is_bad_scope, check_scope}
+use Rattle.addr_table.specs.CrossChecks.{is_invalid_root, is_invalid_call, is_invalid_scope}
+use Rattle.addr_table.specs.CrossChecks.{check_scope}
 use Rattle.addr_table.specs.CrossChecks.{check_unit}
 use Rattle.addr_table.specs.CrossChecks.{cross_checks_of, RefusesAs}
 use Rattle.addr_table.proofs.Decoding.EachTurns.{EachSoFar, each_none, each-more, each-invalid}
@@ -63,7 +64,7 @@ there scopes first past number d h =
 
 pub scopes-more : (lines : Lines) (scopes : List Scope) (first past number : ℕ) (d : Scope)
     → OfUnit scopes first past number
-    → ScopesSoFar lines scopes first past number → is_bad_scope lines (get_or scopes number d)
+    → ScopesSoFar lines scopes first past number → is_invalid_scope lines (get_or scopes number d)
     ≡ false
     → ScopesSoFar lines scopes first past (number + 1)
 scopes-more lines scopes first past number d of h good =
@@ -77,7 +78,7 @@ scopes-more lines scopes first past number d of h good =
 
 pub scopes-invalid : (lines : Lines) (scopes : List Scope) (first past number at : ℕ) (d : Scope)
     → OfUnit scopes first past number
-    → ScopesSoFar lines scopes first past number → is_bad_scope lines (get_or scopes number d)
+    → ScopesSoFar lines scopes first past number → is_invalid_scope lines (get_or scopes number d)
     ≡ true
     → at ≡ (get_or scopes number d).offset
     → each (λ _ s. check_scope lines s) (slice_range scopes first past) ≡ Err (causes.CallFile, at)
@@ -100,14 +101,14 @@ scopes-over lines scopes first past number h past_is =
     each-over (check_scope lines) (slice_range scopes first past) (number - first) h (omega arith)
 
 -- a unit
-pub unit-invalid : (lines : Lines) (scopes : List Scope) (root : Root) → is_bad_root lines root
+pub unit-invalid : (lines : Lines) (scopes : List Scope) (root : Root) → is_invalid_root lines root
     ≡ true
     → check_unit lines scopes root ≡ Err (causes.StmtList, root.offset)
 unit-invalid lines scopes root bad = rw bad refl
 
 pub unit-valid : (lines : Lines) (scopes : List Scope) (root : Root)
     (outcome : Result (Unit {0}) LoadFault)
-    → is_bad_root lines root ≡ false
+    → is_invalid_root lines root ≡ false
     → RefusesAs outcome (each (λ _ s. check_scope lines s)
     (slice_range scopes root.first root.past))
     → RefusesAs outcome (check_unit lines scopes root)
@@ -161,19 +162,19 @@ units-over lines tree roots i are h past =
 
 pub returned-invalid : (lines : Lines) (scopes : List Scope) (k : Kept) (s : Scope) (b : Bool)
     → HasDataOf scopes k s
-    → b ≡ (is_kind Inlined (own_of k).kind && is_bad_call lines
+    → b ≡ (is_kind Inlined (own_of k).kind && is_invalid_call lines
     (call_file_at scopes (own_of k).number)
     (stmt_list_at scopes (own_of k).number))
-    → b ≡ is_bad_scope lines s
-unfolding is_bad_scope
+    → b ≡ is_invalid_scope lines s
+unfolding is_invalid_scope
 returned-invalid lines scopes k s b tells is =
     is
-    ∙ (ap (λ (o : Own). is_kind Inlined o.kind && is_bad_call lines
+    ∙ (ap (λ (o : Own). is_kind Inlined o.kind && is_invalid_call lines
     (call_file_at scopes (own_of k).number)
     (stmt_list_at scopes (own_of k).number)) tells.own_is
-    ∙ (ap (λ (f : Option ℕ). is_kind Inlined s.kind && is_bad_call lines f
+    ∙ (ap (λ (f : Option ℕ). is_kind Inlined s.kind && is_invalid_call lines f
     (stmt_list_at scopes (own_of k).number)) tells.call_file_is
-    ∙ ap (λ (l : Option ℕ). is_kind Inlined s.kind && is_bad_call lines s.call_file l)
+    ∙ ap (λ (l : Option ℕ). is_kind Inlined s.kind && is_invalid_call lines s.call_file l)
     tells.stmt_list_is))
 
 pub returned-offset : (scopes : List Scope) (k : Kept) (s : Scope) → HasDataOf scopes k s

@@ -9,10 +9,10 @@ use Rattle.command_line.specs.declared.faults.CliFault.{CliFault}
 use Rattle.command_line.specs.declared.faults.CliFault.TheVariants.{Usage, Address, Memory}
 
 -- the first argument that is not a number, or out of memory
-abbrev pub IsBadWord : Result (List ℕ) (List ℕ) → CliFault → Type 0
-IsBadWord outcome (Address word) = outcome ≡ Err word.now
-IsBadWord outcome (Usage error) = ⊥
-IsBadWord outcome Memory = ⊤
+abbrev pub IsInvalidArgument : Result (List ℕ) (List ℕ) → CliFault → Type 0
+IsInvalidArgument outcome (Address word) = outcome ≡ Err word.now
+IsInvalidArgument outcome (Usage error) = ⊥
+IsInvalidArgument outcome Memory = ⊤
 
 -- an error of the parser, which may be out of memory
 abbrev pub IsFaultOf : Error → CliFault → Type 0

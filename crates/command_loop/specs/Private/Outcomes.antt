@@ -14,7 +14,7 @@ use Rattle.command_loop.specs.Output.{Exchanges, Asked}
 
 -- the reply that is printed for it
 abbrev pub reply_of : World → Done → Reply
-reply_of world (done.Unreadable bad) = Unreadable bad
+reply_of world (done.Unreadable fault) = Unreadable fault
 reply_of world (done.NotFetched fault) = NotFetched fault
 reply_of world (done.Refused fault) = Refused fault (overlap_name world fault)
 reply_of world (done.LoadedAt name extent) = LoadedAt name.now extent.low extent.high

@@ -13,7 +13,7 @@ use Rattle.dwarf_bytes.specs.declared.headers.FileHeader.{FileHeader}
 use Rattle.dwarf_bytes.specs.declared.fault.Cause.{Cause}
 use Rattle.dwarf_bytes.specs.Faults.{first_failure, item_fault, first_fault}
 use Rattle.dwarf_bytes.specs.Headers.{file_header, is_outside}
-use Rattle.dwarf_bytes.specs.Elf.{section_items, names_item, has_sections, is_bad_section_table}
+use Rattle.dwarf_bytes.specs.Elf.{section_items, names_item, has_sections, is_invalid_section_table}
 use Rattle.dwarf_bytes.specs.Elf.{section_item}
 use Rattle.dwarf_bytes.specs.Private.FoundSections.{spans_before, wanted_tests}
 use Rattle.dwarf_bytes.proofs.Objects.SectionItems.{in_file}
@@ -93,7 +93,7 @@ and-true false h = refl
 
 -- a file without section headers has no fault in them
 pub without : (bytes : List ℕ) (header : FileHeader) → header ≡ file_header bytes → header.shnum ≡ 0
-    → is_bad_section_table bytes header ≡ false → first_fault sections.Elf (section_items bytes)
+    → is_invalid_section_table bytes header ≡ false → first_fault sections.Elf (section_items bytes)
     ≡ None
 unfolding section_items
 without bytes header same zero_sections sound =

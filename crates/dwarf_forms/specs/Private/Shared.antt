@@ -70,7 +70,7 @@ pub record IsStretch (lists : MemoizedAttributes) (first : ℕ) (stretch : Stret
   pub places : stretch.places.items
       ≡ drop UNSHARED (places_from lists.section first (length stretch.attributes.items))
   pub rest : IsMemoized lists.memoized stretch.rest
-  pub behind : IfSome stretch.rest (λ _. UNSHARED ≤ length stretch.attributes.items)
+  pub full : IfSome stretch.rest (λ _. UNSHARED ≤ length stretch.attributes.items)
   pub unknown : All (IsNotMemoized lists.memoized) stretch.places.items
 
 abbrev pub ReadsStretch : Result Stretch Cause → MemoizedAttributes → Position → Position → Type 0

@@ -193,7 +193,7 @@ module _ (s : LineSections) (format : Format) (table : EntryTable) (bytes : List
       (record {
         parts = a.0.encoded;
         default_directory = a.1.1;
-        known =
+        in_table =
             passed (has_directory table read.0) known;
       }))))
 
@@ -208,4 +208,4 @@ module _ (s : LineSections) (format : Format) (table : EntryTable) (bytes : List
       (stretch-of (EncodesEntry s format table fields at) bytes at entry next h) h.encoded.parts
       (λ none. absurd (omega (arith, parts.0, none))) (λ none. sym (h.encoded.default_directory
       none)) in
-      rw (read, h.encoded.known) refl
+      rw (read, h.encoded.in_table) refl

@@ -150,7 +150,7 @@ entries-of-table : (s : LineSections) (format : Format) (table : EntryTable) (fi
     → Each (HasDirectory table) entries
 entries-of-table s format table fields place bytes [] h = tt
 entries-of-table s format table fields place bytes (entry ∷ entries) h =
-    (h.3.known, entries-of-table s format table fields (place + length h.0) h.1 entries h.4)
+    (h.3.in_table, entries-of-table s format table fields (place + length h.0) h.1 entries h.4)
 
 path-there : (directories files : List Entry) (number : ℕ) → number < length files
     → Each (HasDirectory (Files (length directories))) files

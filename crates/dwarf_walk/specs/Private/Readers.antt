@@ -102,8 +102,8 @@ after_scope w offset tag = record (after_die w (record {
 -- The state is the one after one more entry with an offset and a tag, for any attributes with
 -- these used ones.
 abbrev pub IsAfterEntry : WalkState → WalkState → ℕ → ℕ → Used → Type 0
-IsAfterEntry w kept at tag used = (attributes : List Attribute) → used ≡ used_among attributes
-    → kept ≡ after_die w (record {
+IsAfterEntry w next at tag used = (attributes : List Attribute) → used ≡ used_among attributes
+    → next ≡ after_die w (record {
       offset = at;
       depth = w.depth;
       tag = tag;

@@ -5,9 +5,9 @@ use Rattle.addr_table.proofs.Decoding.CrossCheckLaws.{OfUnit}
 use Rattle.addr_table.proofs.Decoding.CrossCheckLaws.{returned-offset}
 use Rattle.addr_table.proofs.Chains.ChainWalks.{no_scope}
 use Rattle.addr_table.proofs.cross_checks.check_scopes.Goals as goal
-use Rattle.addr_table.proofs.cross_checks.check_scopes.Goals.{After-is_bad_scope}
+use Rattle.addr_table.proofs.cross_checks.check_scopes.Goals.{After-is_invalid_scope}
 
-of_unit : (c : After-is_bad_scope) → OfUnit c.args.scopes.now.scopes c.args.first c.args.past
+of_unit : (c : After-is_invalid_scope) → OfUnit c.args.scopes.now.scopes c.args.first c.args.past
     c.loop-number.number
 of_unit c = record {
   low = c.loop-number.auto.number;
@@ -19,18 +19,19 @@ loop-number-init c = scopes-none _ _ _ _
 
 pub loop-number-preserved : goal.loop-number-preserved
 loop-number-preserved c =
-    let a = (goal.at.loop-number-preserved c).After-is_bad_scope in
+    let a = (goal.at.loop-number-preserved c).After-is_invalid_scope in
     scopes-more _ _ _ _ _ no_scope (of_unit a) c.loop-number.invariant
-    (sym (c.is_bad_scope.ensures _ (c.scope_at-scope.ensures no_scope)) ∙ c.if-is_bad_scope.false)
+    (sym (c.is_invalid_scope.ensures _ (c.scope_at-scope.ensures no_scope))
+    ∙ c.if-is_invalid_scope.false)
 
-pub returns-then-is_bad_scope : goal.returns-then-is_bad_scope
-returns-then-is_bad_scope c =
-    let a = (goal.at.returns-then-is_bad_scope c).After-is_bad_scope in
+pub returns-then-is_invalid_scope : goal.returns-then-is_invalid_scope
+returns-then-is_invalid_scope c =
+    let a = (goal.at.returns-then-is_invalid_scope c).After-is_invalid_scope in
     rw (c.at_item.ensures) (
       refl,
       scopes-invalid _ _ _ _ _ _ no_scope (of_unit a) c.loop-number.invariant
-          (sym (c.is_bad_scope.ensures _ (c.scope_at-scope.ensures no_scope))
-          ∙ c.if-is_bad_scope.true)
+          (sym (c.is_invalid_scope.ensures _ (c.scope_at-scope.ensures no_scope))
+          ∙ c.if-is_invalid_scope.true)
           (c.offset-at.ensures ∙ returned-offset _ _ _ (c.scope_at-scope.ensures no_scope)),
     )
 

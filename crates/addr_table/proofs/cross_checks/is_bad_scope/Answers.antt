@@ -3,7 +3,7 @@ use Rattle.dwarf_walk.specs.declared.scope_kind.ScopeKind.{ScopeKind}
 use Rattle.dwarf_walk.specs.declared.scope_kind.ScopeKind.TheVariants.{Subprogram, Inlined}
 use Rattle.addr_table.specs.Chains.{is_kind}
 use Rattle.addr_table.proofs.Decoding.CrossCheckLaws.{returned-invalid}
-use Rattle.addr_table.proofs.cross_checks.is_bad_scope.Goals as goal
+use Rattle.addr_table.proofs.cross_checks.is_invalid_scope.Goals as goal
 
 of_subprogram : (kind : ScopeKind) (b : Bool) → kind ≡ Subprogram
     → false ≡ (is_kind Inlined kind && b)
@@ -21,4 +21,4 @@ pub returns-in-Inlined : goal.returns-in-Inlined
 returns-in-Inlined c =
     λ s tells. returned-invalid _ _ _ s _ tells
     (of_inlined _ _ _ (sym c.kind.ensures ∙ c.in-Inlined.is)
-    (rw (← c.call_file.ensures, ← c.stmt_list.ensures) c.is_bad_call.ensures))
+    (rw (← c.call_file.ensures, ← c.stmt_list.ensures) c.is_invalid_call.ensures))

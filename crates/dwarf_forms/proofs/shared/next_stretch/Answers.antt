@@ -38,7 +38,7 @@ returns-in-Some c =
     c.join.new.cursor.place inv.read both-parts in (
       stretch-is c.args.lists.now bytes c.args.cursor.now.place c.join.new.cursor.place _ c.requires
           read inv.places (memoized-number c.args.lists.now.memoized c.in-Some.number _
-          c.in-Some.ensures.some) (omega (arith, c.in-Some.ensures.behind, c.len.ensures))
+          c.in-Some.ensures.some) (omega (arith, c.in-Some.ensures.full, c.len.ensures))
           inv.unknown,
       c.in_ok-join.ensures.1 ∙ inv.bytes,
     )

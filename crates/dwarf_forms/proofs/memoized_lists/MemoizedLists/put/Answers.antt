@@ -15,8 +15,8 @@ with-requires c =
     let next : IsMemoized memoized c.args.next =
     subst (λ (l : MemoizedAttributes). IsMemoized l.memoized c.args.next) (sym c.self.view_is)
     c.requires.next in
-    let set : c.names_from-behind.result ≡ names_from memoized c.args.next =
-    c.names_from-behind.ensures ∙ ap
+    let set : c.names_from-later.result ≡ names_from memoized c.args.next =
+    c.names_from-later.ensures ∙ ap
     (λ (ks : List MemoizedAttribute). names_from ks c.args.next) c.deref.ensures.value in
     rw set (names-after c.self.inside.section.now memoized c.self.inside.places c.self.inside.names
     c.args.next c.self.invariant next).within
@@ -61,14 +61,14 @@ invariant_of-self-2 c =
     subst (λ (l : MemoizedAttributes). attributes_at l.section c.args.place
     ≡ Ok (c.args.attribute ∷ rest_attributes l.memoized c.args.next, c.args.after))
     (sym c.self.view_is) c.requires.read in
-    let set : c.names_from-behind.result ≡ names_from memoized c.args.next =
-    c.names_from-behind.ensures ∙ ap
+    let set : c.names_from-later.result ≡ names_from memoized c.args.next =
+    c.names_from-later.ensures ∙ ap
     (λ (ks : List MemoizedAttribute). names_from ks c.args.next) c.deref.ensures.value in
-    let rest : HasNames c.self.inside.names c.names_from-behind.result
+    let rest : HasNames c.self.inside.names c.names_from-later.result
     (rest_attributes memoized c.args.next) =
     rw set (names-after section memoized c.self.inside.places c.self.inside.names c.args.next
     c.self.invariant next) in
-    let names = names-more c.self.inside.names c.with.new.self c.names_from-behind.result
+    let names = names-more c.self.inside.names c.with.new.self c.names_from-later.result
     c.in_ok-names.names c.args.attribute (rest_attributes memoized c.args.next) rest
     c.in_ok-names.ensures.within c.in_ok-names.ensures.names in
     memoized-put section memoized c.push.new.self.items c.self.inside.places c.insert.new.self

@@ -25,23 +25,23 @@ returns-clause-names t c =
     let new = c.put-2.new.self in
     let b = c.branch-branch.result in
     let turned = c.with_side.result in
-    let behind = c.in_ok-behind.behind in
+    let child = c.in_ok-child.child in
     let some : 0 < c.args.name = omega (arith, c.if-name-eq0.false) in
-    let rest : HasMore old mid (side b (c.args.name % 2)) behind (c.args.name / 2) =
-    subst (λ (s : ℕ). HasMore old mid s behind (c.args.name / 2)) c.side.ensures
-    c.in_ok-behind.ensures.names in
+    let rest : HasMore old mid (side b (c.args.name % 2)) child (c.args.name / 2) =
+    subst (λ (s : ℕ). HasMore old mid s child (c.args.name / 2)) c.side.ensures
+    c.in_ok-child.ensures.names in
     if-ok (λ (more : ℕ). (more ≡ length mid) × (new ≡ mid ++ turned ∷ []))
     (λ (more : ℕ). HasMore old new c.args.set more c.args.name) c.put-2.result
     c.put-2.ensures.ok
     (λ more made.
-    more-bits old mid new c.args.set behind more c.args.name b turned c.branch-branch.ensures.value
-    c.branch-branch.ensures.within some made.0 made.1 c.in_ok-behind.ensures.within
-    c.with_side.ensures.ends c.with_side.ensures.behind c.with_side.ensures.others
-    c.in_ok-behind.ensures.stay
+    more-bits old mid new c.args.set child more c.args.name b turned c.branch-branch.ensures.value
+    c.branch-branch.ensures.within some made.0 made.1 c.in_ok-child.ensures.within
+    c.with_side.ensures.ends c.with_side.ensures.child c.with_side.ensures.others
+    c.in_ok-child.ensures.stay
     c.put-2.ensures.stay rest)
 
-pub returns-in_err-behind-clause-few : goal.returns-in_err-behind-clause-few
-returns-in_err-behind-clause-few t c =
+pub returns-in_err-child-clause-few : goal.returns-in_err-child-clause-few
+returns-in_err-child-clause-few t c =
     let some : 0 < c.args.name = omega (arith, c.if-name-eq0.false) in
     few-after c.args.self.now c.with.new.self c.args.name some c.with.ensures.few
 

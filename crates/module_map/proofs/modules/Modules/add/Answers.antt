@@ -37,7 +37,7 @@ returns-in-Err c =
     omega arith in (
       inr (subst (λ v. place_fault (record
           { name = c.args.name.now; base = c.args.base; bytes = c.args.object }) v.world.modules
-          ≡ Some (Overlap c.in-Err.met)) c.self.view_is
+          ≡ Some (Overlap c.in-Err.other)) c.self.view_is
           (over_any c.self.inside.sorted c.self.inside.loads
           (record { name = c.args.name.now; base = c.args.base; bytes = c.args.object }) _ _ _
           free c.len.ensures

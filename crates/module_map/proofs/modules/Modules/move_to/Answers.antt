@@ -23,11 +23,11 @@ returns-in_default-extent_at-clause-step c = let e = c.in-Some.ensures in
 
 pub returns-in-Err-clause-step : goal.returns-in-Err-clause-step
 returns-in-Err-clause-step c = let e = c.in-Some.ensures in
-    subst (λ m. Moves m.world c.args.name.now c.args.base (Err (Overlap c.in-Err.met)) m.world)
+    subst (λ m. Moves m.world c.args.name.now c.args.base (Err (Overlap c.in-Err.other)) m.world)
     c.self.view_is
     (over_by c.self.inside.sorted c.self.inside.loads c.args.name.now c.args.base c.in-Some.own
     c.loaded_at.result.now (sym e.place) e.only c.loaded_at.ensures c.in-Some-extent_at.extent
-    c.in-Err.met c.in-Some-extent_at.ensures c.in-Err.ensures)
+    c.in-Err.other c.in-Some-extent_at.ensures c.in-Err.ensures)
 
 pub relocate-requires-clause-clear : goal.relocate-requires-clause-clear
 relocate-requires-clause-clear c = let e = c.in-Some.ensures in
