@@ -66,8 +66,8 @@ static void read_bytes(size_t wanted) {
     while (wanted) {
         struct pollfd ready = {from_program, POLLIN, 0};
         if (poll(&ready, 1, 60000) != 1) fail("silent", wanted);
-        size_t room = wanted < sizeof buffer ? wanted : sizeof buffer;
-        ssize_t count = read(from_program, buffer, room);
+        size_t free_bytes = wanted < sizeof buffer ? wanted : sizeof buffer;
+        ssize_t count = read(from_program, buffer, free_bytes);
         if (count <= 0) fail("ended", wanted);
         answered += count;
         wanted -= count;
@@ -141,7 +141,7 @@ int main(int argc, char **argv) {
     if (!file || !lengths) return 1;
     static char text[1 << 26];
     char *end = text + fread(text, 1, sizeof text, file), *rest = strchr(text, '\n') + 1;
-    double begun = now();
+    double begin = now();
     pid_t program = start(argv + 4);
     send_all(text, rest - text);
     read_bytes(next_length(lengths));
@@ -154,7 +154,7 @@ int main(int argc, char **argv) {
     long peak = peak_of(program);
     printf("%.0f answers a second", asked / (done - loaded));
     if (calls) printf(", %.2f reads and writes an answer", (double)calls / asked);
-    printf(", first answer after %.0f ms", 1000 * (loaded - begun));
+    printf(", first answer after %.0f ms", 1000 * (loaded - begin));
     if (peak) printf(", peak %ld MB", peak);
     printf(", %zu bytes\n", answered);
     kill(program, 9);

@@ -20,7 +20,7 @@ static inline int add_names(struct names *names, const struct name_plan *plan, c
 // Returns whether this succeeds.
 static int follow_plans(const struct unit *unit, uint64_t reference, struct names *names) {
     const struct table *table = &tables[unit->table];
-    for (int hops = 0; hops < HOP_LIMIT; hops++) {
+    for (int followed = 0; followed < REFERENCE_LIMIT; followed++) {
         uint64_t offset = unit->start + reference;
         if (offset >= unit->end || !is_entry(offset)) return 0;
         const uint8_t *entry = sections[INFO].start + offset;
@@ -36,12 +36,12 @@ static int follow_plans(const struct unit *unit, uint64_t reference, struct name
 static inline int find_names(const struct unit *unit, uint64_t reference, struct names *names) {
     uint64_t target = unit->start + reference;
     if (!target || target >= unit->end) return 0;
-    struct kept_names *known = slot_of_target(target);
-    if (known->target != target) {
+    struct cached_names *cached_entry = slot_of_target(target);
+    if (cached_entry->target != target) {
         if (!follow_plans(unit, reference, names)) return 0;
-        *known = (struct kept_names){target, *names};
+        *cached_entry = (struct cached_names){target, *names};
     }
-    *names = known->names;
+    *names = cached_entry->names;
     return 1;
 }
 

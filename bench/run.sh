@@ -79,18 +79,18 @@ count_of() {
 
 # Measures the scopes and the whole load of a program.
 measure_program() {
-    local name=$1 object=$2 told
-    told=$(out/entries "$object")
+    local name=$1 object=$2 output
+    output=$(out/entries "$object")
     compare "scopes of $name" "$object" out/entries scopes
     for what in entries scopes; do
-        awk -v n="$(count_of $what "$told")" -v w="$what a second: $name" -v a="$ours" \
+        awk -v n="$(count_of $what "$output")" -v w="$what a second: $name" -v a="$ours" \
             -v b="$plain" -v c="$earlier" 'BEGIN {
             printf "%s: %d, plain C %d", w, n * 1000 / a, n * 1000 / b
             printf ", earlier plain C %d\n", n * 1000 / c
         }'
     done
     "$measure" scopes "$object"
-    echo "$told"
+    echo "$output"
     compare_peaks "scopes of $name" "$object" entries scopes
     compare "whole load of $name" "$object" out/load module
     "$measure" module "$object"

@@ -11,7 +11,7 @@ struct place {
 };
 
 static struct place *places;
-static size_t place_count, place_room;
+static size_t place_count, place_capacity;
 static uint64_t entry_count;
 
 // The entries of the current table by the first byte of their code. The length is 0 if the walk has
@@ -77,7 +77,7 @@ static int walk(struct unit *unit) {
         least = depth < least ? depth : least;
         starts[offset / 64] |= (uint64_t)(entry.bits & IS_ENTRY) << offset % 64;
         entry_count += entry.bits & IS_ENTRY;
-        places = grown(places, place_count, &place_room, sizeof *places);
+        places = grown(places, place_count, &place_capacity, sizeof *places);
         places[place_count] = (struct place){offset, depth, least};
         place_count += entry.bits / IS_SCOPE;
         least = entry.bits & IS_SCOPE ? NO_DEPTH : least;
