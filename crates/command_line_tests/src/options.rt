@@ -122,7 +122,7 @@ fn help(rt: HostRuntime) {
 }
 
 #[test]
-fn first_bad_address(rt: HostRuntime) {
+fn first_invalid_address(rt: HostRuntime) {
     is_no_address(&rt, &["zz"], "zz");
     is_no_address(&rt, &["1004", "0X10", "zz"], "0X10");
 }

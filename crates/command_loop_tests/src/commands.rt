@@ -15,7 +15,7 @@ fn loads_a_module(rt: HostRuntime) {
 }
 
 #[test]
-fn a_good_load_asks_once(rt: HostRuntime) {
+fn a_valid_load_asks_once(rt: HostRuntime) {
     let alloc = rt.alloc();
     let lines: [(&[u8], usize); 7] = [
         (b"load a 0 A\n", 1),

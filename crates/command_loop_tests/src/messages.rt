@@ -4,7 +4,7 @@ use command_loop::{BadLine, ExeFault, FetchFault, MapFault, RunFault};
 use std::test::*;
 
 #[test]
-fn prints_bad_lines(rt: HostRuntime) -> Result<(), Fail> {
+fn prints_invalid_lines(rt: HostRuntime) -> Result<(), Fail> {
     let messages = [
         (BadLine::LongLine, "long-line"),
         (BadLine::Command, "command"),

@@ -81,7 +81,7 @@ fn no_object(rt: HostRuntime) -> Result<(), Fail> {
 }
 
 #[test]
-fn a_bad_address(rt: HostRuntime) -> Result<(), Fail> {
+fn an_invalid_address(rt: HostRuntime) -> Result<(), Fail> {
     let mut writer = Paper::new();
     let mut errors = Paper::new();
     let texts = ["-e", "none", "10", "zz", "yy"];

@@ -47,7 +47,7 @@ pub fn have_fault(
 }
 
 /// Checks that a unit with these entries is refused with a fault of `.debug_info`.
-pub fn is_bad_unit(
+pub fn is_invalid_unit(
     rt: &(impl Abort + AllocGlobal),
     entries: &[u8],
     table: &[u8],

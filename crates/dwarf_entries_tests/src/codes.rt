@@ -79,15 +79,15 @@ fn codes_of_no_declaration(rt: HostRuntime) {
     let last: [u8; 10] = [0xff, 0xff, 0xff, 0xff, 0xff, 0xff, 0xff, 0xff, 0xff, 0x01];
     let unknown: [&[u8]; 7] = [&[3], &[4], &[6], &[0xff, 1], &[0x81, 2], &[0x85, 2], &last];
     for code in unknown {
-        is_bad_code(&rt, code);
+        is_invalid_code(&rt, code);
     }
 }
 
 /// Checks that an entry of this code, at offset 13, is refused.
-fn is_bad_code(rt: &(impl Abort + AllocGlobal), code: &[u8]) {
+fn is_invalid_code(rt: &(impl Abort + AllocGlobal), code: &[u8]) {
     let mut entries = Vec::new(rt.alloc());
     put(rt, &mut entries, &[5]);
     put(rt, &mut entries, code);
     put(rt, &mut entries, &[0]);
-    is_bad_unit(rt, &entries, &CODES, Cause::AbbrevCode, 13);
+    is_invalid_unit(rt, &entries, &CODES, Cause::AbbrevCode, 13);
 }

@@ -2,7 +2,7 @@
 
 pub use crate::checks::{
     Row, are_equal, are_scopes, call_of, covers_or_is_refused, has_fault, have_fault, have_names,
-    is_bad_unit, is_named_or_refused, is_refused, scopes_of,
+    is_invalid_unit, is_named_or_refused, is_refused, scopes_of,
 };
 use dwarf_bytes::{Cause, LoadFault, Object, Section};
 use dwarf_entries::{Range, Root, Sections, TextOffset};

@@ -210,7 +210,7 @@ fn paths_out_of_the_scopes(rt: HostRuntime) {
 fn a_path_to_no_entry(rt: HostRuntime) {
     let mut entries = PATHS;
     entries[8] = 14;
-    is_bad_unit(&rt, &entries, &OUTSIDE, Cause::Reference, 17);
+    is_invalid_unit(&rt, &entries, &OUTSIDE, Cause::Reference, 17);
 }
 
 /// The declarations of subprograms and variables with names and references.

@@ -114,7 +114,7 @@ fn is_before_each(rt: &(impl Abort + AllocGlobal), pass: usize, first: Bad<'_>) 
 
 /// A valid unit before or after an invalid one does not hide the fault.
 #[test]
-fn one_bad_unit_refuses_all(rt: HostRuntime) {
+fn one_invalid_unit_refuses_all(rt: HostRuntime) {
     let good: Unit<'_> = (1, 0, &[5, 6, 0]);
     for bad in FAULTS {
         have_fault(&rt, &[good, bad.unit()], &TABLES, Some(bad.fault(15)));
@@ -127,9 +127,9 @@ fn one_bad_unit_refuses_all(rt: HostRuntime) {
 #[test]
 fn faults_of_two_scopes(rt: HostRuntime) {
     let first = [5, 4, 1, 3, 0, 0, 0, 0, 0];
-    is_bad_unit(&rt, &first, &TABLES, Cause::PcAndRanges, 13);
+    is_invalid_unit(&rt, &first, &TABLES, Cause::PcAndRanges, 13);
     let second = [5, 3, 0, 0, 0, 0, 4, 1, 0];
-    is_bad_unit(&rt, &second, &TABLES, Cause::Reference, 13);
+    is_invalid_unit(&rt, &second, &TABLES, Cause::Reference, 13);
 }
 
 /// The abbreviations of a unit without entries are validated. An empty table contains no code.

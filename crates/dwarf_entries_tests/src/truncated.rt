@@ -135,7 +135,7 @@ fn cut_blocks(rt: HostRuntime) {
         (&[1, 2, 0, 0, 0, 2, 0, 0], Cause::Short, 17),
     ];
     for (entries, cause, at) in refused {
-        is_bad_unit(&rt, entries, &BLOCKS, cause, at);
+        is_invalid_unit(&rt, entries, &BLOCKS, cause, at);
     }
     let info = unit(&rt, &[1, 2, 0, 0, 0, 2, 0, 0, 0, 0, 0, 0]);
     has_fault(&rt, &sections(&info, &BLOCKS), None);

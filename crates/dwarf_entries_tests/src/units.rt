@@ -47,8 +47,8 @@ pub fn bare(offset: usize, end: usize) -> Row {
 }
 
 /// Checks that a unit with these entries is refused.
-fn is_bad_tree(rt: &(impl Abort + AllocGlobal), entries: &[u8], cause: Cause, at: u64) {
-    is_bad_unit(rt, entries, &TREES, cause, at);
+fn is_invalid_tree(rt: &(impl Abort + AllocGlobal), entries: &[u8], cause: Cause, at: u64) {
+    is_invalid_unit(rt, entries, &TREES, cause, at);
 }
 
 #[test]
@@ -133,8 +133,8 @@ fn padding(rt: HostRuntime) {
     }
     // a null entry before the root does not end a list, and a null entry after it does not start
     // one
-    is_bad_tree(&rt, &[0, 4], Cause::TreeOpen, 0);
-    is_bad_tree(&rt, &[3, 0, 3], Cause::TwoRoots, 14);
+    is_invalid_tree(&rt, &[0, 4], Cause::TreeOpen, 0);
+    is_invalid_tree(&rt, &[3, 0, 3], Cause::TwoRoots, 14);
 }
 
 /// Checks the offset of the only root of a unit without scopes.
@@ -166,7 +166,7 @@ fn refused_trees(rt: HostRuntime) {
         (&long, Cause::Leb, 13),
     ];
     for (entries, cause, at) in refused {
-        is_bad_tree(&rt, entries, cause, at);
+        is_invalid_tree(&rt, entries, cause, at);
     }
 }
 

@@ -115,7 +115,7 @@ pub fn two_programs() -> [u8; 172] {
 }
 
 /// Returns the first sample's program with a dead sequence.
-pub fn dead_program() -> [u8; 75] {
+pub fn tombstone_program() -> [u8; 75] {
     let mut line = one_sequence();
     line[58..66].copy_from_slice(&[0xff; 8]);
     line

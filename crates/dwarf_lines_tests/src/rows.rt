@@ -139,9 +139,9 @@ fn changed_bytes_of_a_program_of_the_64_bit_format(rt: HostRuntime) {
 }
 
 #[test]
-fn a_dead_sequence_has_no_rows(rt: HostRuntime) {
-    has_rows(&rt, &dead_program(), &[]);
-    let mut open = dead_program();
+fn a_sequence_at_a_tombstone_has_no_rows(rt: HostRuntime) {
+    has_rows(&rt, &tombstone_program(), &[]);
+    let mut open = tombstone_program();
     open[74] = 4;
     has_fault(&rt, &open, Cause::SequenceOpen, 0);
     // set_address 7, set_address 2^64 - 1, advance_pc 1, set_file 9, advance_line -5, copy,
