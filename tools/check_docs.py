@@ -174,18 +174,18 @@ def names():
         named = {name: words for name in re.findall(r"\b[a-z][a-z0-9]*(?:_[a-z0-9]+)+\b", code)}
         named.update((name, calls) for name in re.findall(r"\b([a-z]\w+)\(", code))
         named.update((name, functions) for name in re.findall(r"\b[A-Z]\w+::(\w*[a-z]\w*)", code))
-        for name, known in named.items():
-            if name not in known:
+        for name, sources in named.items():
+            if name not in sources:
                 yield f"{document.name}: no source has the name {name}"
 
 
 def targets():
     """Yields the missing targets of make that documents name."""
-    known = set(re.findall(r"^([a-z-]+):", (TOP / "Makefile").read_text(), re.MULTILINE))
+    found = set(re.findall(r"^([a-z-]+):", (TOP / "Makefile").read_text(), re.MULTILINE))
     named = re.compile(r"\bmake ([a-z][a-z-]+)(?=[` ]*(?:[A-Z]+=|`|$| {2,}))", re.MULTILINE)
     for document in documents():
         for target in named.findall(document.read_text()):
-            if target not in known:
+            if target not in found:
                 yield f"{document.name}: there is no make {target}"
 
 

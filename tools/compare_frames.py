@@ -61,12 +61,12 @@ def main():
         right = theirs(path, left)
         different = [address for address in left if not agree(left[address], right[address])]
         differ = differ or bool(different)
-        known = sum(bool(frames) for frames in left.values())
+        found = sum(bool(frames) for frames in left.values())
         inlined = sum(len(frames) > 1 for frames in left.values())
-        print(f"{Path(path).name}: {len(left)} addresses, {known} known, {inlined} inlined,"
+        print(f"{Path(path).name}: {len(left)} addresses, {found} known, {inlined} inlined,"
               f" {len(different)} differ")
         for address in different[:5]:
-            print(ascii(f"  {address:x}: {left[address]} beside {right[address]}"))
+            print(ascii(f"  {address:x}: {left[address]}, the other reader {right[address]}"))
     sys.exit(differ)
 
 

@@ -66,8 +66,8 @@ def last_parts(found):
 def values(path):
     """Returns the value of each symbol."""
     how = {"capture_output": True, "text": True, "check": True}
-    listed = subprocess.run(["nm", "--defined-only", path], **how).stdout
-    rows = (line.split(maxsplit=2) for line in listed.splitlines())
+    output = subprocess.run(["nm", "--defined-only", path], **how).stdout
+    rows = (line.split(maxsplit=2) for line in output.splitlines())
     return {row[2]: row[0] for row in rows if len(row) == 3}  # a name can be empty
 
 

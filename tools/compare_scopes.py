@@ -102,24 +102,24 @@ def named(scopes, offset, name):
 
 def ranges_of(path):
     """Returns the ranges of each scope as llvm-dwarfdump prints them, by offset."""
-    scopes, current, low, listed = {}, None, None, False
+    scopes, current, low, in_ranges = {}, None, None, False
     for text in lines("llvm-dwarfdump", "--debug-info", path):
         if found := DUMPED_ENTRY.match(text):
-            current, low, listed = None, None, False
+            current, low, in_ranges = None, None, False
             if found["tag"] in KINDS:
                 current = scopes[int(found["offset"], 16)] = []
         elif current is None:
             continue
-        elif listed and (found := DUMPED_RANGE.match(text)):
+        elif in_ranges and (found := DUMPED_RANGE.match(text)):
             current.append((int(found["start"], 16), int(found["end"], 16)))
         elif found := DUMPED_ADDRESS.match(text):
-            listed = False
+            in_ranges = False
             if found["name"] == "high_pc" and low is not None:
                 current.append((low, int(found["address"], 16)))
             elif found["address"] != "dead code":
                 low = int(found["address"], 16)
         else:
-            listed = bool(DUMPED_RANGES.match(text))
+            in_ranges = bool(DUMPED_RANGES.match(text))
     return scopes
 
 

@@ -8,12 +8,12 @@ class Demangler:
 
     def __init__(self, style="auto"):
         self.command = ["c++filt", *([] if style == "auto" else [f"--format={style}"])]
-        self.running, self.known = None, {}
+        self.running, self.cached = None, {}
 
     def name(self, name):
-        if name not in self.known:
-            self.known[name] = self.asked(name)
-        return self.known[name]
+        if name not in self.cached:
+            self.cached[name] = self.asked(name)
+        return self.cached[name]
 
     def asked(self, name):
         if not self.running and shutil.which(self.command[0]):

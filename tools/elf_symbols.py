@@ -24,16 +24,16 @@ class Symbol(NamedTuple):
 @functools.cache
 def symbols(path):
     """Returns the defined symbols of both symbol tables of an object."""
-    found, listed = sections(path), []
+    found, defined = sections(path), []
     for table, strings in TABLES.items():
         if table not in found or strings not in found or found[table].kind == NOBITS:
             continue
         text, data = contents(path, found[strings]), contents(path, found[table])
         data = data[: len(data) // ENTRY.size * ENTRY.size]
-        listed += [Symbol(text, name, address, size)
+        defined += [Symbol(text, name, address, size)
                    for name, info, _, section, address, size in ENTRY.iter_unpack(data)
                    if section != UNDEFINED and name and info % 16 in KINDS]
-    return listed
+    return defined
 
 
 @functools.cache

@@ -48,7 +48,7 @@ class Run:
         pipes = {"stdin": subprocess.PIPE, "stdout": subprocess.PIPE}
         self.process = subprocess.Popen(self.command, bufsize=0, **pipes)
         self.session, self.folder, self.said, self.wanted = Session(letters), folder, [], []
-        self.count, self.told, self.script = 0, letters, []
+        self.count, self.letters, self.script = 0, letters, []
 
     def say(self, line):
         """Sends a line to both. The program receives it with the next `compare`."""
@@ -66,7 +66,7 @@ class Run:
         for name in list(self.session.modules):
             self.say(b"unload " + name)
         self.compare()
-        self.session.known.clear()
+        self.session.parsed.clear()
         self.script = []
 
     def read(self, size):
@@ -92,7 +92,8 @@ class Run:
         for line, wanted in zip(self.said, self.wanted):
             if not found.startswith(wanted):
                 shown = found[:len(wanted) + 60]
-                raise Differs(f"-{self.told} {line[:99]!r}: {shown!r} {stopped}, plain {wanted!r}")
+                asked = f"-{self.letters} {line[:99]!r}"
+                raise Differs(f"{asked}: {shown!r} {stopped}, plain {wanted!r}")
             found = found[len(wanted):]
         self.said, self.wanted = [], []
 
@@ -108,11 +109,11 @@ def links(chance, module, count):
     """Returns link addresses near the endpoints of a module's rows and ranges."""
     ends = [row.address for row in module.rows]
     ends += [end for scope in module.scopes for pair in scope.ranges for end in pair]
-    near = [
+    found = [
         chance.choice(ends) + chance.choice([-1, 0, 0, 1]) if ends else module.low
         for _ in range(count)
     ]
-    return [link & TOP for link in near]
+    return [link & TOP for link in found]
 
 
 def commands(chance, run, path):
@@ -159,15 +160,15 @@ def feed(run, objects, tell):
     run.end()
 
 
-def keep(run):
+def store(run):
     """Stores the lines since no module was loaded, the objects and the command:
     `$(cat out/fuzz/command) < out/fuzz/script` repeats the run."""
-    kept = Path("out/fuzz")
-    shutil.rmtree(kept, ignore_errors=True)
-    shutil.copytree(run.folder, kept)
+    stored = Path("out/fuzz")
+    shutil.rmtree(stored, ignore_errors=True)
+    shutil.copytree(run.folder, stored)
     script = b"".join(line + b"\n" for line in run.script)
-    (kept / "script").write_bytes(script.replace(bytes(run.folder), bytes(kept)))
-    (kept / "command").write_text(shlex.join(run.command) + "\n")
+    (stored / "script").write_bytes(script.replace(bytes(run.folder), bytes(stored)))
+    (stored / "command").write_text(shlex.join(run.command) + "\n")
 
 
 def all_runs(words):
@@ -190,7 +191,7 @@ def all_runs(words):
 
 def main():
     program, words = sys.argv[1], sys.argv[2:]
-    print(f"fuzz: objects and commands beside a plain scan; {' '.join(words[:2])}", flush=True)
+    print(f"fuzz: objects and commands, against a plain scan; {' '.join(words[:2])}", flush=True)
     start, tried, said, chance = time.monotonic(), 0, 0, random.Random(0)
     shared = "/dev/shm" if os.path.isdir("/dev/shm") else None
     with tempfile.TemporaryDirectory(dir=shared) as folder:
@@ -199,9 +200,9 @@ def main():
             try:
                 feed(run, objects, tell)
             except Differs as differs:
-                keep(run)
-                kept = f"fuzz: {tried} objects tried, the first difference kept in out/fuzz"
-                raise SystemExit(f"{differs}\n{kept}") from differs
+                store(run)
+                note = f"fuzz: {tried} objects tried, the first difference stored in out/fuzz"
+                raise SystemExit(f"{differs}\n{note}") from differs
             tried, said, passed = tried + size, said + run.count, time.monotonic() - start
             print(f"{tried} objects, {said} lines, {passed:.0f} s, options '{letters}'", flush=True)
     passed = time.monotonic() - start

@@ -10,12 +10,12 @@ INDEX_SIZES = {0x1B: 1, 0x1A: 1, 0x23: 1, 0x29: 1, 0x25: 1, 0x2A: 2, 0x26: 2}  #
 
 
 def sleb(number):
-    spelled = bytearray()
+    encoded = bytearray()
     while not -64 <= number < 64:
-        spelled.append(number & 127 | 128)
+        encoded.append(number & 127 | 128)
         number >>= 7
-    spelled.append(number & 127)
-    return bytes(spelled)
+    encoded.append(number & 127)
+    return bytes(encoded)
 
 
 class Maker:

@@ -100,9 +100,9 @@ def entries_in_one_list(size):
     units = []
     left = size - len(table)
     while left > 0:
-        behind = len(units) % 200
-        values = bytes([1]) + bytes(8 * behind) + bytes([0])
-        unit = struct.pack("<HBBI", 5, 1, 8, 5 + 3 * (count - 2 - behind)) + values
+        later = len(units) % 200
+        values = bytes([1]) + bytes(8 * later) + bytes([0])
+        unit = struct.pack("<HBBI", 5, 1, 8, 5 + 3 * (count - 2 - later)) + values
         units.append(struct.pack("<I", len(unit)) + unit)
         left -= len(units[-1])
     return elf([(".debug_abbrev", table), (".debug_info", b"".join(units))])

@@ -44,10 +44,10 @@ class Runner:
         done = subprocess.run([self.program, *words], input=text, env=env, cwd=self.folder,
                               capture_output=True, timeout=60, check=False)
         self.tried += 1
-        told = counts.read_text().split() if counts.exists() else []
-        return (done.returncode, done.stdout, done.stderr), [int(count) for count in told]
+        numbers = counts.read_text().split() if counts.exists() else []
+        return (done.returncode, done.stdout, done.stderr), [int(count) for count in numbers]
 
-    def judge(self, what, words, outcome, allowed):
+    def check(self, what, words, outcome, allowed):
         """Counts an outcome by its name, or records it as wrong."""
         name = next((name for name, wanted in allowed.items() if outcome == wanted), None)
         self.outcomes[name] += 1
@@ -62,13 +62,13 @@ class Runner:
             for refused in (number, -number):
                 before = self.outcomes.copy()
                 outcome, _ = self.run(words, lines, REFUSE=refused)
-                self.judge(f"growth {refused}", words, outcome, allowed)
+                self.check(f"growth {refused}", words, outcome, allowed)
                 seen += self.outcomes - before
         for name in set(allowed) - set(seen):
             self.wrong.append(f"{' '.join(words)}: no growth that is refused gives '{name}'")
-        told = (f"{count} times {name}" for name, count in sorted(seen.items(), key=str))
+        parts = (f"{count} times {name}" for name, count in sorted(seen.items(), key=str))
         print(f"{' '.join(words) or 'no words'}, {len(lines)} lines: {counts[0]} growths, "
-              + ", ".join(told), flush=True)
+              + ", ".join(parts), flush=True)
 
 
     def each_growth_of_a_test(self, tests, name, outcomes):
@@ -78,15 +78,15 @@ class Runner:
         seen = Counter()
         for number in range(1, counts[0] + 1):
             (status, text, _), _ = self.run([name], [], REFUSE=number)
-            told = [outcome for outcome in outcomes if outcome in text.splitlines()]
-            seen.update(told)
-            if status or len(told) != 1:
+            printed = [outcome for outcome in outcomes if outcome in text.splitlines()]
+            seen.update(printed)
+            if status or len(printed) != 1:
                 self.wrong.append(f"growth {number} of {name}: status {status}, {text}")
         self.program = program
         for outcome in set(outcomes) - set(seen):
             self.wrong.append(f"{name}: no growth that is refused gives {outcome}")
-        told = (f"{count} times {outcome.decode()}" for outcome, count in sorted(seen.items()))
-        print(f"{name}: {counts[0]} growths, " + ", ".join(told), flush=True)
+        parts = (f"{count} times {outcome.decode()}" for outcome, count in sorted(seen.items()))
+        print(f"{name}: {counts[0]} growths, " + ", ".join(parts), flush=True)
 
 
 def plain(folder, letters, lines, without=()):
@@ -155,7 +155,7 @@ def devices(runner):
         for number in range(1, count + 1):
             for refused in (number, -number):
                 outcome, _ = runner.run(["--cache", "4"], SCRIPT, **{kind: refused})
-                runner.judge(f"{kind} {refused}", [], outcome, allowed)
+                runner.check(f"{kind} {refused}", [], outcome, allowed)
         print(f"each of {count} calls refused that are of {fault}", flush=True)
 
 
@@ -183,7 +183,7 @@ def chance(runner, folder, seconds):
             changed[number] = lines[number].replace(b"load ", b"load none-", 1)
             names = {line.split()[1] for line in changed if line.startswith(b"load none-")}
             allowed[f"without load {number}"] = (0, plain(where, "fi", changed, names), b"")
-        runner.judge(f"growth {refused} of {lines}", ["-f", "-i"], outcome, allowed)
+        runner.check(f"growth {refused} of {lines}", ["-f", "-i"], outcome, allowed)
 
 
 def main():

@@ -169,10 +169,10 @@ class PlainModule:
         return None
 
     def chain_of(self, link):
-        held = [scope for scope in self.scopes
+        containing = [scope for scope in self.scopes
                 if any(low <= link < high for low, high in scope.ranges)]
-        chain = [scope for scope in held if scope.tag == 0x2E][:1]
-        for scope in held:
+        chain = [scope for scope in containing if scope.tag == 0x2E][:1]
+        for scope in containing:
             if chain and scope.tag == 0x1D and chain[-1].index < scope.index < chain[-1].end:
                 chain.append(scope)
         return chain

@@ -29,7 +29,7 @@ class Session:
     """A run with options, which are given as letters, with `l` for linkage names."""
 
     def __init__(self, letters=""):
-        self.letters, self.modules, self.known = letters, {}, {}
+        self.letters, self.modules, self.parsed = letters, {}, {}
 
     def read(self, path):
         """Returns the module of a file, or its fault as a string."""
@@ -38,12 +38,12 @@ class Session:
                 data = file.read()
         except OSError as error:
             raise Refusal("file") from error
-        if data not in self.known:
+        if data not in self.parsed:
             try:
-                self.known[data] = PlainModule(data)
+                self.parsed[data] = PlainModule(data)
             except Fault as fault:
-                self.known[data] = str(fault)
-        return self.known[data]
+                self.parsed[data] = str(fault)
+        return self.parsed[data]
 
     def reply(self, line):
         """Returns the reply to a line."""
@@ -100,14 +100,14 @@ class Session:
         if base + module.high > TOP:
             raise Refusal("range")
         low, high = base + module.low, base + module.high
-        for other, other_base, known in self.rising():
-            if other != name and low < other_base + known.high and other_base + known.low < high:
+        for other, other_base, loaded in self.rising():
+            if other != name and low < other_base + loaded.high and other_base + loaded.low < high:
                 raise Refusal("overlap " + other.decode())
         self.modules[name] = (base, module)
 
     def rising(self):
         found = [(name, base, module) for name, (base, module) in self.modules.items()]
-        return sorted(found, key=lambda listed: listed[1] + listed[2].low)
+        return sorted(found, key=lambda item: item[1] + item[2].low)
 
     def at(self, done, name):
         base, module = self.modules[name]

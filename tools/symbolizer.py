@@ -45,7 +45,7 @@ class Answers:
 
     def frames(self, address):
         """Returns the function and the FILE:LINE of each frame of an address, innermost first;
-        empty if nothing is known."""
+        empty if the address is unknown."""
         if not 0 <= address < 1 << 64:
             return []
         lines = self.reply(f"{address:x}")

@@ -15,8 +15,8 @@ class Drawing(unittest.TestCase):
         self.assertEqual(linear_ticks(640_000), [0, 200_000, 400_000, 600_000, 800_000])
 
     def test_numbers_are_short(self):
-        told = {0: "0", 4: "4", 4096: "4,096", 20_000: "20k", 1_500_000: "1.5M", 10**7: "10M"}
-        self.assertEqual([number_text(number) for number in told], list(told.values()))
+        texts = {0: "0", 4: "4", 4096: "4,096", 20_000: "20k", 1_500_000: "1.5M", 10**7: "10M"}
+        self.assertEqual([number_text(number) for number in texts], list(texts.values()))
 
     def test_positions_are_linear_or_logarithmic(self):
         self.assertEqual(position(5, [0, 10], 100, 200, False), 150)

@@ -140,9 +140,9 @@ class LoadsOfProcess(unittest.TestCase):
         self.assertEqual(tool("loads_of_process", saved), f"load plain 0 {path}\n")
         self.assertEqual(tool("loads_of_process", "-", text=maps), f"load plain 0 {path}\n")
         words = [TOOLS / "loads_of_process", saved]
-        told = subprocess.run(words, capture_output=True, text=True, check=True).stderr
+        errors = subprocess.run(words, capture_output=True, text=True, check=True).stderr
         left_out = "loads_of_process: not read as an ELF object: "
-        self.assertEqual(told, f"{left_out}{path} (deleted)\n{left_out}{text}\n")
+        self.assertEqual(errors, f"{left_out}{path} (deleted)\n{left_out}{text}\n")
 
     def test_another_root_folder(self):
         """The files of a process with its own root folder are read and named below that folder."""
@@ -181,8 +181,8 @@ class LoadsOfProcess(unittest.TestCase):
         for line in loads(host.pid).values():
             live.say(line)
         asked = [start + byte for start in (host.here, work) for byte in range(12)]
-        told = output_of("eu-addr2line", "-p", host.pid, *map(hex, asked)).splitlines()
-        places = [":".join(line.split(":")[:2]) for line in told]
+        output = output_of("eu-addr2line", "-p", host.pid, *map(hex, asked)).splitlines()
+        places = [":".join(line.split(":")[:2]) for line in output]
         self.assertEqual([live.say(f"{address:x}")[0] for address in asked], places)
         self.assertTrue(places[0].startswith(f"{path}.c:"))
         self.assertTrue(places[-1].startswith(f"{library.with_suffix('.c')}:"))

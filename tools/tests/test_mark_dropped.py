@@ -68,8 +68,8 @@ class MarkDropped(unittest.TestCase):
     def marked(self, path):
         """Returns the marked copy of an object and the number of marked addresses."""
         copy = path.with_suffix(".marked")
-        told = re.fullmatch(r"marked (\d+) addresses\n", tool("mark_dropped", path, copy))
-        return copy, int(told[1])
+        output = re.fullmatch(r"marked (\d+) addresses\n", tool("mark_dropped", path, copy))
+        return copy, int(output[1])
 
     def answers(self, path):
         """Returns the answer of the program at each address of .text, relative to its start."""

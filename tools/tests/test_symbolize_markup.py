@@ -169,8 +169,8 @@ class SymbolizeMarkup(unittest.TestCase):
 
     def test_numbers(self):
         """Numbers are those of C: 0200000 is octal."""
-        known = {"0": 0, "0x1F": 31, "0X1f": 31, "010": 8, "12": 12, f"{LAST}": LAST}
-        self.assertEqual({text: number(text) for text in known}, known)
+        numbers = {"0": 0, "0x1F": 31, "0X1f": 31, "010": 8, "12": 12, f"{LAST}": LAST}
+        self.assertEqual({text: number(text) for text in numbers}, numbers)
         for text in ("", "0x", "-1", "+1", " 1", "1_0", "08", "zz", f"{LAST + 1}"):
             with self.assertRaises(ValueError):
                 number(text)

@@ -54,29 +54,29 @@ class SymbolizePerf(unittest.TestCase):
         self.product = next(address for address, text in code if "imul" in text)
         code = instructions(self.path, "main")
         call = next(number for number, (_, text) in enumerate(code) if "<spin>" in text)
-        self.behind_call = code[call + 1][0]
+        self.after_call = code[call + 1][0]
         self.source = f"{self.path}.c"
 
-    def frames(self, indent, product, behind):
+    def frames(self, indent, product, after):
         """Returns the frames of the product inside the call of `spin`."""
         return (
             f"{indent}{product} step ({self.source}:{STEP})\n"
             f"{indent}{product} spin ({self.source}:{SPIN})\n"
-            f"{indent}{behind} main ({self.source}:{MAIN})\n"
+            f"{indent}{after} main ({self.source}:{MAIN})\n"
         )
 
     def test_chains_by_offsets_of_the_file(self):
-        product, behind = f"{self.product - 0x400000:x}", f"{self.behind_call - 0x400000:x}"
+        product, after = f"{self.product - 0x400000:x}", f"{self.after_call - 0x400000:x}"
         text = f"{HEAD}\n\t  {product} spin+0x2b ({self.path})\n"
-        text += f"\t  {behind} main+0xe ({self.path})\n"
-        wanted = f"{HEAD}\n" + self.frames("\t  ", product, behind)
+        text += f"\t  {after} main+0xe ({self.path})\n"
+        wanted = f"{HEAD}\n" + self.frames("\t  ", product, after)
         self.assertEqual(tool("symbolize_perf", text=text), wanted)
 
     def test_chains_by_addresses_of_the_process(self):
-        product, behind = (f"{0x7f0000000000 + at:x}" for at in (self.product, self.behind_call))
+        product, after = (f"{0x7f0000000000 + at:x}" for at in (self.product, self.after_call))
         head = f"{mapped(0x7f0000401000, self.path)}{HEAD}\n"
-        text = f"{head}\t{product} [unknown] ([unknown])\n\t{behind} main+0xe ({self.path})\n"
-        wanted = head + self.frames("\t", product, behind)
+        text = f"{head}\t{product} [unknown] ([unknown])\n\t{after} main+0xe ({self.path})\n"
+        wanted = head + self.frames("\t", product, after)
         self.assertEqual(tool("symbolize_perf", text=text), wanted)
 
     def test_samples_without_chains_by_saved_maps(self):

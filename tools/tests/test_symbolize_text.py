@@ -206,10 +206,11 @@ class SymbolizeText(unittest.TestCase):
         asked = [address for address, _ in instructions(path, "shown")]
         text = "".join(f"{path}+0x{address:x}\n" for address in asked)
         shown = re.sub(r"\n \(inlined by\) ", " <- ", tool("symbolize_text", text=text))
-        told = output_of("addr2line", "-f", "-i", "-p", "-e", path, *map(hex, asked))
-        told = re.sub(r"\n \(inlined by\) ", " <- ", re.sub(r" \(discriminator \d+\)", "", told))
+        output = output_of("addr2line", "-f", "-i", "-p", "-e", path, *map(hex, asked))
+        output = re.sub(r" \(discriminator \d+\)", "", output)
+        output = re.sub(r"\n \(inlined by\) ", " <- ", output)
         wanted = [f"{path}+0x{address:x} {frames}"
-                  for address, frames in zip(asked, told.splitlines())]
+                  for address, frames in zip(asked, output.splitlines())]
         self.assertEqual(shown.splitlines(), wanted)
 
 
