@@ -7,8 +7,8 @@ use dwarf_samples::*;
 use io_streams::{FetchFault, Objects};
 use std::alloc::{AllocError, Global};
 
-/// A source of the sample objects. Contracts cannot name its requests, since it does not store them:
-/// a source that stores all of them must never run out of memory. `Recorder` stores them.
+/// A source of the sample objects. Contracts cannot name its requests, since it does not store
+/// them: a source that stores all of them must never run out of memory. `Recorder` stores them.
 #[derive(Drop)]
 pub struct Shelf {
     alloc: Global,

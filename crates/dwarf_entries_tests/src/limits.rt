@@ -1,4 +1,4 @@
-//! The limits on what is read for an object, and large objects.
+//! Limits of the reader, and large objects.
 
 use crate::fixtures::*;
 use dwarf_bytes::{Cause, LoadFault, Section};

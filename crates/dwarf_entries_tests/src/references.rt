@@ -8,12 +8,12 @@ use std::process::Abort;
 use std::test::*;
 
 /// Builds a chain of subprograms from offset 13 on. Each except the last refers to the next one,
-/// with `hops` references in all. The last is named `z`.
-fn linked(rt: &(impl Abort + AllocGlobal), hops: u8) -> Vec<u8> {
+/// with `count` references in all. The last is named `z`.
+fn linked(rt: &(impl Abort + AllocGlobal), count: u8) -> Vec<u8> {
     let mut entries = Vec::new(rt.alloc());
     put(rt, &mut entries, &[1]);
-    for hop in 1..=hops {
-        let next = hop.saturating_mul(5).saturating_add(13);
+    for number in 1..=count {
+        let next = number.saturating_mul(5).saturating_add(13);
         put(rt, &mut entries, &[2, next, 0, 0, 0]);
     }
     put(rt, &mut entries, &[3, 0x7a, 0, 0]);
@@ -36,7 +36,7 @@ fn linked_subprograms(rt: HostRuntime) {
 }
 
 #[test]
-fn one_hop_too_many(rt: HostRuntime) {
+fn one_reference_too_many(rt: HostRuntime) {
     let info = linked(&rt, 17);
     is_refused(&rt, &sections(&info, &LINKED), Cause::OriginDepth, 13);
 }

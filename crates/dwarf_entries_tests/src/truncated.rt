@@ -21,7 +21,7 @@ fn start(bytes: &[u8], size: usize) -> &[u8] {
     bytes.get(..size).unwrap_or(&[])
 }
 
-/// Checks the fault of sections, one of which is truncated to this size.
+/// Checks the fault of sections after one is truncated to this size.
 fn is_cut(
     rt: &(impl Abort + AllocGlobal),
     size: usize,

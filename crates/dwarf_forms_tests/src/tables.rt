@@ -30,7 +30,7 @@ fn read(rt: &(impl Abort + AllocGlobal), section: &[u8], left: &mut u64) -> Abbr
     }
 }
 
-/// Checks the names and forms of a declaration's attributes, none of which has a constant.
+/// Checks the names and forms of a declaration's attributes, and that none has a constant.
 fn has_attributes(rt: &impl Abort, decl: &Decl, wanted: &[(u64, u64)]) {
     for (attribute, pair) in decl.attributes().iter().zip(wanted) {
         let (name, form) = *pair;

@@ -39,8 +39,7 @@ bounds_at line place = do
 abbrev pub standard_lengths : List ℕ
 standard_lengths = 0 ∷ 1 ∷ 1 ∷ 1 ∷ 1 ∷ 0 ∷ 0 ∷ 0 ∷ 1 ∷ 0 ∷ 0 ∷ 1 ∷ []
 
--- whether the operand counts, from opcode 1 on, agree with those of the standard opcodes (our
--- choice)
+-- whether the operand counts, from opcode 1 on, equal the standard's (our choice)
 abbrev pub are_standard : List ℕ → Bool
 are_standard lengths = list_all (λ pair. pair.0 == pair.1) (zip lengths standard_lengths)
 

@@ -41,7 +41,7 @@ pub fn rows_have_paths()
     ensures { (s : LineSections) (lines : Lines) → lines_in s ≡ Ok lines → HavePaths lines }
 {}
 
-/// The rows of a program precede those of the next one.
+/// The rows of a program precede the rows of the next program.
 pub fn rows_are_in_order_of_programs()
     ensures { (s : LineSections) (lines : Lines) → lines_in s ≡ Ok lines
         → IsNonDecreasingBy (λ (row : Row). row.program.0) lines.rows }

@@ -1,7 +1,7 @@
 //! The second object.
 
-/// The first object with two sequences of rows for the same addresses, of which the later never
-/// shows. The first changes its line twice at 0x1000.
+/// The first object with two sequences of rows for the same addresses. The later one never answers.
+/// The first changes its line twice at 0x1000.
 pub fn two_sequences() -> [u8; 725] {
     TWO_SEQUENCES
 }

@@ -1,7 +1,7 @@
 //! The third object.
 
-/// The first object with a unit and a line program of the 64-bit DWARF format (DWARF 5, 7.4). It has
-/// 731 bytes: `.debug_info` is at 163 with 112 bytes, `.debug_line` at 275 with 87.
+/// The first object with a unit and a line program of the 64-bit DWARF format (DWARF 5, 7.4). It
+/// has 731 bytes: `.debug_info` is at 163 with 112 bytes, `.debug_line` at 275 with 87.
 pub fn format_of_64_bits() -> [u8; 731] {
     FORMAT_OF_64_BITS
 }

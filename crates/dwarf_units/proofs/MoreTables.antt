@@ -135,8 +135,8 @@ cached-too-long section tables number len memoized d offset left read all at sam
         λ z. Ok z in f x ≡ f y) → x ≡ y
     same-ok h = cc
 
--- If no cached table is at an offset and format, none is at those of the table that was parsed
--- there.
+-- If no cached table is at an offset and format, none is at the offset and format of the table that
+-- was parsed there.
 pub elsewhere-as : (table : Table) (format : Format) (offset : ℕ) (tables : List Table)
     → table.offset ≡ offset → table.format ≡ format → AreElsewhere format offset tables
     → AreElsewhere table.format table.offset tables

@@ -130,7 +130,7 @@ first-scope (x ∷ xs) y ys low =
     let lt : y.at < x.at = low x xs refl in
     let is : nat_le x.at y.at ≡ false = grind (arith, nat_tests) in rw is refl
 
--- the endpoint in front of the rest of a list
+-- the endpoint before the rest of a list
 in-front : (ends : List End) (n : ℕ) (e : End) (later : List End) (d : End) → drop n ends
     ≡ e ∷ later
     → (n < length ends) × (get_or ends n d ≡ e) × (drop (n + 1) ends ≡ later)

@@ -10,7 +10,7 @@ use Rattle.addr_table.specs.Segments.{is_nonempty}
 use Rattle.addr_table.specs.Rows.{Cover, covers_from}
 use Rattle.addr_table.specs.Private.RowOrder.{covering_from, sequence_from, starts_from}
 
--- ---- a row in front of the rest
+-- ---- a row before the rest
 
 pub in-front : (n : ℕ) (rows : List Row) (row : Row) (later : List Row) (d : Row)
     → drop n rows ≡ row ∷ later → (get_or rows n d ≡ row) × (drop (suc n) rows ≡ later)

@@ -35,8 +35,8 @@ abbrev pub row_frame : Bool → List ℕ → Site → List Frame
 row_frame true bytes site = frame_at bytes None None site ∷ []
 row_frame false bytes site = []
 
--- the remaining frames of a walk over a chain: those of the scope of `code` and its enclosing
--- scopes
+-- the remaining frames of a walk over a chain: the frames of the scope of `code` and of its
+-- enclosing scopes
 abbrev pub walk_left : List ℕ → Lines → List Scope → ℕ → ℕ → FrameSite → Bool → List Frame
 walk_left bytes lines scopes link code site alone =
     let here = site_view bytes lines scopes site in

@@ -120,7 +120,7 @@ module _ (s : LineSections) (format : Format) (table : EntryTable) where
       repeated-same _ _ (λ b p. entry-with-bytes fields (valid (omega arith)) b p) (suc count) bytes
       place
 
--- The items that a step reads are also those of another step with the same result.
+-- Another step with the same result reads the same items.
 pub reads-same : {X : Type 0} (result : Result (Vec X Global) Cause)
     (f g : List ℕ → ℕ → Result (List X × ℕ) Cause) (old new : Position)
     → f old.bytes old.place ≡ g old.bytes old.place → ReadsItems result f old new

@@ -95,7 +95,7 @@ module _ (e : Encoding) (o : Origin) (bytes : List ℕ) (total : Result (List Ro
       → line_reach i ≤ 2 ^ 62 * (after - place)
       → IsRunning e o bytes total before (suc steps) place old rows
       → IsRunning e o bytes total (i ∷ before) steps after new (rows ++ row)
-  goes_on steps place after i old new rows row lt moves h makes registers within reach run = record {
+  goes_on steps place after i old new rows row lt moves h makes registers bound reach run = record {
     registers = registers;
     enough = let enough = run.enough in omega arith;
     outcome = sym (front-front rows row (matrix_after e o (i ∷ before)

@@ -72,7 +72,7 @@ used_by value = record {
 abbrev pub used_among : List Attribute → Used
 used_among attributes = used_by (λ name. value_of attributes (name_of name))
 
--- The used attributes of `front`, completed by those of a list that are missing in it.
+-- The used attributes of `front`, and from a list the used attributes that `front` lacks.
 unfoldable pub with_used : Used → List Attribute → Used
 with_used front attributes =
     used_by (λ name. option_or (value_named name front) (value_of attributes (name_of name)))
