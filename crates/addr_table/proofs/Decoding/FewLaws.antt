@@ -100,13 +100,14 @@ pub elf-small : (bytes : List ℕ) → elf_fault bytes ≡ None → length bytes
 unfolding elf_items
 elf-small bytes none = cases (is_too_long bytes) refl _ _ none
   where
+    impossible : (fault : LoadFault) → Some fault ≡ None → ⊥
+    impossible fault is = cc
+
     cases : (b : Bool) → is_too_long bytes ≡ b → (tests : List (Bool × Cause))
         → (items : List Item)
         → first_fault names.Elf (record { at = 0; tests = (b, causes.TooMany) ∷ tests } ∷ items)
         ≡ None → length bytes ≤ 2 ^ 30
 
-    impossible : (fault : LoadFault) → Some fault ≡ None → ⊥
-    impossible fault is = cc
     cases true long tests items is = absurd (impossible _ is)
     cases false short tests items is = ltb-false _ _ short
 
