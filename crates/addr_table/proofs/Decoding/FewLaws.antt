@@ -107,7 +107,6 @@ elf-small bytes none = cases (is_too_long bytes) refl _ _ none
         → (items : List Item)
         → first_fault names.Elf (record { at = 0; tests = (b, causes.TooMany) ∷ tests } ∷ items)
         ≡ None → length bytes ≤ 2 ^ 30
-
     cases true long tests items is = absurd (impossible _ is)
     cases false short tests items is = ltb-false _ _ short
 
