@@ -14,6 +14,7 @@ use Rattle.dwarf_bytes.specs.declared.fault.Cause.TheVariants as causes
 use Rattle.dwarf_bytes.specs.declared.fault.Section.TheVariants as names
 use Rattle.dwarf_bytes.specs.Faults.{Item, first_fault}
 use Rattle.dwarf_bytes.specs.Elf.{layout, elf_fault, is_too_long, elf_items}
+use Rattle.dwarf_bytes.specs.Elf.{header_tests, load_items, section_items}
 use Rattle.dwarf_bytes.specs.declared.layout.Layout.{Layout}
 use Rattle.dwarf_lines.specs.declared.row.Row.{Row}
 use Rattle.dwarf_entries.specs.declared.scope.Range.{Range}
@@ -98,7 +99,9 @@ reaches-few rows scopes =
 -- an object that passes the first test of its header has at most 2^30 bytes
 pub elf-small : (bytes : List ℕ) → elf_fault bytes ≡ None → length bytes ≤ 2 ^ 30
 unfolding elf_items
-elf-small bytes none = cases (is_too_long bytes) refl _ _ none
+elf-small bytes none =
+    cases (is_too_long bytes) refl (drop 1 (header_tests bytes))
+    (load_items bytes ++ section_items bytes) none
   where
     impossible : (fault : LoadFault) → Some fault ≡ None → ⊥
     impossible fault is = cc
