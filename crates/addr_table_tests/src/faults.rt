@@ -45,6 +45,10 @@ fn samples_with_a_fault(rt: HostRuntime) {
         0,
     );
     is_refused(&rt, &origin_of_no_entry(), info, Cause::Reference, 54);
+}
+
+#[test]
+fn objects_without_a_file_header(rt: HostRuntime) {
     is_refused(&rt, &[], Section::Elf, Cause::NotElf, 0);
     is_refused(&rt, &inlined()[..63], Section::Elf, Cause::NotElf, 0);
 }

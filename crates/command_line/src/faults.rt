@@ -8,6 +8,9 @@ use clap::error::ErrorKind;
 use std::alloc::{AllocError, AllocFailed};
 use thiserror::Error;
 
+/// The words before an argument that is no address.
+pub const BAD_ADDRESS: &str = "bad address";
+
 /// The reason for refusing the arguments of a command line.
 #[derive(Debug, Drop, Error)]
 pub enum CliFault<'a> {
@@ -15,7 +18,7 @@ pub enum CliFault<'a> {
     #[error("{0}")]
     Usage(clap::Error),
     /// The first positional argument that is not an address.
-    #[error("bad address {0}")]
+    #[error("{refused} {0}", refused = BAD_ADDRESS)]
     Address(&'a str),
     /// Memory ran out.
     #[error("no memory")]

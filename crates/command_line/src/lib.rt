@@ -10,6 +10,6 @@ mod numbers;
 mod settings;
 mod words;
 
-pub use faults::CliFault;
+pub use faults::{BAD_ADDRESS, CliFault};
 pub use numbers::parse_number;
 pub use settings::options;

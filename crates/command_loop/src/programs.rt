@@ -2,39 +2,34 @@
 //! Faults are reported on standard error.
 
 use crate::run_loop::run;
-use answer_text::{Pending, write_texts};
+use answer_text::write_texts;
+use arrayvec::ArrayString;
 use clap::Error;
-use command_line::{CliFault, options};
+use command_line::{BAD_ADDRESS, CliFault, options};
 use io_streams::{DeviceFault, Feed, Objects, RunFault, Sink};
 use std::alloc::Global;
-use std::fmt;
-use std::fmt::{Display, Write};
+use std::fmt::Write;
 
-/// A message to standard error, which is formatted into a buffer.
-#[derive(Drop)]
-struct Message<'e, E: Sink> {
-    pending: Pending,
-    errors: &'e mut E,
+/// The prefix of each message on standard error.
+const NAME: &[u8] = b"addr2line_live: ";
+
+/// The capacity for the message of a run fault. The longest message is the refusal of an object,
+/// with at most 73 bytes.
+const LONGEST_MESSAGE: usize = 128;
+
+/// Writes a fault to standard error. A failed write is ignored.
+fn report<E: Sink>(fault: RunFault, errors: &mut E) {
+    let mut message = ArrayString::<LONGEST_MESSAGE>::new();
+    let _ = write!(message, "{fault}");
+    let _ = write_texts(&[NAME, message.as_bytes(), b"\n"], errors);
+    let _ = errors.flush();
 }
 
-impl<'e, E: Sink> fmt::Write for Message<'e, E> {
-    fn write_str(&mut self, text: &str) -> fmt::Result {
-        match self.pending.put(text.as_bytes(), self.errors) {
-            Ok(()) => Ok(()),
-            Err(_) => Err(fmt::Error),
-        }
-    }
-}
-
-/// Writes a fault to standard error, after the program's name. A failed write is ignored.
-fn report<F: Display, E: Sink>(fault: &F, errors: &mut E) {
-    let mut message = Message {
-        pending: Pending::new(),
-        errors,
-    };
-    let _ = write!(message, "addr2line_live: {fault}\n");
-    let _ = message.pending.send(message.errors);
-    let _ = message.errors.flush();
+/// Writes an argument that is no address to standard error. A failed write is ignored.
+fn report_address<E: Sink>(word: &str, errors: &mut E) {
+    let texts = [NAME, BAD_ADDRESS.as_bytes(), b" ", word.as_bytes(), b"\n"];
+    let _ = write_texts(&texts, errors);
+    let _ = errors.flush();
 }
 
 /// Writes a string and flushes.
@@ -52,7 +47,7 @@ fn show_usage<W: Sink, E: Sink>(
     errors: &mut E,
 ) -> u8 {
     let Ok(text) = format!(in alloc; "{error}") else {
-        report(&CliFault::Memory, errors);
+        report(RunFault::Memory, errors);
         return 2;
     };
     if error.use_stderr() {
@@ -60,7 +55,7 @@ fn show_usage<W: Sink, E: Sink>(
         return 2;
     }
     if show(&text, writer).is_err() {
-        report(&RunFault::Writing, errors);
+        report(RunFault::Writing, errors);
         return 1;
     }
     0
@@ -81,15 +76,19 @@ pub fn program<R: Feed, W: Sink, E: Sink, O: Objects>(
     let options = match options(alloc, words) {
         Ok(options) => options,
         Err(CliFault::Usage(error)) => return show_usage(alloc, &error, writer, errors),
-        Err(fault) => {
-            report(&fault, errors);
+        Err(CliFault::Address(word)) => {
+            report_address(word, errors);
+            return 2;
+        }
+        Err(CliFault::Memory) => {
+            report(RunFault::Memory, errors);
             return 2;
         }
     };
     match run(alloc, &options, reader, writer, source) {
         Ok(()) => 0,
         Err(fault) => {
-            report(&fault, errors);
+            report(fault, errors);
             1
         }
     }
