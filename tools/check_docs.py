@@ -100,7 +100,7 @@ def options_and_commands():
     """Yields faults in the options and commands of the manual page and the README."""
     readme, command = README.read_text(), source("command_line", "command.rt")
     flags = {name: letter for letter, name in re.findall(r"'(\w)',\s+\"([a-z-]+)\"", command)}
-    named = re.findall(r"(?:\.short\('(\w)'\)\s+)?\.long\(\"(\w+)\"\)", command)
+    named = re.findall(r"(?:\.short\('(\w)'\)\s+)?\.long\(\"([a-z-]+)\"\)", command)
     for option, letter in {**flags, **{name: letter for letter, name in named}}.items():
         if f"--{option}" not in part("OPTIONS").replace("\\", ""):
             yield f"{PAGE.name}: the option --{option} is not explained"
@@ -179,6 +179,15 @@ def names():
                 yield f"{document.name}: no source has the name {name}"
 
 
+def paths():
+    """Yields the paths in backticks that do not exist. A path with capitals stands for many."""
+    named = re.compile(r"`((?:crates|edits|tools|bench|docs)/[a-z0-9_./-]+)`")
+    for document in documents():
+        for path in named.findall(document.read_text()):
+            if not (TOP / path).exists():
+                yield f"{document.name}: there is no {path}"
+
+
 def targets():
     """Yields the missing targets of make that documents name."""
     found = set(re.findall(r"^([a-z-]+):", (TOP / "Makefile").read_text(), re.MULTILINE))
@@ -230,8 +239,8 @@ def formatting():
 
 
 def main():
-    checks = (causes, refusals, options_and_commands, versions, definitions, names, targets,
-              examples, formatting)
+    checks = (causes, refusals, options_and_commands, versions, definitions, names, paths,
+              targets, examples, formatting)
     found = [fault for check in checks for fault in check()]
     print(*found, sep="\n", end="\n" if found else "")
     print(f"check-docs: {len(found)} faults")

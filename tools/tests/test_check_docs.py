@@ -79,6 +79,11 @@ class CheckDocs(unittest.TestCase):
                      "SECURITY.md: no source has the name sent",
                      "SECURITY.md: no source has the name told")
 
+    def test_missing_path(self):
+        text = (self.top / "CONTRIBUTING.md").read_text()
+        self.write("CONTRIBUTING.md", f"{text}\nSee `crates/dwarf_bytes/src/none.rt`.\n")
+        self.reports("CONTRIBUTING.md: there is no crates/dwarf_bytes/src/none.rt")
+
     def test_missing_cause_of_the_manual_page(self):
         entry = ".TP\n.B two\\-roots\nA unit has two entries at depth 0.\n"
         self.replace("addr2line_live.1", entry, "")
