@@ -18,7 +18,7 @@ fn with_sections(alloc: Global, info: &[u8], line: &[u8]) -> Result<Vec<u8>, All
     let at_line = info.len().saturating_add(163);
     let at_names = line.len().saturating_add(at_line);
     let mut bytes = Vec::new(alloc);
-    bytes.extend_from_slice(&sample[..40])?;
+    bytes.extend_from_slice(&sample[0..40])?;
     // e_shoff
     put(&mut bytes, at_names.saturating_add(49))?;
     bytes.extend_from_slice(&sample[48..163])?;

@@ -72,7 +72,7 @@ impl Objects for Shelf {
         let object = match path {
             "B" => two_sequences().to_vec(self.alloc),
             "empty" => Ok(Vec::new(self.alloc)),
-            "cut" => inlined()[..63].to_vec(self.alloc),
+            "cut" => inlined()[0..63].to_vec(self.alloc),
             "wide" => format_of_64_bits().to_vec(self.alloc),
             "wide unit" => wide_unit(self.alloc),
             "both units" => both_units(self.alloc),
