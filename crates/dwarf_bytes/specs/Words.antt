@@ -71,7 +71,22 @@ cause_word causes.Base = codes "base"
 cause_word causes.Reference = codes "reference"
 cause_word causes.OriginDepth = codes "origin-depth"
 cause_word causes.Children = codes "children"
-cause_word cause = range_or_line_word cause
+cause_word causes.RangeBackwards = range_or_line_word causes.RangeBackwards
+cause_word causes.Overflow = range_or_line_word causes.Overflow
+cause_word causes.PcAndRanges = range_or_line_word causes.PcAndRanges
+cause_word causes.RangeKind = range_or_line_word causes.RangeKind
+cause_word causes.LineParams = range_or_line_word causes.LineParams
+cause_word causes.OpcodeLengths = range_or_line_word causes.OpcodeLengths
+cause_word causes.Extended = range_or_line_word causes.Extended
+cause_word causes.FileFormat = range_or_line_word causes.FileFormat
+cause_word causes.DirIndex = range_or_line_word causes.DirIndex
+cause_word causes.FileIndex = range_or_line_word causes.FileIndex
+cause_word causes.GoesBack = range_or_line_word causes.GoesBack
+cause_word causes.SequenceOpen = range_or_line_word causes.SequenceOpen
+cause_word causes.StmtList = range_or_line_word causes.StmtList
+cause_word causes.CallFile = range_or_line_word causes.CallFile
+cause_word causes.TooMany = range_or_line_word causes.TooMany
+cause_word causes.LineRange = range_or_line_word causes.LineRange
 
 -- the cause that corresponds to a read fault
 abbrev pub cause_of : ReadFault → Cause
