@@ -95,7 +95,7 @@ static long calls_of(pid_t program) {
     return sum;
 }
 
-// Returns the peak memory of a process in megabytes.
+// Returns the peak memory of a process in MiB.
 static long peak_of(pid_t program) {
     char path[64], line[128];
     long kilobytes = 0;
@@ -155,7 +155,7 @@ int main(int argc, char **argv) {
     printf("%.0f answers a second", asked / (done - loaded));
     if (calls) printf(", %.2f reads and writes an answer", (double)calls / asked);
     printf(", first answer after %.0f ms", 1000 * (loaded - begin));
-    if (peak) printf(", peak %ld MB", peak);
+    if (peak) printf(", peak %ld MiB", peak);
     printf(", %zu bytes\n", answered);
     kill(program, 9);
     return 0;

@@ -46,7 +46,7 @@ def load_figures(paths):
         used, = least_in_turns([lambda: usage([PROGRAM, "-e", path])], TURNS)
         figures.append((size, used.milliseconds / size))
         print(f"{size:.1f} MB: {used.milliseconds:.1f} ms, {figures[-1][1]:.2f} ms a megabyte,"
-              f" peak {used.megabytes:.0f} MB")
+              f" peak {used.mebibytes:.0f} MiB")
     return figures
 
 

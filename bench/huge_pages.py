@@ -21,7 +21,7 @@ def main():
     plain, huge = least_in_turns(runs, TURNS)
     figures = [
         ("processor time of reading and loading", plain.milliseconds, huge.milliseconds, " ms"),
-        ("memory for reading and loading", plain.megabytes, huge.megabytes, " MB"),
+        ("memory for reading and loading", plain.mebibytes, huge.mebibytes, " MiB"),
         ("page faults for reading and loading", plain.faults, huge.faults, ""),
     ]
     for name, without, with_them, unit in figures:

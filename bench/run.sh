@@ -44,7 +44,7 @@ compare() {
     }'
 }
 
-# Prints the peak memory of a command in megabytes, and the number of its page faults.
+# Prints the peak memory of a command in MiB, and the number of its page faults.
 peak() {
     python3 -c 'import resource, subprocess, sys
 subprocess.run(sys.argv[1:], stdout=subprocess.DEVNULL, check=True)
@@ -67,8 +67,8 @@ compare_peaks() {
     read -r memory faults <<< "$(peak "$measure" "$command" "$object")"
     read -r plain_memory plain_faults <<< "$(peak "out/$plain" "$object")"
     read -r earlier_memory earlier_faults <<< "$(peak "out/earlier/$plain" "$object")"
-    echo "memory for $what: $memory MB, plain C $plain_memory MB," \
-        "earlier plain C $earlier_memory MB"
+    echo "memory for $what: $memory MiB, plain C $plain_memory MiB," \
+        "earlier plain C $earlier_memory MiB"
     echo "page faults for $what: $faults, plain C $plain_faults, earlier plain C $earlier_faults"
 }
 
@@ -108,7 +108,7 @@ measure_program 'a C++ program of 162 MB' out/objects/huge
 for peer in 'llvm-dwarfdump --debug-info' 'readelf --debug-dump=info'; do
     if command -v "${peer%% *}" > /dev/null; then
         read -r memory _ <<< "$(peak $peer out/objects/large)"
-        echo "$peer of a C++ program: $(duration $peer out/objects/large) ms, $memory MB"
+        echo "$peer of a C++ program: $(duration $peer out/objects/large) ms, $memory MiB"
     fi
 done
 "$measure" declarations out/objects/large

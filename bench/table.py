@@ -30,13 +30,13 @@ COLUMNS = {
 }
 NAMES = "|".join(COLUMNS)
 FIGURES = re.compile(
-    r"(?P<what>.+?):? +(?P<ours>\d+)(?P<unit> ms| MB|)"
-    rf"(?P<others>(?:, (?:{NAMES}) +\d+(?: ms| MB|))+)(?:, ratio .*)?"
+    r"(?P<what>.+?):? +(?P<ours>\d+)(?P<unit> ms| MiB|)"
+    rf"(?P<others>(?:, (?:{NAMES}) +\d+(?: ms| MiB|))+)(?:, ratio .*)?"
 )
 OTHER = re.compile(rf"({NAMES}) +(\d+)")
 ANSWERS = re.compile(
     r"  (?P<program>.*?) {2,}(?P<rate>\d+) answers a second(?:, [\d.]+ reads and writes an answer)?"
-    r", first answer after (?P<first>\d+) ms(?:, peak (?P<peak>\d+) MB)?"
+    r", first answer after (?P<first>\d+) ms(?:, peak (?P<peak>\d+) MiB)?"
 )
 HEADING = re.compile(r"(?P<object>\w+), (?P<how>batch|pingpong)(?P<options>, .*)?")
 AGAIN = "sixteen addresses again and again"
@@ -85,7 +85,7 @@ def rows(lines):
             put(f"answers a second: {asked}", "", "more", program, answers["rate"])
             put(f"first answer: {asked}", "ms", "less", program, answers["first"])
             if answers["peak"]:
-                put(f"memory: {asked}", "MB", "less", program, answers["peak"])
+                put(f"memory: {asked}", "MiB", "less", program, answers["peak"])
     return table
 
 

@@ -8,7 +8,7 @@ class Usage:
 
     def __init__(self, used):
         self.milliseconds = 1000 * (used.ru_utime + used.ru_stime)
-        self.megabytes = used.ru_maxrss / 1024
+        self.mebibytes = used.ru_maxrss / 1024
         self.faults = used.ru_minflt
 
 

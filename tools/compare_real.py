@@ -91,7 +91,7 @@ def loaded(program, measure, name, original, folder):
         return None
     used, = least_in_turns([lambda: usage([measure, "module", path])], TURNS)
     print(f"{name}: {path.stat().st_size / 1e6:.1f} MB, load {used.milliseconds / 1000:.3f} s,"
-          f" {used.megabytes:.0f} MB of memory", flush=True)
+          f" {used.mebibytes:.0f} MiB of memory", flush=True)
     return path
 
 
