@@ -53,7 +53,6 @@ commands=(
     "load plugin 0x7f0000000000 $object"
     list
     'move plugin 0x7f0000200000'
-    "$(at 0x7f0000000000 "$inlined")"
     "$(at 0x7f0000200000 "$inlined")"
     'unload plugin'
     "$(at 0x7f0000200000 "$inlined")"
