@@ -5,7 +5,8 @@ ghost use Rattle.std.specs.Prelude.{if◌then◌else◌};
 ghost use Rattle.std.specs.List.{list_all};
 ghost use Rattle.io_streams.specs.Streams.{Writes, failures_after};
 ghost use Rattle.answer_text.specs.Pending.{Puts};
-ghost use Rattle.answer_text.specs.Printable.{is_control, printable, text_or_unknown, borrowed_text};
+ghost use Rattle.answer_text.specs.Printable.{is_control, printable, text_or_unknown};
+ghost use Rattle.answer_text.specs.Printable.{borrowed_text};
 
 use arrayvec::ArrayVec;
 use io_streams::{DeviceFault, Sink};

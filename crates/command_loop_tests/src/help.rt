@@ -34,8 +34,8 @@ BASE and ADDR are hexadecimal, with or without 0x. NAME has letters, digits, '_'
 A command that fails gets a reply that begins with refused, and changes nothing.
 
 Example:
-  $ printf 'load app 0x400000 ./app\\n401136\\n' | addr2line_live -f -i
-  loaded app 0x0000000000400000-0x0000000000404030
+  $ printf 'load app 0x550000000000 ./app\\n550000001136\\n' | addr2line_live -f -i
+  loaded app 0x0000550000000000-0x0000550000004030
   square
   /home/me/app.c:3
   main
