@@ -34,7 +34,7 @@ READERS = readelf objdump nm addr2line llvm-symbolizer llvm-dwarfdump
 help:
 	@echo 'make try          compiles the program without proving it, and runs it on an example'
 	@echo 'make demo         builds the program and runs it on an example'
-	@echo 'make test         runs CI: every proof, must-fail edit, test and program (some 40 minutes)'
+	@echo 'make test         runs CI: every proof, must-fail edit, test and program (30 to 50 minutes)'
 	@echo 'make program      builds the program, $(PROGRAM)'
 	@echo 'make install      installs it, its manual page, docs/PROTOCOL.md and its tools in PREFIX'
 	@echo '                  ($(PREFIX))'
