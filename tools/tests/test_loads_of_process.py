@@ -1,4 +1,5 @@
 """Tests the bases of objects of real processes, and a library that is loaded and unloaded."""
+import os
 import shutil
 import subprocess
 import sys
@@ -159,6 +160,17 @@ class LoadsOfProcess(unittest.TestCase):
             mapping = Mapping(start, start + PAGE, page * PAGE, "object")
             self.assertEqual(base_of(mapping, [segment]), base)
         self.assertIsNone(base_of(Mapping(base, base + PAGE, 4 * PAGE, "object"), [segment]))
+
+    def test_reader_that_leaves(self):
+        """A reader that stops early, such as head, causes no message."""
+        with subprocess.Popen(["true"], stdin=subprocess.PIPE) as reader:
+            reader.wait()
+            loads = subprocess.run(
+                [TOOLS / "loads_of_process", str(os.getpid())],
+                stdout=reader.stdin,
+                stderr=subprocess.PIPE,
+            )
+        self.assertEqual((loads.returncode, loads.stderr), (1, b""))
 
     def test_separate_debug_files(self):
         """A stripped program is loaded from its debug file, at its own base."""
