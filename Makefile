@@ -22,6 +22,7 @@ TEST_PROGRAM = $(or $(TESTS),crates/command_loop_tests/out/command_loop_tests_te
 INSTALLED = $(DESTDIR)$(PREFIX)
 LIBEXEC = $(INSTALLED)/libexec/addr2line_live
 DOCUMENTS = $(INSTALLED)/share/doc/addr2line_live
+COMPLETIONS = $(INSTALLED)/share/bash-completion/completions
 DIST = out/addr2line_live-$(shell cat VERSION)
 INSTALLED_TOOLS = addr2line load_of_kernel loads_of_process mark_dropped symbolize_markup \
     symbolize_perf symbolize_text
@@ -36,8 +37,8 @@ help:
 	@echo 'make demo         builds the program and runs it on an example'
 	@echo 'make test         runs CI: every proof, must-fail edit, test and program (30 to 50 minutes)'
 	@echo 'make program      builds the program, $(PROGRAM)'
-	@echo 'make install      installs it, its manual page, docs/PROTOCOL.md and its tools in PREFIX'
-	@echo '                  ($(PREFIX))'
+	@echo 'make install      installs it, its manual page, completion for bash, docs/PROTOCOL.md and tools'
+	@echo '                  in PREFIX ($(PREFIX))'
 	@echo 'make uninstall    removes what make install installs in PREFIX'
 	@echo 'make dist         packs the program, its page, docs/PROTOCOL.md, tools and licenses into'
 	@echo '                  $(DIST).tar.gz'
@@ -111,6 +112,7 @@ program:
 install: program
 	install -D -m 755 $(PROGRAM) $(INSTALLED)/bin/addr2line_live
 	install -D -m 644 addr2line_live.1 $(INSTALLED)/share/man/man1/addr2line_live.1
+	install -D -m 644 completions/addr2line_live.bash $(COMPLETIONS)/addr2line_live
 	install -D -m 644 docs/PROTOCOL.md $(DOCUMENTS)/PROTOCOL.md
 	for tool in $(INSTALLED_TOOLS); do \
 	    install -D -m 755 tools/$$tool $(LIBEXEC)/$$tool || exit; done
@@ -121,7 +123,7 @@ install: program
 # the folders of this program if they are empty then.
 uninstall:
 	rm -f $(INSTALLED)/bin/addr2line_live $(INSTALLED)/share/man/man1/addr2line_live.1 \
-	    $(DOCUMENTS)/PROTOCOL.md $(INSTALLED_TOOLS:%=$(LIBEXEC)/%) \
+	    $(COMPLETIONS)/addr2line_live $(DOCUMENTS)/PROTOCOL.md $(INSTALLED_TOOLS:%=$(LIBEXEC)/%) \
 	    $(INSTALLED_MODULES:%=$(LIBEXEC)/%.py) $(INSTALLED_MODULES:%=$(LIBEXEC)/__pycache__/%.*.pyc)
 	for folder in $(LIBEXEC)/__pycache__ $(LIBEXEC) $(DOCUMENTS); do \
 	    [ ! -d $$folder ] || rmdir --ignore-fail-on-non-empty $$folder || exit; done

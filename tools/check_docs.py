@@ -6,7 +6,8 @@
   groff must format it without a warning.
 - Each cause must have a doc comment in the source.
 - The README must name each option and command.
-- The manual page and the changelog must name the version in VERSION.
+- The program, the manual page and the changelog must name the version in VERSION.
+- The completion for bash must have the options of the manual page, and no others.
 - Each definition that docs/ARCHITECTURE.md names with its file, each `make` target that a document
   names, and each name with an underscore, call and `Type::name` that a document has in backticks,
   must exist.
@@ -21,6 +22,7 @@ TOP = Path(__file__).resolve().parent.parent
 PAGE = TOP / "addr2line_live.1"
 README = TOP / "README.md"
 LIBRARY = TOP / "docs/LIBRARY.md"
+COMPLETION = TOP / "completions/addr2line_live.bash"
 # ARCHITECTURE.md names about seventy. Far fewer mean that its form has changed, so that nothing is
 # checked.
 LEAST_DEFINITIONS = 50
@@ -111,6 +113,15 @@ def options_and_commands():
             yield f"{PAGE.name}: the command {word} is not explained"
         if f"`{word}" not in readme:
             yield f"{README.name}: the command {word} is not named"
+
+
+def completions():
+    """Yields the options that only one of the completion for bash and the manual page has."""
+    words = re.search(r"_options='([^']*)'", COMPLETION.read_text())[1].split()
+    tags = " ".join(re.findall(r"^\.TP\n(.*)\n", part("OPTIONS"), re.MULTILINE))
+    explained = re.findall(r"(?<!\w)--?[a-zA-Z][a-z-]*", re.sub(r"\\f[A-Z]|\\", "", tags))
+    for option in sorted(set(words) ^ set(explained)):
+        yield f"{COMPLETION.name}: the option {option} is only here or only in {PAGE.name}"
 
 
 def named_definitions(text):
@@ -217,12 +228,13 @@ def examples():
 
 
 def versions():
-    """Yields faults in the version of the manual page and the changelog."""
+    """Yields faults in the version of the program, the manual page and the changelog."""
     text = (TOP / "VERSION").read_text()
     version = text.removesuffix("\n")
     if not re.fullmatch(r"\d+\.\d+\.\d+\n", text):
         yield "VERSION: it is not one line with a version of three numbers"
     forms = {
+        TOP / "crates/command_line/src/help.rt": r'VERSION: &str = "(\S+)"',
         PAGE: r'^\.TH \S+ 1 "[\d-]+" "addr2line_live (\S+)"',
         TOP / "CHANGELOG.md": r"^(?:## |The next version is )(\d+\.\d+\.\d+)\b",
     }
@@ -239,8 +251,8 @@ def formatting():
 
 
 def main():
-    checks = (causes, refusals, options_and_commands, versions, definitions, names, paths,
-              targets, examples, formatting)
+    checks = (causes, refusals, options_and_commands, completions, versions, definitions, names,
+              paths, targets, examples, formatting)
     found = [fault for check in checks for fault in check()]
     print(*found, sep="\n", end="\n" if found else "")
     print(f"check-docs: {len(found)} faults")

@@ -94,6 +94,11 @@ class CheckDocs(unittest.TestCase):
                      "    /// A unit has two entries at depth 0.\n", "")
         self.reports("fault.rt: Cause::TwoRoots is not explained")
 
+    def test_options_of_the_completion(self):
+        self.replace("completions/addr2line_live.bash", " --linkage ", " --link ")
+        self.reports(*(f"addr2line_live.bash: the option {option} is only here or only in "
+                       "addr2line_live.1" for option in ("--link", "--linkage")))
+
     def test_changed_line_of_an_example(self):
         self.replace("docs/LIBRARY.md", 'is_frame(&rt, frames.next(), b"mid", 5);',
                      'is_frame(&rt, frames.next(), b"mid", 6);')

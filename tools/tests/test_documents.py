@@ -62,16 +62,22 @@ class Documents(unittest.TestCase):
             "-e /no/file": (1, "addr2line_live: refused file\n"),
             "zz": (2, "addr2line_live: bad address zz\n"),
             "--help": (0, ""),
+            "--version": (0, ""),
             "0": (0, ""),
         }
         for words, wanted in cases.items():
             done = subprocess.run([PROGRAM, *words.split()], capture_output=True, text=True)
             self.assertEqual((done.returncode, done.stderr), wanted, words)
 
+    def test_version(self):
+        version = (TOP / "VERSION").read_text()
+        for option in ("-V", "--version"):
+            self.assertEqual(output_of(PROGRAM, option), f"addr2line_live {version}")
+
     def test_options_that_the_manual_page_excludes(self):
         words = ["-b elf64-x86-64", "--target=elf64-x86-64", "-C", "--demangle", "-H", "-j .text",
-                 "--section=.text", "-r", "--no-recurse-limit", "-R", "--recurse-limit", "-v", "-V",
-                 "--version", "-i -i", "--func", "-- --version", "@file"]
+                 "--section=.text", "-r", "--no-recurse-limit", "-R", "--recurse-limit", "-v",
+                 "-i -i", "--func", "-- --version", "@file"]
         for options in words:
             done = subprocess.run([PROGRAM, *options.split(), "0"], capture_output=True, text=True)
             self.assertEqual((done.returncode, done.stdout), (2, ""), options)
@@ -87,10 +93,13 @@ class Documents(unittest.TestCase):
     def test_versions(self):
         """The check of the documents reports each document with another version."""
         with tempfile.TemporaryDirectory() as folder, mock.patch("check_docs.TOP", Path(folder)):
+            source = Path(folder) / "crates/command_line/src/help.rt"
+            source.parent.mkdir(parents=True)
+            source.write_text('pub const VERSION: &str = "9.9.8";\n')
             (Path(folder) / "VERSION").write_text("9.9.9\n")
             (Path(folder) / "CHANGELOG.md").write_text("The next version is 9.9.8.\n")
             wanted = [f"{name}: its version is not 9.9.9"
-                      for name in ("addr2line_live.1", "CHANGELOG.md")]
+                      for name in ("help.rt", "addr2line_live.1", "CHANGELOG.md")]
             self.assertEqual(list(check_docs.versions()), wanted)
 
 

@@ -48,6 +48,24 @@ class Install(unittest.TestCase):
         self.assertLessEqual({"share/man/man1/addr2line_live.1",
                               "share/doc/addr2line_live/PROTOCOL.md"}, files)
 
+    def completed(self, *words):
+        """Returns the words that bash offers for the last of the words after the program's name."""
+        script = self.prefix / "share/bash-completion/completions/addr2line_live"
+        words = ["addr2line_live", *words]
+        run = (f'source "{script}"; compopt() {{ :; }}; COMP_WORDS=("$@"); COMP_CWORD=$(($# - 1))\n'
+               '_addr2line_live "$1" "${@: -1}" "${@: -2:1}"; printf "%s\\n" "${COMPREPLY[@]}"')
+        return output_of("bash", "-c", run, "bash", *words).split()
+
+    def test_completion(self):
+        self.assertEqual(self.completed("--in"), ["--inlines"])
+        self.assertEqual(self.completed("-f", "--l"), ["--linkage"])
+        self.assertIn("--version", self.completed(""))
+        self.assertEqual(self.completed("--cache", ""), [])
+        paths = [str(self.path), f"{self.path}.c"]
+        for before in (["-e"], ["-fie"], ["--exe"], ["--exe", "="]):
+            self.assertEqual(sorted(self.completed(*before, self.path)), paths, before)
+        self.assertTrue(self.completed("--exe", "="))
+
     def test_loads_of_process(self):
         page = self.main & -0x1000
         maps = f"{page:x}-{page + 0x1000:x} r-xp {page - 0x400000:08x} fe:00 1 {self.path}\n"

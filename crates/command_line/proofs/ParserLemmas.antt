@@ -9,7 +9,7 @@ use Rattle.clap.specs.Faults.{fault_of, is_simple_and_free}
 use Rattle.clap.specs.declared.parser.matches.ArgMatches.{ArgMatches}
 use Rattle.clap.specs.declared.error.Error.{Error}
 use Rattle.clap.proofs.OnLiterals.{clap_on_literals}
-use Rattle.command_line.specs.CommandLine.{our_app, all_rules}
+use Rattle.command_line.specs.CommandLine.{our_app, all_rules, with_version}
 
 pub our_app-is_simple : is_simple our_app ≡ true
 unfolding clap_on_literals our_app
@@ -20,7 +20,7 @@ unfolding clap_on_literals our_app
 our_app-is-free = refl
 
 -- the command is the one that its description defines
-pub our_app-is : our_app ≡ all_rules
+pub our_app-is : our_app ≡ with_version all_rules
 unfolding our_app
 our_app-is = refl
 

@@ -1,5 +1,5 @@
 -- The command line, as the parser's description of it.
-use Rattle.std.specs.Prelude.{ℕ, List, Some, codes, pos}
+use Rattle.std.specs.Prelude.{ℕ, Bool, List, Some, codes, pos}
 use Rattle.clap.specs.Walk.{Rule}
 use Rattle.clap.specs.Simple.{App, new_app, new_rule, with_rule}
 use Rattle.clap.specs.declared.builder.value_parser.ValueParser.TheVariants.{Signed}
@@ -48,5 +48,9 @@ flags =
 abbrev pub all_rules : App
 all_rules = with_rule (with_rule (with_rule flags exe_rule) cache_rule) words_rule
 
+-- the command with a version, so that the parser adds --version
+abbrev pub with_version : App → App
+with_version a = record a { top = record a.top { has_version = Bool.true } }
+
 unfoldable pub our_app : App
-our_app = all_rules
+our_app = with_version all_rules

@@ -10,7 +10,7 @@ ghost use Rattle.command_line.specs.CommandLine.{flag_rule, exe_rule, cache_rule
 ghost use Rattle.command_line.specs.CommandLine.{words_rule, all_rules, our_app};
 ghost use Rattle.command_line.specs.Refusals.{IsAccepted};
 
-use crate::help::{ABOUT, COMMANDS};
+use crate::help::{ABOUT, COMMANDS, VERSION};
 use clap::{Arg, ArgAction, ArgMatches, Command, Error};
 use std::alloc::{AllocError, Global};
 
@@ -74,7 +74,7 @@ fn addresses(alloc: Global) -> Arg<'static>
         .action(ArgAction::Append)
 }
 
-/// Returns the command without its help.
+/// Returns the command without its help and its version.
 fn command<'a>(alloc: Global) -> Result<Command<'a>, AllocError>
     ensures { IfOk result (λ c. app_of c ≡ all_rules) }
 {
@@ -110,6 +110,7 @@ pub fn parse<'a>(alloc: Global, words: &'a [String]) -> Result<ArgMatches<'a>, E
     let command = command(alloc)?;
     command
         .about(ABOUT)
+        .version(VERSION)
         .after_help(COMMANDS)
         .try_get_matches_from(words)
 }

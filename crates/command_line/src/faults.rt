@@ -14,7 +14,8 @@ pub const BAD_ADDRESS: &str = "bad address";
 /// The reason for refusing the arguments of a command line.
 #[derive(Debug, Drop, Error)]
 pub enum CliFault<'a> {
-    /// The parser refuses the arguments, or help was requested. The error contains the message.
+    /// The parser refuses the arguments, or help or the version was requested. The error contains
+    /// the message.
     #[error("{0}")]
     Usage(clap::Error),
     /// The first positional argument that is not an address.

@@ -1,8 +1,11 @@
-//! The parts of the help that do not describe options.
+//! The version, and the parts of the help that do not describe options.
 
 /// A description of the program.
 pub const ABOUT: &str =
     "Converts run-time addresses to functions, files and lines while modules are loaded and unloaded.";
+
+/// The version of the program.
+pub const VERSION: &str = "0.9.0";
 
 /// The commands on standard input, with an example.
 pub const COMMANDS: &str = "\

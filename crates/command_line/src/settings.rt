@@ -22,7 +22,7 @@ fn copy_string(alloc: Global, text: Option<&str>) -> Result<Option<String>, Allo
 }
 
 /// Parses the options from the arguments of a command line, which start with the program's name. A
-/// request for help is returned as a refusal; its error contains the help.
+/// request for help or the version is returned as a refusal; its error contains the text.
 pub fn options<'a>(alloc: Global, arguments: &'a [String]) -> Result<Options, CliFault<'a>>
     ensures { MatchResult result (AreOptions (map string_bytes arguments.entry.now))
         (IsRefused (map string_bytes arguments.entry.now)) }

@@ -122,6 +122,14 @@ fn help(rt: HostRuntime) {
 }
 
 #[test]
+fn version(rt: HostRuntime) {
+    is_usage(&rt, &["-V"], ErrorKind::DisplayVersion);
+    is_usage(&rt, &["--version"], ErrorKind::DisplayVersion);
+    // a usage fault comes before the version
+    is_usage(&rt, &["-x", "-V"], ErrorKind::UnknownArgument);
+}
+
+#[test]
 fn first_invalid_address(rt: HostRuntime) {
     is_no_address(&rt, &["zz"], "zz");
     is_no_address(&rt, &["1004", "0X10", "zz"], "0X10");

@@ -38,8 +38,8 @@ fn show<W: Sink>(text: &str, writer: &mut W) -> Result<(), DeviceFault> {
     writer.flush()
 }
 
-/// Writes help to standard output and returns status 0, or writes the fault of the arguments to
-/// standard error and returns status 2.
+/// Writes help or the version to standard output and returns status 0, or writes the fault of the
+/// arguments to standard error and returns status 2.
 fn show_usage<W: Sink, E: Sink>(
     alloc: Global,
     error: &Error,
@@ -63,8 +63,8 @@ fn show_usage<W: Sink, E: Sink>(
 
 /// Runs the program with the arguments of a command line, which start with the program's name.
 /// Returns the exit status: 0 at the end of input, after the last address of the arguments, or
-/// after help; 1 after a fault of the run; 2 if the arguments are refused. Standard error has the
-/// reason. A failed write there is ignored.
+/// after help or the version; 1 after a fault of the run; 2 if the arguments are refused. Standard
+/// error has the reason. A failed write there is ignored.
 pub fn program<R: Feed, W: Sink, E: Sink, O: Objects>(
     alloc: Global,
     words: &[String],

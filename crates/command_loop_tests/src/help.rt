@@ -23,6 +23,7 @@ Options:
   -e, --exe <FILE>    Load FILE first, as module exe at base 0
       --cache <N>     Cache N answers, 0 to 65536 [default: 1024]
   -h, --help          Print help
+  -V, --version       Print version
 
 Without ADDR, commands are read from standard input, one a line. Each is answered at once:
   load NAME BASE PATH   load the object file PATH, with its link address 0 at BASE
@@ -55,6 +56,20 @@ fn prints_help(rt: HostRuntime) -> Result<(), Fail> {
         let status = unread(rt.alloc(), &arguments, &mut writer, &mut errors)?;
         assert_eq!(rt; status, 0);
         assert_eq!(rt; writer.text(), help());
+        assert_eq!(rt; errors.text(), b"".as_slice());
+    }
+    Ok(())
+}
+
+/// The version is written to standard output, also after other options.
+#[test]
+fn prints_the_version(rt: HostRuntime) -> Result<(), Fail> {
+    for arguments in [["--version", "-f"], ["-f", "-V"]] {
+        let mut writer = Paper::new();
+        let mut errors = Paper::new();
+        let status = unread(rt.alloc(), &arguments, &mut writer, &mut errors)?;
+        assert_eq!(rt; status, 0);
+        assert_eq!(rt; writer.text(), b"addr2line_live 0.9.0\n".as_slice());
         assert_eq!(rt; errors.text(), b"".as_slice());
     }
     Ok(())
