@@ -1,6 +1,5 @@
 pub mod BoundLaws
 pub mod Constant
-pub mod CountLaws
 pub mod KeyLaws
 pub mod SameScopes
 pub mod ScopeKeys

@@ -1,14 +1,15 @@
 pub mod Active
 pub mod Bits
 pub mod Buckets
-pub mod Digits
-pub mod EndLists
 pub mod Decoded
+pub mod Digits
 pub mod Merged
+pub mod OpenEnds
 pub mod Parents
 pub mod RowOrder
 pub mod Scans
 pub mod Segments
+pub mod StartLists
 pub mod Sweep
 pub mod Views
 pub mod Walks

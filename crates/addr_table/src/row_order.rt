@@ -3,23 +3,17 @@
 ghost use Rattle.std.specs.Prelude.{◌≡◌, ◌++◌, ◌<◌, ◌^◌, true, drop, length, IfOk, OnOk};
 ghost use Rattle.std.specs.List.Sorted.{IsPermutation};
 ghost use Rattle.addr_table.specs.Private.RowOrder.{covering_from, sequence_from, starts_from};
-ghost use Rattle.addr_table.specs.Private.RowOrder.{row_end};
+ghost use Rattle.addr_table.specs.Private.RowOrder.{row_address};
 
 use crate::packed::narrow;
 use dwarf_lines::Row;
 use std::alloc::{AllocError, Global};
 
-/// Returns the address at which a row starts to cover addresses, or at which it ends; 0 if there is
-/// no such row.
-pub(crate) fn address_of(rows: &[Row], row: u32, is_end: bool) -> u64
-    ensures { result ≡ (row_end rows.now is_end row).at }
+/// Returns the address of a row; 0 if there is no such row.
+pub(crate) fn address_of(rows: &[Row], row: usize) -> u64
+    ensures { result ≡ row_address rows.now row }
 {
-    let index = if is_end {
-        row as usize + 1
-    } else {
-        row as usize
-    };
-    match rows.get(index) {
+    match rows.get(row) {
         Some(row) => row.address,
         None => 0,
     }
@@ -64,7 +58,7 @@ pub(crate) fn covering_rows(alloc: Global, rows: &[Row]) -> Result<Vec<u32>, All
     ensures { IfOk result (λ order. IsPermutation (covering_from 0 rows.now) order.items) }
 {
     let mut starts = sequence_starts(alloc, rows)?;
-    starts.sort_unstable_by_key(|start| address_of(rows, *start, false));
+    starts.sort_unstable_by_key(|start| address_of(rows, *start as usize));
     let mut order = Vec::with_capacity(alloc, rows.len())?;
     for index in 0..starts.len() {
         add_sequence(&mut order, rows, starts[index] as usize)?;

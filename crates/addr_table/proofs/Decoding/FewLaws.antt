@@ -20,15 +20,15 @@ use Rattle.dwarf_lines.specs.declared.row.Row.{Row}
 use Rattle.dwarf_entries.specs.declared.scope.Range.{Range}
 use Rattle.dwarf_entries.specs.Scopes.{Scope, items_limit}
 use Rattle.dwarf_entries.specs.TreeLaws.{RiseBelow}
-use Rattle.addr_table.specs.declared.ends.End.{End}
+use Rattle.addr_table.specs.declared.starts.Start.{Start}
 use Rattle.dwarf_walk.specs.Sections.{Sections}
 use Rattle.addr_table.specs.Decoded.{entry_sections}
 use Rattle.addr_table.proofs.Decoding.DecodeLaws.{entries-read}
 use Rattle.addr_table.specs.Rows.{covers_from, covers_of}
 use Rattle.addr_table.specs.Segments.{is_nonempty}
 use Rattle.addr_table.specs.Private.Sweep.{Reach, reach_of, row_reaches, reaches_in, key_of}
-use Rattle.addr_table.specs.Private.Sweep.{scope_reaches, reaches_of, open_of, close_of}
-use Rattle.addr_table.specs.Private.Sweep.{AreEnds, AreFew}
+use Rattle.addr_table.specs.Private.Sweep.{scope_reaches, reaches_of, start_of}
+use Rattle.addr_table.specs.Private.Sweep.{AreStarts, AreFew}
 use Rattle.std.proofs.lemmas.List.Sorted.{length_permutation}
 
 -- Numbers that rise are at least their indexes.
@@ -143,17 +143,13 @@ decoded-few bytes line found s rows scopes small found_is line_is s_is take_byte
     let reaches = reaches-few rows scopes in
     record { segments = omega arith; keys = omega arith; endpoints = omega arith }
 
--- The sorted endpoints are as many as the ranges.
-pub ends-few : (rows : List Row) (scopes : List Scope) (opens closes : List End)
-    → AreFew rows scopes → AreEnds (reaches_of rows scopes) opens closes
-    → length opens + length closes < 2 ^ 32
-ends-few rows scopes opens closes few ends =
-    let o : length opens ≡ length (map open_of (reaches_of rows scopes)) =
-    length_permutation (map open_of (reaches_of rows scopes)) opens ends.opens_are in
-    let c : length closes ≡ length (map close_of (reaches_of rows scopes)) =
-    length_permutation (map close_of (reaches_of rows scopes)) closes ends.closes_are in
-    let om : length (map open_of (reaches_of rows scopes)) ≡ length (reaches_of rows scopes) =
-    length-map (reaches_of rows scopes) open_of in
-    let cm : length (map close_of (reaches_of rows scopes)) ≡ length (reaches_of rows scopes) =
-    length-map (reaches_of rows scopes) close_of in
+-- The sorted starts are as many as the ranges.
+pub starts-few : (rows : List Row) (scopes : List Scope) (starts : List Start)
+    → AreFew rows scopes → AreStarts (reaches_of rows scopes) starts
+    → length starts + length starts < 2 ^ 32
+starts-few rows scopes starts few h =
+    let s : length starts ≡ length (map start_of (reaches_of rows scopes)) =
+    length_permutation (map start_of (reaches_of rows scopes)) starts h.starts_are in
+    let m : length (map start_of (reaches_of rows scopes)) ≡ length (reaches_of rows scopes) =
+    length-map (reaches_of rows scopes) start_of in
     let bound = few.endpoints in omega arith

@@ -1,11 +1,11 @@
--- The endpoints that are built from rows and scopes.
-use Rattle.std.proofs.Common.{◌≡◌, ℕ, ◌+◌, ◌<◌, ◌≤◌, ◌^◌, List, [], ◌∷◌, ◌++◌, length, map, take}
-use Rattle.std.proofs.Common.{get_or, true, false, refl, ap, sym, subst, arith}
+-- The starts that are built from rows and scopes.
+use Rattle.std.proofs.Common.{◌≡◌, ℕ, ◌+◌, ◌<◌, ◌≤◌, List, [], ◌∷◌, ◌++◌, length, map}
+use Rattle.std.proofs.Common.{get_or, true, refl, ap, sym, ◌∙◌, subst, arith}
 use Rattle.std.specs.List.{All, AllByRecursion}
 use Rattle.std.specs.List.Sorted.{IsPermutation, IsNonDecreasingBy}
 use Rattle.std.proofs.lemmas.Bool.{ltb-true}
 use Rattle.std.proofs.lemmas.List.{map-append}
-use Rattle.std.proofs.lemmas.List.Elements.{filter-append, filter_passes, All-weaker}
+use Rattle.std.proofs.lemmas.List.Elements.{filter-append, filter_passes}
 use Rattle.std.proofs.lemmas.List.Elements.{All-from_recursion, recursion_from_All, All-filter}
 use Rattle.std.proofs.lemmas.List.Sorted.{All-permutation, IsPermutation-trans}
 use Rattle.std.proofs.lemmas.List.Sorted.{IsPermutation-append}
@@ -14,114 +14,91 @@ use Rattle.dwarf_entries.specs.declared.scope.Range.{Range}
 use Rattle.dwarf_walk.specs.declared.scope_kind.ScopeKind.{ScopeKind}
 use Rattle.dwarf_walk.specs.declared.scope_kind.ScopeKind.TheVariants.{Subprogram, Inlined}
 use Rattle.dwarf_entries.specs.Scopes.{Scope}
-use Rattle.addr_table.specs.declared.ends.End.{End}
+use Rattle.addr_table.specs.declared.starts.Start.{Start}
 use Rattle.addr_table.specs.Rows.{Cover, covers_of}
 use Rattle.dwarf_entries.specs.Order.{AreNumbered}
 use Rattle.addr_table.specs.Segments.{is_nonempty}
 use Rattle.addr_table.specs.Private.Sweep.{Reach, key_of, reach_of, row_reaches, reaches_in}
-use Rattle.addr_table.specs.Private.Sweep.{scope_reaches, reaches_of, nonempty, open_of, close_of}
-use Rattle.addr_table.specs.Private.Sweep.{AddsEnds, AreEnds, keyed, IsBalanced}
+use Rattle.addr_table.specs.Private.Sweep.{scope_reaches, reaches_of, nonempty, start_of}
+use Rattle.addr_table.specs.Private.Sweep.{AddsStarts, AreStarts, AreActive}
 use Rattle.addr_table.specs.Private.Active.{ActiveSet}
 use Rattle.addr_table.specs.Private.Merged.{merged}
 use Rattle.addr_table.proofs.ActiveSet.ActiveLaws.{zeros_of, zeros}
-use Rattle.addr_table.specs.Private.RowOrder.{covering_from, row_end}
+use Rattle.addr_table.specs.Private.RowOrder.{covering_from, row_start}
 use Rattle.addr_table.proofs.Endpoints.MergeLaws.{merged-permutation, merged-rises}
-use Rattle.addr_table.proofs.Endpoints.RowEndLaws.{starts-are, ends-are}
+use Rattle.addr_table.proofs.Endpoints.RowStartLaws.{starts-are}
 use Rattle.addr_table.proofs.Scanning.Lists.{each-append}
 use Rattle.addr_table.proofs.ActiveSet.FirstLaws.{RiseBy}
 use Rattle.addr_table.proofs.Sweeping.KeyLaws.{covers-rise}
 use Rattle.addr_table.proofs.Sweeping.ScopeKeys.{NumbersBelow, numbers-below}
 
-added : (f : Reach → End) (rs : List Reach) (xs ys zs : List End) → xs ≡ []
-    → IsPermutation (xs ++ map f (nonempty rs)) ys → IsPermutation ys zs
-    → IsPermutation (map f (nonempty rs)) zs
-added f rs xs ys zs none a b =
-    IsPermutation-trans _ _ _
-    (subst (λ (l : List End). IsPermutation (l ++ map f (nonempty rs)) ys) none a) b
+-- the starts of ranges: added to an empty list, and sorted
+pub record AreSorted (reaches : List Reach) (starts : List Start) : Type 0 where
+  pub starts_are : IsPermutation (map start_of (nonempty reaches)) starts
+  pub rise : IsNonDecreasingBy (λ (s : Start). s.at) starts
 
-both-merged : (f : Reach → End) (us vs : List Reach) (xs ys : List End)
-    → IsPermutation (map f (nonempty us)) xs → IsPermutation (map f (nonempty vs)) ys
-    → IsPermutation (map f (nonempty (us ++ vs))) (merged xs ys)
-both-merged f us vs xs ys a b =
+pub are-sorted : (reaches : List Reach) (s0 s1 s2 : List Start) → s0 ≡ []
+    → AddsStarts reaches s0 s1 → IsPermutation s1 s2
+    → IsNonDecreasingBy (λ (s : Start). s.at) s2 → AreSorted reaches s2
+are-sorted reaches s0 s1 s2 none a moved rise = record {
+  starts_are = IsPermutation-trans _ _ _
+      (subst (λ (l : List Start). IsPermutation (l ++ map start_of (nonempty reaches)) s1) none
+      a.starts_are)
+      moved;
+  rise = rise;
+}
+
+pub rows-sorted : (rows : List Row) (starts : List Start)
+    → IsPermutation (map (row_start rows) (covering_from 0 rows)) starts
+    → IsNonDecreasingBy (λ (s : Start). s.at) starts → AreSorted (row_reaches rows) starts
+rows-sorted rows starts s rise = record {
+  starts_are = subst (λ ss. IsPermutation ss starts) (sym (starts-are rows 0 rows refl)) s;
+  rise = rise;
+}
+
+both-merged : (us vs : List Reach) (xs ys : List Start)
+    → IsPermutation (map start_of (nonempty us)) xs → IsPermutation (map start_of (nonempty vs)) ys
+    → IsPermutation (map start_of (nonempty (us ++ vs))) (merged xs ys)
+both-merged us vs xs ys a b =
     rw (
       filter-append (λ (r : Reach). is_nonempty r.range) us vs,
-      map-append f (nonempty us) (nonempty vs),
+      map-append start_of (nonempty us) (nonempty vs),
     )
     (IsPermutation-trans _ _ _ (IsPermutation-append _ _ _ _ a b) (merged-permutation xs ys))
 
--- the endpoints of ranges: added to empty lists, and sorted
-pub record AreSorted (reaches : List Reach) (opens closes : List End) : Type 0 where
-  pub opens_are : IsPermutation (map open_of (nonempty reaches)) opens
-  pub closes_are : IsPermutation (map close_of (nonempty reaches)) closes
-  pub opens_rise : IsNonDecreasingBy (λ (e : End). e.at) opens
-  pub closes_rise : IsNonDecreasingBy (λ (e : End). e.at) closes
-
-pub are-sorted : (reaches : List Reach) (o0 c0 o1 c1 o2 c2 : List End) → o0 ≡ [] → c0 ≡ []
-    → AddsEnds reaches o0 c0 o1 c1 → IsPermutation o1 o2 → IsPermutation c1 c2
-    → IsNonDecreasingBy (λ (e : End). e.at) o2 → IsNonDecreasingBy (λ (e : End). e.at) c2
-    → AreSorted reaches o2 c2
-are-sorted reaches o0 c0 o1 c1 o2 c2 on cn a op cp rise_o rise_c = record {
-  opens_are = added open_of reaches o0 o1 o2 on a.opens_are op;
-  closes_are = added close_of reaches c0 c1 c2 cn a.closes_are cp;
-  opens_rise = rise_o;
-  closes_rise = rise_c;
-}
-
-pub rows-sorted : (rows : List Row) (opens closes : List End)
-    → IsPermutation (map (row_end rows false) (covering_from 0 rows)) opens
-    → IsPermutation (map (row_end rows true) (covering_from 0 rows)) closes
-    → IsNonDecreasingBy (λ (e : End). e.at) opens → IsNonDecreasingBy (λ (e : End). e.at) closes
-    → AreSorted (row_reaches rows) opens closes
-rows-sorted rows opens closes o c rise_o rise_c = record {
-  opens_are = subst (λ es. IsPermutation es opens) (sym (starts-are rows 0 rows refl)) o;
-  closes_are = subst (λ es. IsPermutation es closes) (sym (ends-are rows 0 rows refl)) c;
-  opens_rise = rise_o;
-  closes_rise = rise_c;
-}
-
-pub ends-merged : (rows : List Row) (scopes : List Scope) (o c s d : List End)
-    → AreSorted (row_reaches rows) o c
-    → AreSorted (scope_reaches (length rows) (length scopes) scopes) s d
-    → AreEnds (reaches_of rows scopes) (merged o s) (merged c d)
+pub starts-merged : (rows : List Row) (scopes : List Scope) (o s : List Start)
+    → AreSorted (row_reaches rows) o
+    → AreSorted (scope_reaches (length rows) (length scopes) scopes) s
+    → AreStarts (reaches_of rows scopes) (merged o s)
 unfolding reaches_of
-ends-merged rows scopes o c s d a b = record {
-  full =
-      All-weaker (λ (r : Reach). is_nonempty r.range ≡ true)
-      (λ (r : Reach). r.range.from < r.range.to)
-      (λ r h. ltb-true r.range.from r.range.to h) _
-      (filter_passes (λ (r : Reach). is_nonempty r.range)
-      (row_reaches rows ++ scope_reaches (length rows) (length scopes) scopes));
-  opens_are = both-merged open_of (row_reaches rows)
-      (scope_reaches (length rows) (length scopes) scopes) o s a.opens_are b.opens_are;
-  closes_are = both-merged close_of (row_reaches rows)
-      (scope_reaches (length rows) (length scopes) scopes) c d a.closes_are b.closes_are;
-  opens_rise = merged-rises o s a.opens_rise b.opens_rise;
-  closes_rise = merged-rises c d a.closes_rise b.closes_rise;
-}
+starts-merged rows scopes o s a b =
+    let all : List Reach = row_reaches rows ++ scope_reaches (length rows) (length scopes) scopes in
+    let are = both-merged (row_reaches rows) (scope_reaches (length rows) (length scopes) scopes)
+    o s a.starts_are b.starts_are in
+    let F : Start → Type 0 = λ x. x.at < x.to in
+    record {
+      full = All-permutation F (map start_of (nonempty all)) (merged o s) are
+          (All-from_recursion F (map start_of (nonempty all))
+          (full-mapped (nonempty all)
+          (recursion_from_All (λ (r : Reach). is_nonempty r.range ≡ true) (nonempty all)
+          (filter_passes (λ (r : Reach). is_nonempty r.range) all))));
+      starts_are = are;
+      rise = merged-rises o s a.rise b.rise;
+    }
+  where
+    full-mapped : (rs : List Reach) → AllByRecursion (λ (r : Reach). is_nonempty r.range ≡ true) rs
+        → AllByRecursion (λ (x : Start). x.at < x.to) (map start_of rs)
+    full-mapped [] h = tt
+    full-mapped (r ∷ rs) h = (ltb-true r.range.from r.range.to h.0, full-mapped rs h.1)
 
 -- no range is active before the first endpoint
-pub none-active : (opens closes : List End) (keys : ℕ) (active : ActiveSet)
+pub none-active : (keys : ℕ) (active : ActiveSet)
     → active ≡ record { counts = zeros_of keys; calls = 0 }
-    → length opens + length closes < 2 ^ 32 → IsBalanced opens closes 0 0 active
-    × (active.calls ≡ 0)
-none-active opens closes keys active is few = (
-  record {
-    opened = omega arith;
-    closed = omega arith;
-    balance = balance;
-    calls = let none : active.calls ≡ 0 = ap (λ (s : ActiveSet). s.calls) is in omega arith;
-    few = few;
-  },
+    → AreActive [] active × (active.calls ≡ 0)
+none-active keys active is = (
+  λ k. ap (λ (s : ActiveSet). get_or s.counts k 0) is ∙ zeros keys k,
   ap (λ (s : ActiveSet). s.calls) is,
 )
-  where
-    balance : (k : ℕ) → get_or active.counts k 0 + keyed k (take 0 closes) ≡ keyed k (take 0 opens)
-    balance k =
-        let same : get_or active.counts k 0 ≡ get_or (zeros_of keys) k 0 =
-        ap (λ (s : ActiveSet). get_or s.counts k 0) is in
-        let none : get_or (zeros_of keys) k 0 ≡ 0 = zeros keys k in
-        let opened : keyed k (take 0 opens) ≡ 0 = refl in
-        let closed : keyed k (take 0 closes) ≡ 0 = refl in omega arith
 
 -- ---- their keys
 
@@ -175,30 +152,26 @@ keys-below rows scopes numbered =
     (scopes-below (length rows) (length scopes) scopes
     (numbers-below 0 (length scopes) scopes numbered))))
 
-mapped-all : (P : ℕ → Type 0) (f : Reach → End) (rs : List Reach)
+mapped-all : (P : ℕ → Type 0) (f : Reach → Start) (rs : List Reach)
     → ((r : Reach) → P r.key → P (f r).key)
-    → AllByRecursion (λ (r : Reach). P r.key) rs → AllByRecursion (λ (e : End). P e.key) (map f rs)
+    → AllByRecursion (λ (r : Reach). P r.key) rs → AllByRecursion (λ (e : Start). P e.key) (map f rs)
 mapped-all P f [] g h = tt
 mapped-all P f (r ∷ rs) g h = (g r h.0, mapped-all P f rs g h.1)
 
-pub end-keys : (rows : List Row) (scopes : List Scope) (opens closes : List End) (n : ℕ)
+pub start-keys : (rows : List Row) (scopes : List Scope) (starts : List Start) (n : ℕ)
     → AreNumbered 0 (length scopes) scopes
-    → AreEnds (reaches_of rows scopes) opens closes
+    → AreStarts (reaches_of rows scopes) starts
     → n ≡ length rows + length scopes + length scopes
-    → All (λ (e : End). e.key < n) opens × All (λ (e : End). e.key < n) closes
-end-keys rows scopes opens closes n numbered h is =
-    let E : End → Type 0 = λ e. e.key < n in
+    → All (λ (s : Start). s.key < n) starts
+start-keys rows scopes starts n numbered h is =
+    let S : Start → Type 0 = λ s. s.key < n in
     let N : ℕ → Type 0 = λ k. k < n in
     let M : ℕ → Type 0 = λ m. AllByRecursion (λ (r : Reach). r.key < m) (reaches_of rows scopes) in
     let keys : AllByRecursion (λ (r : Reach). r.key < n) (reaches_of rows scopes) =
     subst M (sym is)
     (recursion_from_All (λ (r : Reach). r.key < length rows + length scopes + length scopes)
     (reaches_of rows scopes)
-    (keys-below rows scopes numbered)) in (
-      All-permutation E (map open_of (reaches_of rows scopes)) opens h.opens_are
-          (All-from_recursion E (map open_of (reaches_of rows scopes))
-          (mapped-all N open_of (reaches_of rows scopes) (λ r k. k) keys)),
-      All-permutation E (map close_of (reaches_of rows scopes)) closes h.closes_are
-          (All-from_recursion E (map close_of (reaches_of rows scopes))
-          (mapped-all N close_of (reaches_of rows scopes) (λ r k. k) keys)),
-    )
+    (keys-below rows scopes numbered)) in
+    All-permutation S (map start_of (reaches_of rows scopes)) starts h.starts_are
+    (All-from_recursion S (map start_of (reaches_of rows scopes))
+    (mapped-all N start_of (reaches_of rows scopes) (λ r k. k) keys))

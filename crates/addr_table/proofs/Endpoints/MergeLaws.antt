@@ -1,5 +1,5 @@
--- Two ascending lists of endpoints, merged.
-use Rattle.std.proofs.Common.{◌≡◌, ℕ, zero, suc, ◌+◌, ◌<◌, ◌≤◌, List, [], ◌∷◌, ◌++◌, length, drop}
+-- Two ascending lists of starts, merged.
+use Rattle.std.proofs.Common.{◌≡◌, ℕ, zero, suc, ◌+◌, ◌-◌, ◌<◌, ◌≤◌, List, [], ◌∷◌, ◌++◌, length, drop}
 use Rattle.std.proofs.Common.{get_or, Bool, true, false, cond, refl, ap, sym, ◌∙◌, subst, inl, inr}
 use Rattle.std.proofs.Common.{arith}
 use Rattle.std.specs.Prelude.{nat_le, not}
@@ -8,21 +8,20 @@ use Rattle.std.specs.List.{AllByRecursion}
 use Rattle.std.specs.List.Sorted.{IsPermutation, IsNonDecreasingBy}
 use Rattle.std.proofs.lemmas.Bool.{cases_lt}
 use Rattle.std.proofs.lemmas.Bool.Decides.{nat_tests}
-use Rattle.std.proofs.lemmas.List.{drop_more, drop_all, length-drop}
+use Rattle.std.proofs.lemmas.List.{drop_more, drop_all, length-drop, get_or-drop, get_or_default}
 use Rattle.std.proofs.lemmas.List.Elements.{All-from_recursion, recursion_from_All, All-append}
 use Rattle.std.proofs.lemmas.List.Sorted.{IsPermutation-refl, IsPermutation-trans}
 use Rattle.std.proofs.lemmas.List.Sorted.{IsPermutation-cons, IsPermutation-middle, All-permutation}
-use Rattle.addr_table.specs.declared.ends.End.{End}
-use Rattle.addr_table.specs.Private.Merged.{merged_from, merged, ends_in, taken_of, IsMerging}
+use Rattle.addr_table.specs.declared.starts.Start.{Start}
+use Rattle.addr_table.specs.Private.Merged.{merged_from, merged, starts_in, taken_of, IsMerging}
 use Rattle.addr_table.specs.Private.Merged.{IsHead, IsNextIn, Cursor}
 use Rattle.addr_table.specs.Private.Sweep.{Above}
-use Rattle.addr_table.proofs.ActiveSet.ActiveCounts.{rest-above}
 use Rattle.addr_table.proofs.Scanning.Lists.{each-weaker}
 
--- ---- the same endpoints
+-- ---- the same starts
 
-from-permutation : (x : End) (rest : List End → List End) (xs : List End)
-    → ((ys : List End) → IsPermutation (xs ++ ys) (rest ys)) → (ys : List End)
+from-permutation : (x : Start) (rest : List Start → List Start) (xs : List Start)
+    → ((ys : List Start) → IsPermutation (xs ++ ys) (rest ys)) → (ys : List Start)
     → IsPermutation (x ∷ (xs ++ ys)) (merged_from x rest ys)
 from-permutation x rest xs h [] = IsPermutation-cons x _ _ (h [])
 from-permutation x rest xs h (y ∷ ys) = by_order (nat_le x.at y.at)
@@ -35,11 +34,11 @@ from-permutation x rest xs h (y ∷ ys) = by_order (nat_le x.at y.at)
     by_order false later = IsPermutation-trans _ _ _ (IsPermutation-middle (x ∷ xs) y ys)
         (IsPermutation-cons y _ _ later)
 
-pub merged-permutation : (xs ys : List End) → IsPermutation (xs ++ ys) (merged xs ys)
+pub merged-permutation : (xs ys : List Start) → IsPermutation (xs ++ ys) (merged xs ys)
 merged-permutation [] ys = IsPermutation-refl ys
 merged-permutation (x ∷ xs) ys = from-permutation x (merged xs) xs (merged-permutation xs) ys
 
-merged-all : (P : End → Type 0) (xs ys : List End) → AllByRecursion P xs → AllByRecursion P ys
+merged-all : (P : Start → Type 0) (xs ys : List Start) → AllByRecursion P xs → AllByRecursion P ys
     → AllByRecursion P (merged xs ys)
 merged-all P xs ys a b =
     recursion_from_All P (merged xs ys)
@@ -48,40 +47,40 @@ merged-all P xs ys a b =
 
 -- ---- their order
 
-abbrev From : ℕ → List End → Type 0
-From n ends = AllByRecursion (λ (e : End). n ≤ e.at) ends
+abbrev From : ℕ → List Start → Type 0
+From n ends = AllByRecursion (λ (e : Start). n ≤ e.at) ends
 
-abbrev Rise : List End → Type 0
+abbrev Rise : List Start → Type 0
 Rise [] = Unit {0}
 Rise (e ∷ ends) = From e.at ends × Rise ends
 
-further : (m n : ℕ) (ends : List End) → m ≤ n → From n ends → From m ends
+further : (m n : ℕ) (ends : List Start) → m ≤ n → From n ends → From m ends
 further m n ends le h =
-    each-weaker (λ (e : End). n ≤ e.at) (λ (e : End). m ≤ e.at) (λ e k. omega (arith, le, k)) ends h
+    each-weaker (λ (e : Start). n ≤ e.at) (λ (e : Start). m ≤ e.at) (λ e k. omega (arith, le, k)) ends h
 
-rise-of : (ends : List End) → IsNonDecreasingBy (λ (e : End). e.at) ends → Rise ends
+rise-of : (ends : List Start) → IsNonDecreasingBy (λ (e : Start). e.at) ends → Rise ends
 rise-of [] h = tt
 rise-of (e ∷ ends) h = (
-  recursion_from_All (λ (x : End). e.at ≤ x.at) ends
+  recursion_from_All (λ (x : Start). e.at ≤ x.at) ends
       (λ k d lt. h 0 (suc k) d (omega arith) (omega (arith, lt))),
   rise-of ends (λ i j d le lt. h (suc i) (suc j) d (omega (arith, le)) (omega (arith, lt))),
 )
 
-from-rise : (ends : List End) → Rise ends → IsNonDecreasingBy (λ (e : End). e.at) ends
+from-rise : (ends : List Start) → Rise ends → IsNonDecreasingBy (λ (e : Start). e.at) ends
 from-rise [] h i j d le lt = absurd (omega (arith, lt))
 from-rise (e ∷ ends) h zero zero d le lt = omega arith
 from-rise (e ∷ ends) h zero (suc j) d le lt =
-    All-from_recursion (λ (x : End). e.at ≤ x.at) ends h.0 j d (omega (arith, lt))
+    All-from_recursion (λ (x : Start). e.at ≤ x.at) ends h.0 j d (omega (arith, lt))
 from-rise (e ∷ ends) h (suc i) zero d le lt = absurd (omega (arith, le))
 from-rise (e ∷ ends) h (suc i) (suc j) d le lt =
     from-rise ends h.1 i j d (omega (arith, le)) (omega (arith, lt))
 
--- one more endpoint of the first list
-from-rises : (x : End) (xs : List End) → From x.at xs
-    → ((ys : List End) → Rise ys → Rise (merged xs ys))
-    → (ys : List End) → Rise ys → Rise (merged (x ∷ xs) ys)
+-- one more start of the first list
+from-rises : (x : Start) (xs : List Start) → From x.at xs
+    → ((ys : List Start) → Rise ys → Rise (merged xs ys))
+    → (ys : List Start) → Rise ys → Rise (merged (x ∷ xs) ys)
 from-rises x xs first later [] hy = (
-  merged-all (λ (e : End). x.at ≤ e.at) xs [] first tt,
+  merged-all (λ (e : Start). x.at ≤ e.at) xs [] first tt,
   later [] tt,
 )
 from-rises x xs first later (y ∷ ys) hy = by_order (nat_le x.at y.at) refl
@@ -91,30 +90,30 @@ from-rises x xs first later (y ∷ ys) hy = by_order (nat_le x.at y.at) refl
         → Rise (cond b (x ∷ merged xs (y ∷ ys)) (y ∷ merged (x ∷ xs) ys))
     by_order true is rest =
         let le : x.at ≤ y.at = grind (arith, nat_tests) in (
-          merged-all (λ (e : End). x.at ≤ e.at) xs (y ∷ ys) first
+          merged-all (λ (e : Start). x.at ≤ e.at) xs (y ∷ ys) first
               (le, further x.at y.at ys le hy.0),
           later (y ∷ ys) hy,
         )
     by_order false is rest =
         let lt : y.at ≤ x.at = grind (arith, nat_tests) in (
-          merged-all (λ (e : End). y.at ≤ e.at) (x ∷ xs) ys
+          merged-all (λ (e : Start). y.at ≤ e.at) (x ∷ xs) ys
               (lt, further y.at x.at xs lt first) hy.0,
           rest,
         )
 
-rises : (xs ys : List End) → Rise xs → Rise ys → Rise (merged xs ys)
+rises : (xs ys : List Start) → Rise xs → Rise ys → Rise (merged xs ys)
 rises [] ys hx hy = hy
 rises (x ∷ xs) ys hx hy = from-rises x xs hx.0 (λ zs h. rises xs zs hx.1 h) ys hy
 
-pub merged-rises : (xs ys : List End) → IsNonDecreasingBy (λ (e : End). e.at) xs
-    → IsNonDecreasingBy (λ (e : End). e.at) ys
-    → IsNonDecreasingBy (λ (e : End). e.at) (merged xs ys)
+pub merged-rises : (xs ys : List Start) → IsNonDecreasingBy (λ (e : Start). e.at) xs
+    → IsNonDecreasingBy (λ (e : Start). e.at) ys
+    → IsNonDecreasingBy (λ (e : Start). e.at) (merged xs ys)
 merged-rises xs ys hx hy = from-rise (merged xs ys) (rises xs ys (rise-of xs hx) (rise-of ys hy))
 
--- ---- the next endpoint
+-- ---- the next start
 
 -- at the front of both lists
-first-row : (x : End) (xs ys : List End) → ((y : End) (later : List End) → ys ≡ y ∷ later
+first-row : (x : Start) (xs ys : List Start) → ((y : Start) (later : List Start) → ys ≡ y ∷ later
     → x.at ≤ y.at)
     → merged (x ∷ xs) ys ≡ x ∷ merged xs ys
 first-row x xs [] low = refl
@@ -122,7 +121,7 @@ first-row x xs (y ∷ ys) low =
     let le : x.at ≤ y.at = low y ys refl in
     let is : nat_le x.at y.at ≡ true = grind (arith, nat_tests) in rw is refl
 
-first-scope : (xs : List End) (y : End) (ys : List End) → ((x : End) (later : List End)
+first-scope : (xs : List Start) (y : Start) (ys : List Start) → ((x : Start) (later : List Start)
     → xs ≡ x ∷ later → y.at < x.at)
     → merged xs (y ∷ ys) ≡ y ∷ merged xs ys
 first-scope [] y ys low = refl
@@ -130,8 +129,8 @@ first-scope (x ∷ xs) y ys low =
     let lt : y.at < x.at = low x xs refl in
     let is : nat_le x.at y.at ≡ false = grind (arith, nat_tests) in rw is refl
 
--- the endpoint before the rest of a list
-in-front : (ends : List End) (n : ℕ) (e : End) (later : List End) (d : End) → drop n ends
+-- the start before the rest of a list
+in-front : (ends : List Start) (n : ℕ) (e : Start) (later : List Start) (d : Start) → drop n ends
     ≡ e ∷ later
     → (n < length ends) × (get_or ends n d ≡ e) × (drop (n + 1) ends ≡ later)
 in-front ends n e later d is =
@@ -146,60 +145,60 @@ in-front ends n e later d is =
     empty : [] ≡ e ∷ later → ⊥
     empty h = cc
 
-    heads : {x y : End} {xs ys : List End} → x ∷ xs ≡ y ∷ ys → x ≡ y
+    heads : {x y : Start} {xs ys : List Start} → x ∷ xs ≡ y ∷ ys → x ≡ y
     heads h = cc
 
-    tails : {x y : End} {xs ys : List End} → x ∷ xs ≡ y ∷ ys → xs ≡ ys
+    tails : {x y : Start} {xs ys : List Start} → x ∷ xs ≡ y ∷ ys → xs ≡ ys
     tails h = cc
 
--- one more endpoint of the rows is taken
-pub row-first : (rows scopes : List End) (row scope : ℕ) (e : End)
-    → row < length rows → ((d : End) → e ≡ get_or rows row d)
-    → ((d : End) → scope < length scopes → e.at ≤ (get_or scopes scope d).at)
+-- one more start of the rows is taken
+pub row-first : (rows scopes : List Start) (row scope : ℕ) (e : Start)
+    → row < length rows → ((d : Start) → e ≡ get_or rows row d)
+    → ((d : Start) → scope < length scopes → e.at ≤ (get_or scopes scope d).at)
     → merged (drop row rows) (drop scope scopes) ≡ e ∷ merged (drop (row + 1) rows)
     (drop scope scopes)
 row-first rows scopes row scope e lt is low =
-    ap (λ (xs : List End). merged xs (drop scope scopes))
-    (drop_more rows row e lt ∙ ap (λ (x : End). x ∷ drop (row + 1) rows) (sym (is e)))
+    ap (λ (xs : List Start). merged xs (drop scope scopes))
+    (drop_more rows row e lt ∙ ap (λ (x : Start). x ∷ drop (row + 1) rows) (sym (is e)))
     ∙ first-row e (drop (row + 1) rows) (drop scope scopes) before
   where
-    before : (y : End) (later : List End) → drop scope scopes ≡ y ∷ later → e.at ≤ y.at
+    before : (y : Start) (later : List Start) → drop scope scopes ≡ y ∷ later → e.at ≤ y.at
     before y later in_it =
         let front = in-front scopes scope y later y in_it in
-        let A : End → Type 0 = λ z. e.at ≤ z.at in
+        let A : Start → Type 0 = λ z. e.at ≤ z.at in
         subst A front.1 (low y front.0)
 
 -- .. or of the scopes
-pub scope-first : (rows scopes : List End) (row scope : ℕ) (e : End)
-    → scope < length scopes → ((d : End) → e ≡ get_or scopes scope d)
-    → ((d : End) → row < length rows → e.at < (get_or rows row d).at)
+pub scope-first : (rows scopes : List Start) (row scope : ℕ) (e : Start)
+    → scope < length scopes → ((d : Start) → e ≡ get_or scopes scope d)
+    → ((d : Start) → row < length rows → e.at < (get_or rows row d).at)
     → merged (drop row rows) (drop scope scopes) ≡ e ∷ merged (drop row rows)
     (drop (scope + 1) scopes)
 scope-first rows scopes row scope e lt is low =
     ap (merged (drop row rows))
-    (drop_more scopes scope e lt ∙ ap (λ (x : End). x ∷ drop (scope + 1) scopes) (sym (is e)))
+    (drop_more scopes scope e lt ∙ ap (λ (x : Start). x ∷ drop (scope + 1) scopes) (sym (is e)))
     ∙ first-scope (drop row rows) e (drop (scope + 1) scopes) before
   where
-    before : (x : End) (later : List End) → drop row rows ≡ x ∷ later → e.at < x.at
+    before : (x : Start) (later : List Start) → drop row rows ≡ x ∷ later → e.at < x.at
     before x later in_it =
         let front = in-front rows row x later x in_it in
-        let A : End → Type 0 = λ z. e.at < z.at in
+        let A : Start → Type 0 = λ z. e.at < z.at in
         subst A front.1 (low x front.0)
 
 -- ---- a cursor
 
-pub head-next : (c : Cursor) (e : End) (is_row : Bool) → IsMerging c.rows c.scopes c.row c.scope
+pub head-next : (c : Cursor) (e : Start) (is_row : Bool) → IsMerging c.rows c.scopes c.row c.scope
     → IsHead c e is_row → IsNextIn c e
 head-next c e true m h =
-    let front = λ (d : End). in-front (merged c.rows c.scopes) (c.row + c.scope) e _ d
+    let front = λ (d : Start). in-front (merged c.rows c.scopes) (c.row + c.scope) e _ d
     (m.left ∙ row-first c.rows c.scopes c.row c.scope e h.0 h.1 h.2) in
     record { within = (front e).0; here = λ d. (front d).1 }
 head-next c e false m h =
-    let front = λ (d : End). in-front (merged c.rows c.scopes) (c.row + c.scope) e _ d
+    let front = λ (d : Start). in-front (merged c.rows c.scopes) (c.row + c.scope) e _ d
     (m.left ∙ scope-first c.rows c.scopes c.row c.scope e h.0 h.1 h.2) in
     record { within = (front e).0; here = λ d. (front d).1 }
 
-pub row-taken : (c : Cursor) (e : End) (is_row : Bool) (row : ℕ)
+pub row-taken : (c : Cursor) (e : Start) (is_row : Bool) (row : ℕ)
     → IsMerging c.rows c.scopes c.row c.scope → IsHead c e is_row → is_row ≡ true
     → row ≡ c.row + 1 → IsMerging c.rows c.scopes row c.scope
 row-taken c e is_row row m kind one is =
@@ -216,7 +215,7 @@ row-taken c e is_row row m kind one is =
           ∙ ap (λ n. merged (drop n c.rows) (drop c.scope c.scopes)) (sym is);
     }
 
-pub scope-taken : (c : Cursor) (e : End) (is_row : Bool) (scope : ℕ)
+pub scope-taken : (c : Cursor) (e : Start) (is_row : Bool) (scope : ℕ)
     → IsMerging c.rows c.scopes c.row c.scope → IsHead c e is_row → is_row ≡ false
     → scope ≡ c.scope + 1 → IsMerging c.rows c.scopes c.row scope
 scope-taken c e is_row scope m kind other is =
@@ -233,8 +232,8 @@ scope-taken c e is_row scope m kind other is =
           ∙ ap (λ n. merged (drop c.row c.rows) (drop n c.scopes)) (sym is);
     }
 
--- .. or of the list that the endpoint is of
-pub one-taken : (c : Cursor) (e : End) (is_row : Bool) (row scope : ℕ)
+-- .. or of the list that the start is of
+pub one-taken : (c : Cursor) (e : Start) (is_row : Bool) (row scope : ℕ)
     → IsMerging c.rows c.scopes c.row c.scope → IsHead c e is_row
     → row ≡ c.row + from_bool is_row → scope ≡ c.scope + from_bool (not is_row)
     → IsMerging c.rows c.scopes row scope
@@ -249,20 +248,35 @@ pub one-counted : (is_row : Bool) → from_bool is_row + from_bool (not is_row) 
 one-counted true = refl
 one-counted false = refl
 
--- an address below the next endpoint is below all later ones
-pub later-above : (c : Cursor) (e : End) (a : ℕ) → IsMerging c.rows c.scopes c.row c.scope
-    → IsNextIn c e → a < e.at → Above a (drop (taken_of c) (ends_in c))
-later-above c e a m h lt =
-    rest-above (ends_in c) (taken_of c) a e (merged-rises c.rows c.scopes m.rows_rise m.scopes_rise)
-    (λ within. omega (arith, lt, ap (λ (x : End). x.at) (h.here e)))
+-- in an ascending list, all starts are above an address from the first such start on
+rest-above : (starts : List Start) (p a : ℕ) (d : Start)
+    → IsNonDecreasingBy (λ (s : Start). s.at) starts
+    → (p < length starts → a < (get_or starts p d).at) → Above a (drop p starts)
+rest-above starts p a d rise first k e lt =
+    let len : length (drop p starts) ≡ length starts - p = length-drop p starts in
+    let here : get_or (drop p starts) k e ≡ get_or starts (p + k) e = get_or-drop p starts k e in
+    let same : get_or starts p e ≡ get_or starts p d = get_or_default starts p e d (omega arith) in
+    let P : Start → Type 0 = λ x. a < x.at in
+    let later : (get_or starts p e).at ≤ (get_or starts (p + k) e).at =
+    rise p (p + k) e (omega arith) (omega arith) in
+    let begun : a < (get_or starts p d).at = first (omega arith) in
+    let begun_here : a < (get_or starts p e).at = subst P (sym same) begun in
+    subst P (sym here) (omega arith)
 
--- all endpoints were taken
+-- an address below the next start is below all later ones
+pub later-above : (c : Cursor) (e : Start) (a : ℕ) → IsMerging c.rows c.scopes c.row c.scope
+    → IsNextIn c e → a < e.at → Above a (drop (taken_of c) (starts_in c))
+later-above c e a m h lt =
+    rest-above (starts_in c) (taken_of c) a e (merged-rises c.rows c.scopes m.rows_rise m.scopes_rise)
+    (λ within. omega (arith, lt, ap (λ (x : Start). x.at) (h.here e)))
+
+-- all starts were taken
 pub none-next : (c : Cursor) → IsMerging c.rows c.scopes c.row c.scope
     → length c.rows ≤ c.row → length c.scopes ≤ c.scope
-    → length (ends_in c) ≤ taken_of c
+    → length (starts_in c) ≤ taken_of c
 none-next c m rows scopes =
     let none : drop (c.row + c.scope) (merged c.rows c.scopes) ≡ [] =
-    m.left ∙ ap (λ (xs : List End). merged xs (drop c.scope c.scopes)) (drop_all c.row c.rows rows)
+    m.left ∙ ap (λ (xs : List Start). merged xs (drop c.scope c.scopes)) (drop_all c.row c.rows rows)
     ∙ drop_all c.scope c.scopes scopes in
     let len : length (drop (c.row + c.scope) (merged c.rows c.scopes)) ≡ 0 = ap length none in
     omega (arith, len, length-drop (c.row + c.scope) (merged c.rows c.scopes))

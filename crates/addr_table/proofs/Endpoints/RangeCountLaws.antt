@@ -6,7 +6,7 @@ use Rattle.std.proofs.lemmas.List.{length-append}
 use Rattle.dwarf_lines.specs.declared.row.Row.{Row}
 use Rattle.addr_table.specs.Rows.{cover_of}
 use Rattle.addr_table.specs.Private.Sweep.{Reach, reach_of, nonempty}
-use Rattle.addr_table.proofs.Endpoints.EndTurns.{filtered, rows_left, row-covers, rows-end}
+use Rattle.addr_table.proofs.Endpoints.StartTurns.{filtered, rows_left, row-covers, rows-end}
 
 -- ---- rows
 

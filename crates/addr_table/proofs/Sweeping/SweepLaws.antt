@@ -1,14 +1,16 @@
 -- The iterations of the sweep.
 use Rattle.std.proofs.Common.{◌≡◌, ℕ, ◌+◌, ◌^◌, ◌<◌, ◌≤◌, List, [], ◌∷◌, ◌++◌, length, map}
-use Rattle.std.proofs.Common.{take, drop, get_or, ap, sym, ◌∙◌, arith}
+use Rattle.std.proofs.Common.{take, drop, get_or, ap, sym, ◌∙◌, ◌-◌, refl, arith}
 use Rattle.std.specs.Prelude.{nat_lt, filter, sum_by, Option}
+use Rattle.std.specs.List.{All}
 use Rattle.std.proofs.lemmas.List.{length-map, append_assoc, append-nil}
-use Rattle.std.proofs.lemmas.List.Elements.{All-weaker}
+use Rattle.std.proofs.lemmas.List.Elements.{All-weaker, recursion_from_All}
 use Rattle.std.proofs.lemmas.List.Sums.{sum_by-cons}
 use Rattle.std.proofs.lemmas.List.Sorted.{length_permutation}
 use Rattle.dwarf_lines.specs.declared.row.Row.{Row}
 use Rattle.dwarf_entries.specs.Scopes.{Scope}
-use Rattle.addr_table.specs.declared.ends.End.{End}
+use Rattle.addr_table.specs.declared.open_ends.End.{End}
+use Rattle.addr_table.specs.declared.starts.Start.{Start}
 use Rattle.addr_table.specs.Rows.{row_at}
 use Rattle.dwarf_entries.specs.Order.{AreNumbered}
 use Rattle.addr_table.specs.Places.{place_of, place_at, scope_at}
@@ -16,10 +18,10 @@ use Rattle.addr_table.specs.Segments.{ranges_of, ends_of, Segment, segment_of, s
 use Rattle.addr_table.specs.Segments.{segments_of}
 use Rattle.addr_table.specs.Segments.{least_calls, most_calls}
 use Rattle.addr_table.specs.Private.Active.{ActiveSet}
-use Rattle.addr_table.specs.Private.Sweep.{Reach, reaches_of, open_of, close_of, AreEnds, UpTo}
-use Rattle.addr_table.specs.Private.Sweep.{Above, IsBalanced, IsNext, IsActiveAt, AreRowsActiveAt}
-use Rattle.addr_table.specs.Private.Sweep.{IsSweeping, end_cost, keyed}
-use Rattle.addr_table.proofs.ActiveSet.ActiveCounts.{active-any}
+use Rattle.addr_table.specs.Private.Sweep.{Reach, reaches_of, start_of, AreStarts, UpTo, Above}
+use Rattle.addr_table.specs.Private.Sweep.{Closes, AreActive, IsOpen, IsNext, IsActiveAt, AreRowsActiveAt}
+use Rattle.addr_table.specs.Private.Sweep.{IsSweeping, end_cost}
+use Rattle.addr_table.proofs.Endpoints.OpenLaws.{open-any, open-closed, open-until}
 use Rattle.addr_table.proofs.Sweeping.KeyLaws.{rows-active}
 use Rattle.addr_table.proofs.Sweeping.ScopeKeys.{scopes-active}
 use Rattle.addr_table.proofs.Endpoints.EndLaws.{later-ends, first-ends, no-ends, never-ends}
@@ -30,83 +32,104 @@ use Rattle.addr_table.proofs.Endpoints.RangeEnds.{reaches-ranges}
 abbrev pub later : List Row → List Scope → ℕ → List ℕ
 later rows scopes e = filter (λ x. nat_lt e x) (ends_of (ranges_of rows scopes))
 
--- After all endpoints up to an address, the active rows and scopes are the ones that contain it.
-pub rows-at : (rows : List Row) (scopes : List Scope) (opens closes : List End) (p q e : ℕ)
-    (active : ActiveSet)
-    → AreEnds (reaches_of rows scopes) opens closes → IsBalanced opens closes p q active
-    → UpTo e (take p opens) → Above e (drop p opens) → UpTo e (take q closes)
-    → Above e (drop q closes) → AreRowsActiveAt rows e active.counts
-rows-at rows scopes opens closes p q e active h b ol oh cl ch =
+-- After all starts up to an address, the active rows and scopes are the ones that contain it.
+pub rows-at : (rows : List Row) (scopes : List Scope) (starts : List Start) (p e : ℕ)
+    (ends : List End) (active : ActiveSet)
+    → AreStarts (reaches_of rows scopes) starts → IsOpen starts p (e + 1) ends active
+    → UpTo e (take p starts) → Above e (drop p starts) → AreRowsActiveAt rows e active.counts
+rows-at rows scopes starts p e ends active h b low high =
     rows-active rows scopes e active.counts
-    (active-any (reaches_of rows scopes) opens closes p q e active h b ol oh cl ch)
+    (open-any (reaches_of rows scopes) starts p e ends active h b low high)
 
-pub scopes-at : (rows : List Row) (scopes : List Scope) (opens closes : List End) (p q e : ℕ)
-    (active : ActiveSet)
-    → AreNumbered 0 (length scopes) scopes → AreEnds (reaches_of rows scopes) opens closes
-    → IsBalanced opens closes p q active
-    → UpTo e (take p opens) → Above e (drop p opens) → UpTo e (take q closes)
-    → Above e (drop q closes)
+pub scopes-at : (rows : List Row) (scopes : List Scope) (starts : List Start) (p e : ℕ)
+    (ends : List End) (active : ActiveSet) → AreNumbered 0 (length scopes) scopes
+    → AreStarts (reaches_of rows scopes) starts → IsOpen starts p (e + 1) ends active
+    → UpTo e (take p starts) → Above e (drop p starts)
     → IsActiveAt (length rows) scopes e active.counts
-scopes-at rows scopes opens closes p q e active numbered h b ol oh cl ch =
+scopes-at rows scopes starts p e ends active numbered h b low high =
     scopes-active rows scopes e active.counts numbered
-    (active-any (reaches_of rows scopes) opens closes p q e active h b ol oh cl ch)
+    (open-any (reaches_of rows scopes) starts p e ends active h b low high)
 
 -- a set with the same counts and at least as many calls
-pub same-balance : (opens closes : List End) (p q : ℕ) (old new : ActiveSet)
-    → IsBalanced opens closes p q old → new.counts ≡ old.counts
-    → ((n : ℕ) → n < 2 ^ 64 → n ≤ old.calls → n ≤ new.calls) → IsBalanced opens closes p q new
-same-balance opens closes p q old new b counts more = record {
-  opened = b.opened;
-  closed = b.closed;
-  balance = λ k. ap (λ (cs : List ℕ). get_or cs k 0 + keyed k (take q closes)) counts ∙ b.balance k;
+pub same-open : (starts : List Start) (p x : ℕ) (ends : List End) (old new : ActiveSet)
+    → IsOpen starts p x ends old → new.counts ≡ old.counts
+    → ((n : ℕ) → n < 2 ^ 64 → n ≤ old.calls → n ≤ new.calls) → IsOpen starts p x ends new
+same-open starts p x ends old new b counts more = record {
+  within = b.within;
+  open_are = b.open_are;
+  active_are = λ k. ap (λ (cs : List ℕ). get_or cs k 0) counts ∙ b.active_are k;
   calls =
-      let u : p ≤ length opens = b.opened in
-      let v : q ≤ length closes = b.closed in let w : length opens + length closes < 2 ^ 32 =
-      b.few in more (p + q) (omega arith) b.calls;
+      let u = b.within in let w = b.few in let v = b.calls in
+      let least = more (p + p - length ends) (omega arith) (omega arith) in omega arith;
   few = b.few;
 }
 
--- the number of starts and the number of ends are the number of ranges
-pub lengths : (rows : List Row) (scopes : List Scope) (opens closes : List End)
-    → AreEnds (reaches_of rows scopes) opens closes
-    → (length opens ≡ length (ranges_of rows scopes))
-    × (length closes ≡ length (ranges_of rows scopes))
-lengths rows scopes opens closes h =
-    let o : length opens ≡ length (map open_of (reaches_of rows scopes)) =
-    length_permutation (map open_of (reaches_of rows scopes)) opens h.opens_are in
-    let c : length closes ≡ length (map close_of (reaches_of rows scopes)) =
-    length_permutation (map close_of (reaches_of rows scopes)) closes h.closes_are in
-    let om : length (map open_of (reaches_of rows scopes)) ≡ length (reaches_of rows scopes) =
-    length-map (reaches_of rows scopes) open_of in
-    let cm : length (map close_of (reaches_of rows scopes)) ≡ length (reaches_of rows scopes) =
-    length-map (reaches_of rows scopes) close_of in
+-- the ranges that end at an address were closed
+pub closed-open : (starts : List Start) (p x : ℕ) (ends ends' : List End) (old new : ActiveSet)
+    → IsOpen starts p x ends old → Closes x ends ends' → AreActive ends' new
+    → ((n : ℕ) → n < 2 ^ 64 → n ≤ old.calls + length ends → n ≤ new.calls + length ends')
+    → IsOpen starts p (x + 1) ends' new
+closed-open starts p x ends ends' old new b closes active more = record {
+  within = b.within;
+  open_are = open-closed starts p x ends ends' b.open_are closes;
+  active_are = active;
+  calls = let u = b.within in let w = b.few in more (p + p) (omega arith) b.calls;
+  few = b.few;
+}
+
+-- no range ends before the next endpoint
+pub open-next : (starts : List Start) (p x f : ℕ) (ends : List End) (active : ActiveSet)
+    → IsOpen starts p x ends active → All (λ (e : End). f ≤ e.at) ends → x ≤ f
+    → IsOpen starts p f ends active
+open-next starts p x f ends active b from le = record {
+  within = b.within;
+  open_are = open-until starts p x f ends b.open_are
+      (recursion_from_All (λ (e : End). f ≤ e.at) ends from) le;
+  active_are = b.active_are;
+  calls = b.calls;
+  few = b.few;
+}
+
+-- there are as many starts as ranges
+pub lengths : (rows : List Row) (scopes : List Scope) (starts : List Start)
+    → AreStarts (reaches_of rows scopes) starts
+    → length starts ≡ length (ranges_of rows scopes)
+lengths rows scopes starts h =
+    let s : length starts ≡ length (map start_of (reaches_of rows scopes)) =
+    length_permutation (map start_of (reaches_of rows scopes)) starts h.starts_are in
+    let m : length (map start_of (reaches_of rows scopes)) ≡ length (reaches_of rows scopes) =
+    length-map (reaches_of rows scopes) start_of in
     let r : length (map (λ (r : Reach). r.range) (reaches_of rows scopes))
     ≡ length (reaches_of rows scopes) =
     length-map (reaches_of rows scopes) (λ (r : Reach). r.range) in
-    let s : length (map (λ (r : Reach). r.range) (reaches_of rows scopes))
+    let a : length (map (λ (r : Reach). r.range) (reaches_of rows scopes))
     ≡ length (ranges_of rows scopes) =
-    ap length (reaches-ranges rows scopes) in
-    (omega arith, omega arith)
+    ap length (reaches-ranges rows scopes) in omega arith
 
 -- ---- the first iteration
 
-pub sweep-start : (rows : List Row) (scopes : List Scope) (opens closes : List End) (f : ℕ)
+pub sweep-start : (rows : List Row) (scopes : List Scope) (starts : List Start) (f : ℕ)
     (active : ActiveSet)
-    → AreEnds (reaches_of rows scopes) opens closes → IsBalanced opens closes 0 0 active
-    → active.calls ≡ 0
-    → length active.counts ≡ length rows + length scopes + length scopes → IsNext opens closes 0 0 f
-    → IsSweeping rows scopes opens closes 0 0 f active []
+    → AreStarts (reaches_of rows scopes) starts → AreActive [] active → active.calls ≡ 0
+    → length starts + length starts < 2 ^ 32
+    → length active.counts ≡ length rows + length scopes + length scopes → IsNext starts [] 0 f
+    → IsSweeping rows scopes starts 0 f [] active []
 unfolding segments_of
-sweep-start rows scopes opens closes f active h b none len next =
+sweep-start rows scopes starts f active h none calls few len next =
     let is : ends_of (ranges_of rows scopes) ≡ f ∷ later rows scopes f =
-    first-ends rows scopes opens closes f h next in
+    first-ends rows scopes starts f h next in
     let same : sum_by (end_cost scopes) (ends_of (ranges_of rows scopes))
     ≡ sum_by (end_cost scopes) (f ∷ later rows scopes f) =
     ap (sum_by (end_cost scopes)) is in
     record {
-      balanced = b;
-      opened = λ k d lt. absurd (omega arith);
-      closed = λ k d lt. absurd (omega arith);
+      opened = record {
+        within = omega arith;
+        open_are = λ g. refl;
+        active_are = none;
+        calls = omega arith;
+        few = few;
+      };
+      started = λ k d lt. absurd (omega arith);
       next = next;
       list = sym (ap (segments_between rows scopes) is);
       calls = omega arith;
@@ -114,40 +137,37 @@ sweep-start rows scopes opens closes f active h b none len next =
     }
 
 -- no endpoint at all
-pub sweep-nothing : (rows : List Row) (scopes : List Scope) (opens closes : List End)
-    → AreEnds (reaches_of rows scopes) opens closes
-    → length opens ≤ 0 → length closes ≤ 0
+pub sweep-nothing : (rows : List Row) (scopes : List Scope) (starts : List Start)
+    → AreStarts (reaches_of rows scopes) starts → length starts ≤ 0
     → ([] ≡ segments_of rows scopes) × (least_calls rows scopes ≤ 0)
 unfolding segments_of least_calls
-sweep-nothing rows scopes opens closes h o c =
-    let lens = lengths rows scopes opens closes h in
-    let a : length opens ≡ length (ranges_of rows scopes) = lens.0 in (
-      sym (ap (segments_between rows scopes)
-          (never-ends rows scopes opens closes h o c)),
+sweep-nothing rows scopes starts h none =
+    let a : length starts ≡ length (ranges_of rows scopes) = lengths rows scopes starts h in (
+      sym (ap (segments_between rows scopes) (never-ends rows scopes starts h none)),
       omega arith,
     )
 
--- ---- from one endpoint to the next
+-- ---- the next endpoint
 
-pub sweep-next : (rows : List Row) (scopes : List Scope) (opens closes : List End)
-    (p q p' q' e f : ℕ) (active active' : ActiveSet)
-    (out out' : List Segment) (row scope : Option ℕ)
-    → AreEnds (reaches_of rows scopes) opens closes
-    → IsSweeping rows scopes opens closes p q e active out → IsBalanced opens closes p' q' active'
-    → UpTo e (take p' opens)
-    → Above e (drop p' opens) → UpTo e (take q' closes) → Above e (drop q' closes)
-    → active'.calls + p + q ≤ active.calls + p' + q' + end_cost scopes e
-    → length active'.counts ≡ length rows + length scopes + length scopes → row ≡ row_at rows e
-    → scope ≡ scope_at scopes e
-    → out' ≡ out ++ segment_of e f (place_of row scope e) → IsNext opens closes p' q' f
-    → IsSweeping rows scopes opens closes p' q' f active' out'
+pub sweep-next : (rows : List Row) (scopes : List Scope) (starts : List Start) (p p' e f : ℕ)
+    (ends ends' : List End) (active active' : ActiveSet) (out out' : List Segment)
+    (row scope : Option ℕ)
+    → AreStarts (reaches_of rows scopes) starts
+    → IsSweeping rows scopes starts p e ends active out
+    → IsOpen starts p' (e + 1) ends' active'
+    → UpTo e (take p' starts) → Above e (drop p' starts)
+    → active'.calls + length ends' + (p + p) ≤ active.calls + length ends + (p' + p')
+    + end_cost scopes e
+    → length active'.counts ≡ length rows + length scopes + length scopes
+    → row ≡ row_at rows e → scope ≡ scope_at scopes e
+    → out' ≡ out ++ segment_of e f (place_of row scope e) → IsNext starts ends' p' f
+    → IsSweeping rows scopes starts p' f ends' active' out'
 unfolding place_at
-sweep-next rows scopes opens closes p q p' q' e f active active' out out' row scope h s b ol oh cl
-    ch calls len row_is scope-is out_is
-    next =
-    let above : e < f = next-above opens closes p' q' e f oh ch next in
+sweep-next rows scopes starts p p' e f ends ends' active active' out out' row scope h s b low high
+    calls len row_is scope-is out_is next =
+    let above : e < f = next-above starts p' e f ends' high b.open_are next in
     let is : later rows scopes e ≡ f ∷ later rows scopes f =
-    later-ends rows scopes opens closes p' q' e f h ol cl oh ch next in
+    later-ends rows scopes starts p' e f ends' h low high b.open_are next in
     let place : place_of row scope e ≡ place_at rows scopes e =
     ap (λ (o : Option ℕ). place_of o scope e) row_is
     ∙ ap (λ (o : Option ℕ). place_of (row_at rows e) o e) scope-is in
@@ -157,16 +177,11 @@ sweep-next rows scopes opens closes p q p' q' e f active active' out out' row sc
     let same : sum_by (end_cost scopes) (later rows scopes e)
     ≡ sum_by (end_cost scopes) (f ∷ later rows scopes f) =
     ap (sum_by (end_cost scopes)) is in
-    let was : active.calls + sum_by (end_cost scopes) (e ∷ later rows scopes e) ≤ p + q + sum_by
-    (end_cost scopes)
-    (ends_of (ranges_of rows scopes)) =
-    s.calls in
+    let was = s.calls in
     record {
-      balanced = b;
-      opened = All-weaker (λ (x : End). x.at ≤ e) (λ (x : End). x.at ≤ f) (λ x le. omega arith)
-          (take p' opens) ol;
-      closed = All-weaker (λ (x : End). x.at ≤ e) (λ (x : End). x.at ≤ f) (λ x le. omega arith)
-          (take q' closes) cl;
+      opened = open-next starts p' (e + 1) f ends' active' b next.ends_from (omega (arith, above));
+      started = All-weaker (λ (x : Start). x.at ≤ e) (λ (x : Start). x.at ≤ f)
+          (λ x le. omega (arith, le, above)) (take p' starts) low;
       next = next;
       list =
           ap (λ (cs : List Segment). cs ++ segments_between rows scopes (f ∷ later rows scopes f))
@@ -181,33 +196,29 @@ sweep-next rows scopes opens closes p q p' q' e f active active' out out' row sc
 
 -- ---- the last endpoint
 
-pub sweep-end : (rows : List Row) (scopes : List Scope) (opens closes : List End) (p q p' q' e : ℕ)
-    (active active' : ActiveSet)
-    (out : List Segment)
-    → AreEnds (reaches_of rows scopes) opens closes
-    → IsSweeping rows scopes opens closes p q e active out → IsBalanced opens closes p' q' active'
-    → UpTo e (take p' opens)
-    → UpTo e (take q' closes)
-    → active'.calls + p + q ≤ active.calls + p' + q' + end_cost scopes e → length opens ≤ p'
-    → length closes ≤ q'
+pub sweep-end : (rows : List Row) (scopes : List Scope) (starts : List Start) (p p' e : ℕ)
+    (ends ends' : List End) (active active' : ActiveSet) (out : List Segment)
+    → AreStarts (reaches_of rows scopes) starts
+    → IsSweeping rows scopes starts p e ends active out → IsOpen starts p' (e + 1) ends' active'
+    → UpTo e (take p' starts)
+    → active'.calls + length ends' + (p + p) ≤ active.calls + length ends + (p' + p')
+    + end_cost scopes e
+    → (length starts ≤ p') × (ends' ≡ [])
     → (out ≡ segments_of rows scopes) × (least_calls rows scopes ≤ active'.calls)
     × (active'.calls ≤ most_calls rows scopes)
 unfolding least_calls most_calls
-sweep-end rows scopes opens closes p q p' q' e active active' out h s b ol cl calls op cp =
-    let is : later rows scopes e ≡ [] = no-ends rows scopes opens closes p' q' e h ol cl op cp in
-    let lens = lengths rows scopes opens closes h in
-    let lo : length opens ≡ length (ranges_of rows scopes) = lens.0 in
-    let lc : length closes ≡ length (ranges_of rows scopes) = lens.1 in
+sweep-end rows scopes starts p p' e ends ends' active active' out h s b low calls none =
+    let is : later rows scopes e ≡ [] =
+    no-ends rows scopes starts p' e ends' h low b.open_are none.0 none.1 in
+    let all : length starts ≡ length (ranges_of rows scopes) = lengths rows scopes starts h in
     let cons : sum_by (end_cost scopes) (e ∷ later rows scopes e)
     ≡ end_cost scopes e + sum_by (end_cost scopes) (later rows scopes e) =
     sum_by-cons (end_cost scopes) e (later rows scopes e) in
-    let was : active.calls + sum_by (end_cost scopes) (e ∷ later rows scopes e) ≤ p + q + sum_by
-    (end_cost scopes)
-    (ends_of (ranges_of rows scopes)) =
-    s.calls in
-    let least : p' + q' ≤ active'.calls = b.calls in
-    let mo : p' ≤ length opens = b.opened in
-    let mc : q' ≤ length closes = b.closed in (
+    let was = s.calls in
+    let least = b.calls in
+    let within = b.within in
+    let past = none.0 in
+    let empty : length ends' ≡ 0 = ap length none.1 in (
       sym (append-nil out) ∙ ap (λ (es : List ℕ). out ++ segments_between rows scopes (e ∷ es))
           (sym is)
           ∙ s.list,

@@ -1,8 +1,8 @@
--- The rows that cover addresses, sequence by sequence, and where they start and end.
-use Rattle.std.specs.Prelude.{ℕ, suc, List, [], ◌∷◌, map, filter, Bool, true, false, nat_lt}
+-- The rows that cover addresses, sequence by sequence, and their starts.
+use Rattle.std.specs.Prelude.{ℕ, suc, ◌+◌, List, [], ◌∷◌, map, filter, Bool, true, false, nat_lt}
 use Rattle.std.specs.Prelude.{if◌then◌else◌, slice_index_or}
 use Rattle.dwarf_lines.specs.declared.row.Row.{Row}
-use Rattle.addr_table.specs.declared.ends.End.{End}
+use Rattle.addr_table.specs.declared.starts.Start.{Start}
 use Rattle.addr_table.specs.Segments.{is_nonempty}
 use Rattle.addr_table.specs.Rows.{covers_from}
 
@@ -28,9 +28,11 @@ starts_from false n (row ∷ rows) = starts_from row.«end» (suc n) rows
 abbrev pub no_row : Row
 no_row = record { address = 0; program = record { 0 = 0 }; file = 0; line = 0; «end» = false }
 
--- the start of the addresses that a row covers, or their end, which is where the next row starts
-abbrev pub row_end : List Row → Bool → ℕ → End
-row_end rows is_end n = record {
-  at = (slice_index_or rows (if is_end then suc n else n) no_row).address;
-  key = n;
-}
+-- the address of a row
+abbrev pub row_address : List Row → ℕ → ℕ
+row_address rows n = (slice_index_or rows n no_row).address
+
+-- the start of the addresses that a row covers; they end where the next row starts
+abbrev pub row_start : List Row → ℕ → Start
+row_start rows n =
+    record { at = row_address rows n; to = row_address rows (n + 1); key = n }

@@ -1,0 +1,18 @@
+-- Ends in a heap.
+use Rattle.std.specs.Prelude.{ℕ, List}
+use Rattle.std.specs.BinaryHeap.{IsHeap}
+use Rattle.std.specs.Ordering.{nat_cmp, ordering_then}
+use Rattle.std.specs.declared.cmp.Ordering.{Ordering}
+use Rattle.std.specs.declared.cmp.Reverse.{Reverse}
+use Rattle.addr_table.specs.declared.open_ends.End.{End}
+
+-- the end that an item of the heap stands for: its address comes first
+abbrev pub end_in : Reverse (ℕ × ℕ) → End
+end_in item = record { at = item.0.0; key = item.0.1 }
+
+-- the order of the heap, whose greatest item is a lowest end
+abbrev pub higher_first : Reverse (ℕ × ℕ) → Reverse (ℕ × ℕ) → Ordering
+higher_first x y = ordering_then (nat_cmp y.0.0 x.0.0) (nat_cmp y.0.1 x.0.1)
+
+abbrev pub IsEndHeap : List (Reverse (ℕ × ℕ)) → Type 0
+IsEndHeap items = IsHeap higher_first items
