@@ -4,8 +4,12 @@ pub mod DigitCounts
 pub mod DigitLaws
 pub mod DigitPlaces
 pub mod EndLaws
+pub mod EndTurns
 pub mod FlatPermutations
 pub mod MergeLaws
+pub mod MergeRests
+pub mod NextEnds
+pub mod OpenCounts
 pub mod OpenEndLaws
 pub mod OpenLaws
 pub mod RangeCountLaws
@@ -15,3 +19,4 @@ pub mod RowStartLaws
 pub mod StartDigits
 pub mod StartListLaws
 pub mod StartTurns
+pub mod SumLaws

@@ -13,7 +13,8 @@ use Rattle.addr_table.specs.declared.open_ends.End.{End}
 use Rattle.addr_table.specs.declared.watched_scopes.WatchedScopes.{WatchedScopes}
 use Rattle.addr_table.specs.Private.Active.{ActiveSet}
 use Rattle.addr_table.specs.Private.Sweep.{AreActive, AreUnwatched, is_watched, keyed}
-use Rattle.addr_table.proofs.Endpoints.OpenLaws.{one-if, one_of}
+use Rattle.addr_table.proofs.Endpoints.OpenCounts.{one_of}
+use Rattle.addr_table.proofs.Endpoints.SumLaws.{one-if}
 
 one-same : (a k : ℕ) → a ≡ k → one-if (a == k) ≡ 1
 one-same a k is = let t : (a == k) ≡ true = grind (arith, nat_tests) in rw t refl

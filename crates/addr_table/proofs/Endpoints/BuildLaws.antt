@@ -154,7 +154,8 @@ keys-below rows scopes numbered =
 
 mapped-all : (P : ℕ → Type 0) (f : Reach → Start) (rs : List Reach)
     → ((r : Reach) → P r.key → P (f r).key)
-    → AllByRecursion (λ (r : Reach). P r.key) rs → AllByRecursion (λ (e : Start). P e.key) (map f rs)
+    → AllByRecursion (λ (r : Reach). P r.key) rs → AllByRecursion (λ (e : Start). P e.key) (map f
+    rs)
 mapped-all P f [] g h = tt
 mapped-all P f (r ∷ rs) g h = (g r h.0, mapped-all P f rs g h.1)
 

@@ -51,7 +51,14 @@ open-taken end x s n n' starts ends ends' old new t h late perm within counts ca
       within = omega (arith, t.within);
       open_are = open-more starts n x s ends ends' h.open_are t.within t.is late perm;
       active_are = active-opened (end_of s) ends ends' old new h.active_are perm within counts;
-      calls = omega (arith, h.calls, calls, ends-length (end_of s) ends ends' perm, h.few, t.within);
+      calls = omega (
+        arith,
+        h.calls,
+        calls,
+        ends-length (end_of s) ends ends' perm,
+        h.few,
+        t.within,
+      );
       few = h.few;
     })
 

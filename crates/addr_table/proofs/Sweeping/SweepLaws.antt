@@ -19,13 +19,15 @@ use Rattle.addr_table.specs.Segments.{segments_of}
 use Rattle.addr_table.specs.Segments.{least_calls, most_calls}
 use Rattle.addr_table.specs.Private.Active.{ActiveSet}
 use Rattle.addr_table.specs.Private.Sweep.{Reach, reaches_of, start_of, AreStarts, UpTo, Above}
-use Rattle.addr_table.specs.Private.Sweep.{Closes, AreActive, IsOpen, IsNext, IsActiveAt, AreRowsActiveAt}
+use Rattle.addr_table.specs.Private.Sweep.{Closes, AreActive, IsOpen, IsNext, IsActiveAt}
+use Rattle.addr_table.specs.Private.Sweep.{AreRowsActiveAt}
 use Rattle.addr_table.specs.Private.Sweep.{IsSweeping, end_cost}
-use Rattle.addr_table.proofs.Endpoints.OpenLaws.{open-any, open-closed, open-until}
+use Rattle.addr_table.proofs.Endpoints.OpenCounts.{open-any}
+use Rattle.addr_table.proofs.Endpoints.OpenLaws.{open-closed, open-until}
 use Rattle.addr_table.proofs.Sweeping.KeyLaws.{rows-active}
 use Rattle.addr_table.proofs.Sweeping.ScopeKeys.{scopes-active}
-use Rattle.addr_table.proofs.Endpoints.EndLaws.{later-ends, first-ends, no-ends, never-ends}
-use Rattle.addr_table.proofs.Endpoints.EndLaws.{next-above}
+use Rattle.addr_table.proofs.Endpoints.EndTurns.{later-ends, first-ends, no-ends, never-ends}
+use Rattle.addr_table.proofs.Endpoints.NextEnds.{next-above}
 use Rattle.addr_table.proofs.Endpoints.RangeEnds.{reaches-ranges}
 
 -- the endpoints above one

@@ -1,5 +1,6 @@
 -- One iteration of the sweep.
-use Rattle.std.proofs.Common.{[], ◌≡◌, ℕ, ◌+◌, ◌-◌, ◌^◌, ◌<◌, ◌≤◌, List, ◌++◌, length, take, drop, ap}
+use Rattle.std.proofs.Common.{[], ◌≡◌, ℕ, ◌+◌, ◌-◌, ◌^◌, ◌<◌, ◌≤◌, List, ◌++◌, length, take, drop}
+use Rattle.std.proofs.Common.{ap}
 use Rattle.std.proofs.Common.{arith}
 use Rattle.std.specs.Prelude.{Option}
 use Rattle.dwarf_lines.specs.declared.row.Row.{Row}
@@ -16,7 +17,7 @@ use Rattle.addr_table.specs.Private.Active.{ActiveSet, one_more}
 use Rattle.addr_table.specs.Private.Sweep.{reaches_of, AreStarts, UpTo, Above, Closes}
 use Rattle.addr_table.specs.Private.Sweep.{IsOpen, IsNext, IsActiveAt, IsSweeping, end_cost}
 use Rattle.addr_table.proofs.Sweeping.KeyLaws.{row-first}
-use Rattle.addr_table.proofs.Endpoints.EndLaws.{moves-on}
+use Rattle.addr_table.proofs.Endpoints.EndTurns.{moves-on}
 use Rattle.addr_table.proofs.Sweeping.SweepLaws.{rows-at, scopes-at, same-open, sweep-next}
 use Rattle.addr_table.proofs.Sweeping.SweepLaws.{sweep-end}
 
@@ -85,7 +86,8 @@ pub turn : (rows : List Row) (scopes : List Scope) (starts : List Start) (p p' e
     → ((n : ℕ) → n < 2 ^ 64 → n ≤ active3.calls → n ≤ active4.calls)
     → IsPast rows scopes starts p p' e ends0 ends2 active0 active4 row scope
 turn rows scopes starts p p' e ends0 ends1 ends2 active0 active1 active2 active3 active4 row scope
-    out numbered h s closes calls1 b2 low high more calls2 fewer len1 len2 first counts3 calls3 found
+    out numbered h s closes calls1 b2 low high more calls2 fewer len1 len2 first counts3 calls3
+    found
     few counts4 least =
     let b3 = same-open starts p' (e + 1) ends2 active2 active3 b2 counts3
     (λ n lt le. omega (arith, lt, le, calls3)) in

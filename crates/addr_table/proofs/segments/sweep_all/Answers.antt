@@ -27,5 +27,6 @@ sweep-requires-clause-empty c = none-active _ _ c.in_ok-active.ensures
 pub sweep-requires-clause-few : goal.sweep-requires-clause-few
 sweep-requires-clause-few c = (
   c.requires.few.keys,
-  starts-few c.args.rows.now c.args.scopes.now.scopes _ c.requires.few c.in_ok-starts.ensures.starts,
+  starts-few c.args.rows.now c.args.scopes.now.scopes _ c.requires.few
+      c.in_ok-starts.ensures.starts,
 )

@@ -1,7 +1,8 @@
 use Rattle.std.proofs.Common.{◌≡◌, ◌<◌, ◌≤◌, length, ap, subst, slice_index_or}
 use Rattle.addr_table.specs.declared.starts.Start.{Start}
 use Rattle.addr_table.specs.Private.Merged.{Cursor, IsNext, starts_in, taken_of}
-use Rattle.addr_table.proofs.Endpoints.MergeLaws.{head-next, none-next}
+use Rattle.addr_table.proofs.Endpoints.MergeLaws.{head-next}
+use Rattle.addr_table.proofs.Endpoints.MergeRests.{none-next}
 use Rattle.addr_table.proofs.start_cursor.StartCursor.next.Goals as goal
 
 pub returns-in-Some : goal.returns-in-Some

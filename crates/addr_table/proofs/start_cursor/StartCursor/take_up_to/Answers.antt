@@ -5,7 +5,8 @@ use Rattle.std.specs.Prelude.{not}
 use Rattle.addr_table.specs.Private.Merged.{Cursor, IsHead, IsNext, IsNextIn, Takes, starts_in}
 use Rattle.addr_table.specs.Private.Merged.{taken_of}
 use Rattle.addr_table.specs.Private.Sweep.{Above}
-use Rattle.addr_table.proofs.Endpoints.MergeLaws.{head-next, later-above, one-taken, one-counted}
+use Rattle.addr_table.proofs.Endpoints.MergeLaws.{head-next, one-taken, one-counted}
+use Rattle.addr_table.proofs.Endpoints.MergeRests.{later-above}
 use Rattle.addr_table.proofs.start_cursor.StartCursor.take_up_to.Goals as goal
 use Rattle.addr_table.proofs.start_cursor.StartCursor.take_up_to.Goals.{In_ok-next}
 

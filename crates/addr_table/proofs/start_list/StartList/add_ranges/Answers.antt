@@ -1,4 +1,5 @@
-use Rattle.addr_table.proofs.Endpoints.StartTurns.{adding-same, adding-more, adding-end, range-added}
+use Rattle.addr_table.proofs.Endpoints.StartTurns.{adding-same, adding-more, adding-end}
+use Rattle.addr_table.proofs.Endpoints.StartTurns.{range-added}
 use Rattle.addr_table.proofs.Endpoints.StartTurns.{ranges-end}
 use Rattle.addr_table.proofs.start_list.StartList.add_ranges.Goals as goal
 

@@ -4,7 +4,8 @@ use Rattle.addr_table.specs.Private.Sweep.{AddsStarts, reaches_in}
 use Rattle.addr_table.proofs.Chains.ChainLaws.{number-at}
 use Rattle.addr_table.proofs.Chains.ChainWalks.{no_scope}
 use Rattle.addr_table.proofs.Scanning.ScanLaws.{returned-number}
-use Rattle.addr_table.proofs.Endpoints.StartTurns.{adding-same, adding-more, adding-end, scope-begins}
+use Rattle.addr_table.proofs.Endpoints.StartTurns.{adding-same, adding-more, adding-end}
+use Rattle.addr_table.proofs.Endpoints.StartTurns.{scope-begins}
 use Rattle.addr_table.proofs.Endpoints.StartTurns.{scopes-end}
 use Rattle.addr_table.proofs.start_list.StartList.add_scopes.Goals as goal
 

@@ -19,7 +19,8 @@ returns-in_err-sort-clause-permutation c =
 
 pub invariant_of-self-2 : goal.invariant_of-self-2
 invariant_of-self-2 c = (
-  All-permutation (λ (l : LowStart). l.at < 2 ^ 32) _ _ c.sort.ensures.permutation c.self.invariant.0,
+  All-permutation (λ (l : LowStart). l.at < 2 ^ 32) _ _ c.sort.ensures.permutation
+      c.self.invariant.0,
   All-permutation (λ (h : Start). 2 ^ 32 ≤ h.at) _ _ c.sort_unstable_by_key.ensures.permutation
       c.self.invariant.1,
 )
@@ -32,7 +33,8 @@ returns-clause-permutation c =
 pub returns-clause-rise : goal.returns-clause-rise
 returns-clause-rise c =
     both-rise _ _ c.in_ok-sort.ensures.rise
-    (IsNonDecreasingBy-from_sort_by_key (λ (h : Start). h.at) _ c.sort_unstable_by_key.ensures.sorted
+    (IsNonDecreasingBy-from_sort_by_key (λ (h : Start). h.at) _
+    c.sort_unstable_by_key.ensures.sorted
     (λ a r q k. search rules))
     (All-permutation (λ (l : LowStart). l.at < 2 ^ 32) _ _ c.sort.ensures.permutation
     c.self.invariant.0)
