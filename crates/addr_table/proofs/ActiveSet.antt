@@ -4,3 +4,4 @@ pub mod BitLaws
 pub mod FilledLaws
 pub mod FirstBits
 pub mod FirstLaws
+pub mod KeyCounts

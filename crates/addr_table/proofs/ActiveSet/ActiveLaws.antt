@@ -171,6 +171,12 @@ zeros n k = elim (cases_lt k n) [
       (let l : length (zeros_of n) ≡ n = length-replicate {A = ℕ} n 0 in omega arith)
 ]
 
+-- no bit of a bitmap of zeros is set
+pub no-bit : (n k : ℕ) → has (zeros_of n) k ≡ false
+no-bit n k =
+    let empty : get_or (zeros_of n) (k / 64) 0 ≡ 0 = zeros n (k / 64) in
+    not-filled (zeros_of n) k (ap (nat_lt 0) empty)
+
 pub empty-summary : (n m : ℕ) → Summarizes (zeros_of n) (zeros_of m)
 empty-summary n m = record { same = λ k. here k }
   where

@@ -6,6 +6,7 @@ use Rattle.addr_table.proofs.parent_walk.next_in_chain.Goals as goal
 use Rattle.addr_table.proofs.parent_walk.next_in_chain.Goals.{then-number-top-via-then-number-top}
 use Rattle.addr_table.proofs.parent_walk.next_in_chain.Goals.{}
 use Rattle.addr_table.proofs.parent_walk.next_in_chain.Goals.{}
+use Rattle.addr_table.proofs.parent_walk.next_in_chain.Goals.{}
 use Rattle.addr_table.proofs.parent_walk.next_in_chain.Goals.{then-number-top-via-else-number-top+then-is_scope_at}
 
 pub returns-then-number-top-clause-returned : goal.returns-then-number-top-clause-returned
