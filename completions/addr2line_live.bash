@@ -1,5 +1,6 @@
-# Completes the options of addr2line_live in bash, and the file of -e. bash-completion loads this file
-# from share/bash-completion/completions/addr2line_live; `source` loads it without bash-completion.
+# Completes the options of addr2line_live in bash, and the file of -e. bash-completion loads this
+# file from share/bash-completion/completions/addr2line_live; `source` loads it without
+# bash-completion.
 
 # The options. tools/check_docs.py compares them with the program.
 _addr2line_live_options='-a --addresses -f --functions -i --inlines -p --pretty-print -s --basenames

@@ -1,8 +1,8 @@
 -- The subprograms and inlined subroutines of all units (DWARF 5, 3.3), and the faults of
 -- .debug_info.
 use Rattle.std.specs.Prelude.{ℕ, ◌+◌, ◌-◌, List, [], ◌∷◌, length, Option, Some, None, Result, Ok}
-use Rattle.std.specs.Prelude.{option_map, option_and_then, map, flat_map, count_by, sum_by}
-use Rattle.std.specs.Prelude.{slice_get, zip, take, drop}
+use Rattle.std.specs.Prelude.{option_and_then, map, flat_map, count_by, sum_by}
+use Rattle.std.specs.Prelude.{slice_get, zip, take, drop, ◌==◌, ◌^◌, if◌then◌else◌}
 use Rattle.std.specs.Option.{option_map_or, unwrap_or}
 use Rattle.dwarf_bytes.specs.declared.constants.TheConstants.{DW_AT_CALL_FILE, DW_AT_CALL_LINE}
 use Rattle.dwarf_bytes.specs.declared.constants.TheConstants.{DW_AT_STMT_LIST}
@@ -44,9 +44,11 @@ pub record Scope : Type 0 where
   pub call_file : Option ℕ
   pub call_line : Option ℕ
 
--- A string, given its section and its offset there.
-abbrev pub text_by : Option Section → ℕ → Option TextOffset
-text_by section offset = option_map (λ name. record { section = name; offset = offset }) section
+-- A string, given its section and its offset there; the greatest number of 32 bits stands for a
+-- missing string.
+abbrev pub text_by : Section → ℕ → Option TextOffset
+text_by section offset =
+    if offset == 2 ^ 32 - 1 then None else Some (record { section = section; offset = offset })
 
 -- The file and line of a call site, given the numbers that it has. If one of them has more than 32
 -- bits, both are at an index of a list.

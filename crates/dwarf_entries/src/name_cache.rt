@@ -24,8 +24,8 @@ pub(crate) struct PackedNames {
     offset: u32,
     name_offset: u32,
     linkage_name_offset: u32,
-    name_section: Option<Section>,
-    linkage_name_section: Option<Section>,
+    name_section: Section,
+    linkage_name_section: Section,
 }
 
 impl PackedNames {

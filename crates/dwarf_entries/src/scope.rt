@@ -37,8 +37,8 @@ pub struct Scope {
     linkage_name_offset: u32,
     pub(crate) call_file: u32,
     pub(crate) call_line: u32,
-    name_section: Option<Section>,
-    linkage_name_section: Option<Section>,
+    name_section: Section,
+    linkage_name_section: Section,
     pub(crate) calls: Calls,
     kind: ScopeKind,
 }

@@ -1,6 +1,6 @@
 -- The ranges of an entry are nonempty. Each is read from one item, and the number of items is
 -- within the budget.
-use Rattle.std.proofs.Common.{◌≡◌, ℕ, ◌+◌, ◌-◌, ◌^◌, ◌<◌, ◌≤◌, Bool, true, false, cond, List, []}
+use Rattle.std.proofs.Common.{◌≡◌, ℕ, ◌+◌, ◌^◌, ◌<◌, ◌≤◌, Bool, true, false, cond, List, []}
 use Rattle.std.proofs.Common.{length, refl, ap, subst, arith}
 use Rattle.std.specs.Prelude.{Option, Some, None, Result, Ok, All, nat_lt, nat_le, ◌==◌, ◌||◌}
 use Rattle.std.specs.Prelude.{option_to_list}

@@ -33,7 +33,7 @@ use Rattle.dwarf_walk.specs.Private.EntryBitmap.{has_entry, AddsOffsets, offsets
 use Rattle.dwarf_entries.specs.Names.{Member, members_of}
 use Rattle.std.specs.List.{list_any}
 use Rattle.std.proofs.lemmas.List.Folds.{list_any-append}
-use Rattle.dwarf_entries.proofs.Results.ReadLaws.{UnitsRead, bound, described, after-units}
+use Rattle.dwarf_entries.proofs.Results.ReadLaws.{UnitsRead, bound, after-units}
 
 -- ---- the whole result
 

@@ -1,6 +1,6 @@
 -- The units of .debug_info are consecutive and contain their entries. This holds for the results
 -- of all passes.
-use Rattle.std.proofs.Common.{◌≡◌, ℕ, ◌+◌, ◌-◌, ◌≤◌, Bool, true, false, cond, List, [], ◌∷◌, ◌++◌}
+use Rattle.std.proofs.Common.{◌≡◌, ℕ, ◌+◌, ◌≤◌, Bool, true, false, cond, List, [], ◌∷◌, ◌++◌}
 use Rattle.std.proofs.Common.{length, take, ap, sym, subst, arith, length-take}
 use Rattle.std.specs.Prelude.{Result, Ok, nat_lt, nat_le, ◌==◌, not, ok_or, filter}
 use Rattle.std.proofs.lemmas.Bool.{ltb-false}
