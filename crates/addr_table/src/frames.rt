@@ -105,7 +105,8 @@ impl<'a> FrameWalk<'a> {
     {
         let link = place.link;
         let started = search_start(count(tables.scopes), place.scope);
-        let site = FrameSite::Row(place.row);
+        // The row is read before the walk, so that the processor can wait for both at once.
+        let site = FrameSite::Row(tables.row(place.row));
         match top(tables.scopes, parents, link, started) {
             Some(top) => FrameWalk {
                 tables,

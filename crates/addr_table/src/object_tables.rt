@@ -5,15 +5,15 @@ ghost use Rattle.std.specs.Option.{option_and_then};
 ghost use Rattle.std.specs.List.{join_with_byte};
 ghost use Rattle.dwarf_bytes.specs.Elf.{layout};
 ghost use Rattle.dwarf_entries.specs.Order.{AreInOrder};
-ghost use Rattle.addr_table.specs.Frames.{text_section, text_bytes, file_path, row_site};
-ghost use Rattle.addr_table.specs.Private.Views.{site_view};
+ghost use Rattle.addr_table.specs.Frames.{text_section, text_bytes, file_path};
+ghost use Rattle.addr_table.specs.Private.Views.{optional_row_site, site_view};
 ghost use Rattle.addr_table.specs.declared.object_tables.FrameSite.TheVariants.{Call};
 
 use crate::path::Path;
 use crate::scopes::{count, scope_at};
 use dwarf_bytes::{Layout, Section, text_at};
 use dwarf_entries::{Scopes, TextOffset};
-use dwarf_lines::{LineTables, ProgramNo};
+use dwarf_lines::{LineTables, ProgramNo, Row};
 
 /// An object, with the tables in which its strings and files are looked up.
 #[derive(Clone, Copy)]
@@ -25,10 +25,11 @@ pub struct ObjectTables<'a> {
     pub ghost place_of: { sections.now ≡ layout bytes.now },
 }
 
-/// The site of a frame: the row of an address, or the call site of the scope with this index.
+/// The site of a frame: the row of an address, if there is one, or the call site of the scope with
+/// this index.
 #[derive(Clone, Copy)]
 pub enum FrameSite {
-    Row(Option<usize>),
+    Row(Option<Row>),
     Call(usize),
 }
 
@@ -92,23 +93,27 @@ impl<'a> ObjectTables<'a> {
         Some(Path::new(line, line_str, str, parts))
     }
 
-    /// Returns the path of the file of a row, given its index.
-    pub fn row_path(self, number: Option<usize>) -> Option<Path<'a>>
-        ensures { option_map (join_with_byte 47) result
-            ≡ (row_site self.entry.bytes.now self.entry.lines.now number).path }
+    /// Returns the row with an index.
+    pub fn row(self, number: Option<usize>) -> Option<Row>
+        ensures { result ≡ option_and_then (slice_get self.entry.lines.now.rows) number }
     {
-        let row = *self.lines.rows().get(number?)?;
+        self.lines.rows().get(number?).copied()
+    }
+
+    /// Returns the path of the file of a row.
+    pub fn row_path(self, row: Option<Row>) -> Option<Path<'a>>
+        ensures { option_map (join_with_byte 47) result
+            ≡ (optional_row_site self.entry.bytes.now self.entry.lines.now row).path }
+    {
+        let row = row?;
         self.file(row.program, row.file)
     }
 
-    /// Returns the line of a row, given its index; 0 if it is unknown.
-    pub fn row_line(self, number: Option<usize>) -> u64
-        ensures { result ≡ (row_site self.entry.bytes.now self.entry.lines.now number).line }
+    /// Returns the line of a row; 0 if it is unknown.
+    pub fn row_line(self, row: Option<Row>) -> u64
+        ensures { result ≡ (optional_row_site self.entry.bytes.now self.entry.lines.now row).line }
     {
-        let Some(number) = number else {
-            return 0;
-        };
-        match self.lines.rows().get(number) {
+        match row {
             Some(row) => u64::from(row.line),
             None => 0,
         }
@@ -151,7 +156,7 @@ impl<'a> ObjectTables<'a> {
             site).path }
     {
         match site {
-            FrameSite::Row(number) => self.row_path(number),
+            FrameSite::Row(row) => self.row_path(row),
             FrameSite::Call(number) => self.call_path(number),
         }
     }
@@ -163,7 +168,7 @@ impl<'a> ObjectTables<'a> {
             self.entry.scopes.now.scopes site).line }
     {
         match site {
-            FrameSite::Row(number) => self.row_line(number),
+            FrameSite::Row(row) => self.row_line(row),
             FrameSite::Call(number) => self.call_line(number),
         }
     }

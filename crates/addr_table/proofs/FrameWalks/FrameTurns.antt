@@ -1,7 +1,7 @@
 -- The remaining frames of a walk over a chain.
 use Rattle.std.proofs.Common.{◌≡◌, ◌∙◌, ℕ, ◌+◌, ◌<◌, List, [], ◌∷◌, length, map}
 use Rattle.std.proofs.Common.{take, drop, reverse, get_or, Bool, false, refl, sym, ap, arith}
-use Rattle.std.specs.Prelude.{Option, Some, None, option_map, is_some, slice_get}
+use Rattle.std.specs.Prelude.{Option, Some, None, option_map, option_and_then, is_some, slice_get}
 use Rattle.std.proofs.lemmas.List.{drop_more, get_or-map, length-map}
 use Rattle.std.proofs.lemmas.Option.{slice_get-get_or}
 use Rattle.std.specs.List.{join_with_byte}
@@ -12,6 +12,7 @@ use Rattle.dwarf_bytes.specs.Elf.{layout, section}
 use Rattle.dwarf_lines.specs.Sections.{LineSections}
 use Rattle.dwarf_lines.specs.Paths.{part_bytes, path_bytes}
 use Rattle.dwarf_lines.specs.declared.row.ProgramNo.{ProgramNo}
+use Rattle.dwarf_lines.specs.declared.row.Row.{Row as LineRow}
 use Rattle.dwarf_lines.specs.Lines.{Lines, path_of}
 use Rattle.dwarf_bytes.specs.declared.text.Text.{Text}
 use Rattle.dwarf_entries.specs.Scopes.{Scope}
@@ -94,40 +95,43 @@ from-chain : (bytes : List ℕ) (lines : Lines) (chain : List Scope) (row : Opti
 from-chain bytes lines chain row s inner is = rw is refl
 
 pub started-some : (bytes : List ℕ) (lines : Lines) (scopes : List Scope) (codes : List ℕ) (a : ℕ)
-    (scope row : Option ℕ) (count code top : ℕ)
+    (scope row : Option ℕ) (found : Option LineRow) (count code top : ℕ)
     → HaveParents scopes codes → count ≡ length scopes → code ≡ search_start_of count scope
-    → Some top ≡ top_at a scopes code
-    → walk_left bytes lines scopes a code (Row row) false
+    → found ≡ option_and_then (slice_get lines.rows) row → Some top ≡ top_at a scopes code
+    → walk_left bytes lines scopes a code (Row found) false
     ≡ frames_of bytes lines (place_chain a scope scopes) row
-started-some bytes lines scopes codes a scope row count code top have total is returned =
+started-some bytes lines scopes codes a scope row found count code top have total is read returned =
     let here : place_chain a scope scopes ≡ chain_at a scopes code =
     started-chain a scopes codes scope have
     ∙ sym (ap (λ (n : ℕ). chain_at a scopes n)
     (is ∙ ap (λ (n : ℕ). search_start_of n scope) total)) in
     let full = some-chain a scopes code top (sym returned) in
-    from-chain bytes lines (chain_at a scopes code) row full.0 full.1 full.2
-    ∙ ap (λ (chain : List Scope). frames_of bytes lines chain row) (sym here)
+    rw read
+    (from-chain bytes lines (chain_at a scopes code) row full.0 full.1 full.2
+    ∙ ap (λ (chain : List Scope). frames_of bytes lines chain row) (sym here))
 
 alone-row : (bytes : List ℕ) (lines : Lines) (scopes : List Scope) (a : ℕ) (row : Option ℕ)
-    → walk_left bytes lines scopes a 0 (Row row) (is_some row) ≡ frames_of bytes lines [] row
+    → walk_left bytes lines scopes a 0 (Row (option_and_then (slice_get lines.rows) row))
+    (is_some row) ≡ frames_of bytes lines [] row
 alone-row bytes lines scopes a None = refl
 alone-row bytes lines scopes a (Some n) = refl
 
 pub started-none : (bytes : List ℕ) (lines : Lines) (scopes : List Scope) (codes : List ℕ) (a : ℕ)
-    (scope row : Option ℕ) (count code : ℕ)
+    (scope row : Option ℕ) (found : Option LineRow) (count code : ℕ)
     (alone : Bool)
     → HaveParents scopes codes → count ≡ length scopes → code ≡ search_start_of count scope
-    → None ≡ top_at a scopes code → alone ≡ is_some row
-    → walk_left bytes lines scopes a 0 (Row row) alone
+    → found ≡ option_and_then (slice_get lines.rows) row → None ≡ top_at a scopes code
+    → alone ≡ is_some row
+    → walk_left bytes lines scopes a 0 (Row found) alone
     ≡ frames_of bytes lines (place_chain a scope scopes) row
-started-none bytes lines scopes codes a scope row count code alone have total is returned row_is =
+started-none bytes lines scopes codes a scope row found count code alone have total is read returned
+    row_is =
     let here : place_chain a scope scopes ≡ chain_at a scopes code =
     started-chain a scopes codes scope have
     ∙ sym (ap (λ (n : ℕ). chain_at a scopes n)
     (is ∙ ap (λ (n : ℕ). search_start_of n scope) total)) in
     let none : place_chain a scope scopes ≡ [] = here ∙ no-chain a scopes code (sym returned) in
-    ap (λ (b : Bool). walk_left bytes lines scopes a 0 (Row row) b) row_is
-    ∙ (alone-row bytes lines scopes a row
+    rw (read, row_is) (alone-row bytes lines scopes a row
     ∙ ap (λ (chain : List Scope). frames_of bytes lines chain row) (sym none))
 
 -- ---- one scope more

@@ -9,17 +9,22 @@ use Rattle.dwarf_lines.specs.Paths.{part_bytes}
 use Rattle.dwarf_entries.specs.Scopes.{Scope}
 use Rattle.addr_table.specs.declared.object_tables.FrameSite.{FrameSite}
 use Rattle.addr_table.specs.declared.object_tables.FrameSite.TheVariants.{Row, Call}
-use Rattle.addr_table.specs.Frames.{Frame, Site, nowhere, frame_at, row_site, call_site}
+use Rattle.addr_table.specs.Frames.{Frame, Site, nowhere, frame_at, site_of_row, call_site}
 use Rattle.addr_table.specs.Frames.{frames_from}
+use Rattle.dwarf_lines.specs.declared.row.Row.{Row as LineRow}
 use Rattle.addr_table.specs.Private.Walks.{chain_at}
 
 -- the remaining parts of a path
 abbrev pub parts_left : LineSections → List Text → ℕ → List (List ℕ)
 parts_left s parts next = drop next (map (part_bytes s) parts)
 
+-- the site of a row, if there is one
+abbrev pub optional_row_site : List ℕ → Lines → Option LineRow → Site
+optional_row_site bytes lines row = unwrap_or (option_map (site_of_row bytes lines) row) nowhere
+
 -- the site of a frame: a row, or the call site of the scope with this number
 abbrev pub site_view : List ℕ → Lines → List Scope → FrameSite → Site
-site_view bytes lines scopes (Row number) = row_site bytes lines number
+site_view bytes lines scopes (Row row) = optional_row_site bytes lines row
 site_view bytes lines scopes (Call number) =
     unwrap_or (option_map (call_site bytes lines) (slice_get scopes number)) nowhere
 
