@@ -1,6 +1,6 @@
 -- Strings appended one after the other.
-use Rattle.std.proofs.Common.{◌≡◌, Bool, true, false, ℕ, zero, suc, ◌+◌, ◌-◌, ◌<◌, ◌≤◌, ◌⊎◌, inl}
-use Rattle.std.proofs.Common.{inr, List, [], ◌∷◌, ◌++◌, length, map}
+use Rattle.std.proofs.Common.{◌≡◌, Bool, true, false, ℕ, zero, suc, ◌+◌, ◌<◌}
+use Rattle.std.proofs.Common.{List, [], ◌∷◌, ◌++◌, length, map}
 use Rattle.std.proofs.Common.{take, drop, get_or, refl, sym, ◌∙◌, ap, subst, append_assoc}
 use Rattle.std.proofs.Common.{append-nil, add-one, arith}
 use Rattle.std.specs.Prelude.{Option, Result, Ok, Err, not, ◌&&◌, if◌then◌else◌}
@@ -69,6 +69,10 @@ pub put-fitting : (a : Option (List ℕ)) (h h' x : List ℕ) (fits : Bool) → 
     → h' ≡ (if fits then h ++ x else h) → Put a a h h' x
 put-fitting a h h' x true e is = record { sent = []; splits = sym is; appended = appends_nothing a }
 put-fitting a h h' x false e is = absurd (false≢true e)
+
+-- nothing was appended
+pub put-nothing : (a : Option (List ℕ)) (h : List ℕ) → Put a a h h []
+put-nothing a h = record { sent = []; splits = append-nil h; appended = appends_nothing a }
 
 -- a string that does not fit changes nothing
 pub same-buffer : (h h' x : List ℕ) (fits : Bool) → fits ≡ false

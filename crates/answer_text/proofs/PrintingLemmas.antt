@@ -6,10 +6,9 @@ use Rattle.std.specs.Prelude.{Option, None, Result, Ok, Err, flat_map, if◌then
 use Rattle.answer_text.specs.Pending.{Put, Cut, Puts}
 use Rattle.addr_table.specs.Frames.{Frame, Site, first_site}
 use Rattle.answer_text.specs.Printable.{text_or_unknown}
-use Rattle.answer_text.specs.Text.{frame_text, later_text, frames_text, nothing_text, name_text}
-use Rattle.answer_text.specs.Text.{name_of, after_name, heading_text}
-use Rattle.answer_text.specs.Text.{after_address, file_of, place_text}
-use Rattle.answer_text.specs.Numerals.{address_text}
+use Rattle.answer_text.specs.Text.{frame_text, later_text, frames_text, name_text}
+use Rattle.answer_text.specs.Text.{name_of, after_name}
+use Rattle.answer_text.specs.Text.{file_of, place_text}
 use Rattle.io_streams.specs.declared.options.Options.{Options}
 use Rattle.answer_text.proofs.PendingLemmas.{cut-more, puts-then, cut-as, put-as, puts-as}
 
@@ -74,15 +73,13 @@ cut-frames a b h options fs f rest e p =
     (cut-more a b h (frame_text options f)
     (if options.inlines then flat_map (later_text options) rest else []) p)
 
-pub puts-one : {E : Type 0} (a b c : Option (List ℕ)) (h h' h'' : List ℕ) (options : Options)
-    (fs : List Frame) (f : Frame)
-    (rest : List Frame) (r : Result (Unit {0}) E) → fs ≡ f ∷ rest → options.inlines ≡ false
-    → Put a b h h' (frame_text options f) → Puts b c h' h'' r []
-    → Puts a c h h'' r (frames_text options fs)
-puts-one a b c h h' h'' options fs f rest r e off p q =
-    let head : frame_text options f ++ [] ≡ frames_text options (f ∷ rest) = rw off refl in
-    puts-as a c h h'' _ _ r (head ∙ ap (frames_text options) (sym e))
-    (puts-then a b c h h' h'' (frame_text options f) [] r p q)
+pub put-one : (a b : Option (List ℕ)) (h h' : List ℕ) (options : Options) (fs : List Frame)
+    (f : Frame) (rest : List Frame) → fs ≡ f ∷ rest → options.inlines ≡ false
+    → Put a b h h' (frame_text options f) → Put a b h h' (frames_text options fs)
+put-one a b h h' options fs f rest e off p =
+    let head : frame_text options f ≡ frames_text options (f ∷ rest) =
+    rw off (sym (append-nil (frame_text options f))) in
+    put-as a b h h' _ _ (head ∙ ap (frames_text options) (sym e)) p
 
 pub puts-all : {E : Type 0} (a b c : Option (List ℕ)) (h h' h'' : List ℕ) (options : Options)
     (fs : List Frame) (f : Frame)

@@ -1,6 +1,6 @@
 //! Formats frames.
 
-ghost use Rattle.std.specs.Prelude.{◌≡◌, ◌++◌, ◌∷◌, [], List, option_map};
+ghost use Rattle.std.specs.Prelude.{◌≡◌, ◌++◌, ◌∷◌, [], List, decimal, option_map};
 ghost use Rattle.std.specs.List.{join_with_byte};
 ghost use Rattle.io_streams.specs.Streams.{failures_after};
 ghost use Rattle.answer_text.specs.Pending.{Puts};
@@ -28,20 +28,36 @@ fn printed_name<'a>(options: &Options, frame: &Frame<'a>) -> Option<&'a [u8]>
     }
 }
 
-fn after_name(options: &Options) -> &'static [u8]
-    ensures { result.now ≡ after_name options.now }
-{
-    if options.pretty { b" at " } else { b"\n" }
-}
-
-fn before_later(options: &Options) -> &'static [u8]
-    ensures { result.now ≡ before_later options.now }
+/// Appends the separator after a name.
+fn put_after_name<W: Sink>(
+    options: &Options,
+    pending: &mut Pending,
+    writer: &mut W,
+) -> Result<(), DeviceFault>
+    ensures bytes { Puts (W.written writer.old) (W.written writer.new) pending.old pending.new
+        result (after_name options.now) }
+    ensures failures { W.failures writer.new ≡ failures_after (W.failures writer.old) result }
 {
     if options.pretty {
-        b" (inlined by) "
-    } else {
-        b""
+        return pending.put(b" at ", writer);
     }
+    pending.put_byte(b'\n', writer)
+}
+
+/// Appends the words before a frame that is not the innermost one.
+fn put_before_later<W: Sink>(
+    options: &Options,
+    pending: &mut Pending,
+    writer: &mut W,
+) -> Result<(), DeviceFault>
+    ensures bytes { Puts (W.written writer.old) (W.written writer.new) pending.old pending.new
+        result (before_later options.now) }
+    ensures failures { W.failures writer.new ≡ failures_after (W.failures writer.old) result }
+{
+    if options.pretty {
+        return pending.put(b" (inlined by) ", writer);
+    }
+    Ok(())
 }
 
 /// Appends the name of a frame if names are requested.
@@ -56,11 +72,10 @@ fn put_name<W: Sink>(
     ensures failures { W.failures writer.new ≡ failures_after (W.failures writer.old) result }
 {
     if !options.functions {
-        // Appends nothing. The contract of `put` proves both clauses.
-        return pending.put(b"", writer);
+        return Ok(());
     }
     pending.put_or_unknown(printed_name(options, frame), writer)?;
-    pending.put(after_name(options), writer)
+    put_after_name(options, pending, writer)
 }
 
 /// Appends a path, or its base name if requested; `??` if it is missing or empty.
@@ -84,7 +99,19 @@ fn put_file<W: Sink>(
     }
 }
 
-/// Appends `FILE:LINE` and a newline.
+/// Appends a colon, a line number and a line feed.
+fn put_line<W: Sink>(line: u64, pending: &mut Pending, writer: &mut W) -> Result<(), DeviceFault>
+    ensures bytes { Puts (W.written writer.old) (W.written writer.new) pending.old pending.new
+        result (58 ∷ decimal line ++ 10 ∷ []) }
+    ensures failures { W.failures writer.new ≡ failures_after (W.failures writer.old) result }
+{
+    let mut buffer = Buffer::new();
+    pending.put_byte(b':', writer)?;
+    pending.put(buffer.format(line).as_bytes(), writer)?;
+    pending.put_byte(b'\n', writer)
+}
+
+/// Appends `FILE:LINE` and a line feed.
 pub fn put_place<W: Sink>(
     options: &Options,
     path: Option<Path<'_>>,
@@ -97,10 +124,7 @@ pub fn put_place<W: Sink>(
     ensures failures { W.failures writer.new ≡ failures_after (W.failures writer.old) result }
 {
     put_file(options, path, pending, writer)?;
-    let mut buffer = Buffer::new();
-    let line = buffer.format(line).as_bytes();
-    let texts: [&[u8]; 3] = [b":", line, b"\n"];
-    pending.put_all(&texts, writer)
+    put_line(line, pending, writer)
 }
 
 /// Appends a frame.
@@ -129,6 +153,6 @@ pub fn put_later<W: Sink>(
         result (later_text options.now frame.now) }
     ensures failures { W.failures writer.new ≡ failures_after (W.failures writer.old) result }
 {
-    pending.put(before_later(options), writer)?;
+    put_before_later(options, pending, writer)?;
     put_frame(options, frame, pending, writer)
 }

@@ -58,7 +58,7 @@ fn put_after_slash<W: Sink>(
         result (after_slash part.now) }
     ensures failures { W.failures writer.new ≡ failures_after (W.failures writer.old) result }
 {
-    pending.put(b"/", writer)?;
+    pending.put_byte(b'/', writer)?;
     pending.put_printable(part, writer)
 }
 

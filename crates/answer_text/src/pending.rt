@@ -93,6 +93,13 @@ impl Pending {
         self.bytes.try_extend_from_slice(text).is_ok()
     }
 
+    /// Appends a byte if it fits. Returns whether it does.
+    fn push_byte(&mut self, byte: u8) -> bool
+        ensures { self.new ≡ (if result then self.old ++ byte ∷ [] else self.old) }
+    {
+        self.bytes.try_push(byte).is_ok()
+    }
+
     /// Writes the buffered bytes.
     pub fn send<W: Sink>(&mut self, writer: &mut W) -> Result<(), DeviceFault>
         ensures bytes { Writes (W.written writer.old) (W.written writer.new) result self.old }
@@ -106,8 +113,7 @@ impl Pending {
 
     /// Appends a string to the buffer. If it does not fit, the buffered bytes are written first. A
     /// string that is longer than the buffer is written at once.
-    ///
-    /// Inlined, so that a string of known length is copied without a call.
+    // Inlined, so that a string of known length is copied without a call.
     #[inline]
     pub fn put<W: Sink>(&mut self, text: &[u8], writer: &mut W) -> Result<(), DeviceFault>
         ensures bytes { Puts (W.written writer.old) (W.written writer.new) self.old self.new result
@@ -118,6 +124,20 @@ impl Pending {
             return Ok(());
         }
         self.put_after_send(text, writer)
+    }
+
+    /// Appends a byte to the buffer. If it does not fit, the buffered bytes are written first.
+    // Inlined: called several times for each frame.
+    #[inline(always)]
+    pub fn put_byte<W: Sink>(&mut self, byte: u8, writer: &mut W) -> Result<(), DeviceFault>
+        ensures bytes { Puts (W.written writer.old) (W.written writer.new) self.old self.new result
+            (byte ∷ []) }
+        ensures failures { W.failures writer.new ≡ failures_after (W.failures writer.old) result }
+    {
+        if self.push_byte(byte) {
+            return Ok(());
+        }
+        self.put_after_send(&[byte], writer)
     }
 
     /// Writes the buffered bytes, then appends a string. A string that is longer than the buffer is
@@ -153,7 +173,7 @@ impl Pending {
         ensures failures { W.failures writer.new ≡ failures_after (W.failures writer.old) result }
     {
         for byte in text {
-            self.put(&[printable(*byte)], writer)?;
+            self.put_byte(printable(*byte), writer)?;
         }
         Ok(())
     }

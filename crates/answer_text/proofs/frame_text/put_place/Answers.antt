@@ -9,6 +9,4 @@ returns-in_err-put_file-clause-bytes g c =
 
 pub returns-clause-bytes : goal.returns-clause-bytes
 returns-clause-bytes g c =
-    let h = rw (c.as_bytes-line.ensures.value, c.format.ensures.text) at
-    c.put_all.ensures.bytes in
-    puts-then _ _ _ _ _ _ _ _ _ c.in_ok-put_file.ensures.bytes h
+    puts-then _ _ _ _ _ _ _ _ _ c.in_ok-put_file.ensures.bytes c.put_line.ensures.bytes

@@ -1,12 +1,11 @@
 use Rattle.std.proofs.lemmas.Result.{err_from_is_err_and}
-use Rattle.answer_text.proofs.PrintingLemmas.{cut-frames, puts-one, puts-all}
+use Rattle.answer_text.proofs.PrintingLemmas.{cut-frames, put-one, puts-all}
 use Rattle.answer_text.proofs.printing.put_frames.Goals as goal
 
 pub returns-then-not-options-clause-bytes : goal.returns-then-not-options-clause-bytes
 returns-then-not-options-clause-bytes g c =
-    puts-one _ _ _ _ _ _ c.args.options.now c.args.frames _ _ _ c.in-Some.ensures.steps
-    c.if-not-options.true
-    c.in_ok-put_frame.ensures.bytes c.put-then-not-options.ensures.bytes
+    put-one _ _ _ _ c.args.options.now c.args.frames _ _ c.in-Some.ensures.steps
+    c.if-not-options.true c.in_ok-put_frame.ensures.bytes
 
 pub returns-clause-bytes : goal.returns-clause-bytes
 returns-clause-bytes g c =

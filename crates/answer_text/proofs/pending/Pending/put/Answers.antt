@@ -1,4 +1,3 @@
-use Rattle.std.proofs.Common.{[]}
 use Rattle.answer_text.proofs.PendingLemmas.{put-fitting, same-buffer, puts-same}
 use Rattle.answer_text.proofs.pending.Pending.put.Goals as goal
 
