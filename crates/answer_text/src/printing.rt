@@ -1,12 +1,13 @@
 //! Formats and writes answers.
 
-ghost use Rattle.std.specs.Prelude.{◌≡◌, ◌++◌, ◌∷◌, [], List, IfErr, flat_map};
+ghost use Rattle.std.specs.Prelude.{◌≡◌, ◌++◌, ◌∷◌, [], List, IfErr, IfSome, flat_map};
+ghost use Rattle.answer_text.specs.Private.Frames.{IsNamed, with_next};
 ghost use Rattle.io_streams.specs.Streams.{Writes, failures_after};
 ghost use Rattle.answer_text.specs.Pending.{Puts};
 ghost use Rattle.answer_text.specs.Text.{after_address, nothing_text, later_text, frames_text};
 ghost use Rattle.answer_text.specs.Text.{heading_text, answer_text};
 
-use crate::frame_text::{put_frame, put_later, put_place};
+use crate::frame_text::{NamedFrame, next_frame, put_frame, put_later, put_place};
 use crate::numerals::address_text;
 use crate::pending::Pending;
 use addr_table::Frames;
@@ -33,18 +34,23 @@ fn nothing_text(options: &Options) -> &'static [u8]
     }
 }
 
-/// Appends the frames after the innermost one.
-fn put_rest<W: Sink>(
+/// Appends the frames after the innermost one: `next` and `frames`.
+fn put_rest<'a, W: Sink>(
     options: &Options,
-    frames: Frames<'_>,
+    mut next: Option<NamedFrame<'a>>,
+    mut frames: Frames<'a>,
     pending: &mut Pending,
     writer: &mut W,
 ) -> Result<(), DeviceFault>
+    requires { IfSome next (IsNamed options.now) }
     ensures bytes { Puts (W.written writer.old) (W.written writer.new) pending.old pending.new
-        result (flat_map (later_text options.now) frames.entry) }
+        result (flat_map (later_text options.now) (with_next next.entry frames.entry)) }
     ensures failures { W.failures writer.new ≡ failures_after (W.failures writer.old) result }
 {
-    for frame in frames {
+    while let Some(frame) = next {
+        // The next frame is looked up before this one is printed, so that the processor can wait
+        // for its name meanwhile.
+        next = next_frame(options, &mut frames);
         put_later(options, &frame, pending, writer)?;
     }
     Ok(())
@@ -61,14 +67,15 @@ fn put_frames<W: Sink>(
         result (frames_text options.now frames.entry) }
     ensures failures { W.failures writer.new ≡ failures_after (W.failures writer.old) result }
 {
-    let Some(frame) = frames.next() else {
+    let Some(frame) = next_frame(options, &mut frames) else {
         return pending.put(nothing_text(options), writer);
     };
-    put_frame(options, &frame, pending, writer)?;
     if !options.inlines {
-        return Ok(());
+        return put_frame(options, &frame, pending, writer);
     }
-    put_rest(options, frames, pending, writer)
+    let next = next_frame(options, &mut frames);
+    put_frame(options, &frame, pending, writer)?;
+    put_rest(options, next, frames, pending, writer)
 }
 
 /// Appends the address if addresses are requested.
