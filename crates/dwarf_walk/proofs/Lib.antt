@@ -1,9 +1,6 @@
 pub mod StoredNodes
 pub mod BitmapLaws
-pub mod OpenScopes
-pub mod EndedPlaces
-pub mod EndLaws
-pub mod AllEnded
+pub mod ScopeLaws
 pub mod WalkLaws
 pub mod WalkTurns
 pub mod WalkEnds

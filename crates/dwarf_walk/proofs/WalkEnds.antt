@@ -1,5 +1,5 @@
 -- The data stored for a unit and its bitmap, from the final state of its walk.
-use Rattle.std.proofs.Common.{◌≡◌, ℕ, ◌-◌, ◌<◌, ◌⊎◌, inl, inr, List, [], true, false, take, refl}
+use Rattle.std.proofs.Common.{◌≡◌, ℕ, ◌<◌, ◌⊎◌, inl, inr, List, [], true, false, take, refl}
 use Rattle.std.proofs.Common.{ap, sym, ◌∙◌, subst, arith}
 use Rattle.std.specs.Prelude.{Option, Result, Ok, Err, nat_lt}
 use Rattle.std.specs.List.{filter_map}
@@ -20,9 +20,9 @@ use Rattle.dwarf_units.specs.Entries.{LocatedNode, Die, die_of, depth_after, nod
 use Rattle.dwarf_walk.specs.Private.Stored.{scope_places, StoredUnit, stored_unit, stored_entries}
 use Rattle.dwarf_walk.specs.Private.Readers.{WalkState, state_after, nodes_of, walk_of}
 use Rattle.dwarf_walk.specs.declared.entry_bitmap.EntryBitmap.{EntryBitmap}
-use Rattle.dwarf_walk.specs.Private.Ends.{ended_at}
+use Rattle.dwarf_walk.specs.Private.WalkedScopes.{counted_places, AreBounded}
 use Rattle.dwarf_walk.specs.Private.EntryBitmap.{AddsOffsets, offsets_of}
-use Rattle.dwarf_walk.proofs.AllEnded.{all-ended}
+use Rattle.dwarf_walk.proofs.ScopeLaws.{are-bounded, places-counted}
 
 -- ---- the data stored for a unit, from the final state of its walk
 
@@ -44,7 +44,7 @@ stored-same h r s p q h1 h2 = cc
 
 unit-end : (header : UnitHeader) (all : Result (List LocatedNode × ℕ) At) (w : WalkState)
     (places : List ScopePlace) → in_section sections.DebugInfo (walk_in all) ≡ Ok w → w.depth ≡ 0
-    → places ≡ ended_at 0 w.opened w.scopes
+    → places ≡ counted_places w.scopes
     → unit_in header all ≡ Ok (record { header = header; root = w.root; scopes = places })
 unit-end header (Err e) w places h none are = cc
 unit-end header (Ok all) w places h none are =
@@ -53,10 +53,17 @@ unit-end header (Ok all) w places h none are =
     le-ltb 0 (depth_after all.0) (let depth = ap (λ (x : WalkState). x.depth) same in
     omega (arith, depth, none)) in
     let placed : scope_places (filter_map die_of all.0) ≡ places =
-    sym (all-ended (filter_map die_of all.0))
-    ∙ (ap (λ (x : WalkState). ended_at 0 x.opened x.scopes) same ∙ sym are) in
+    sym (places-counted 0 (filter_map die_of all.0))
+    ∙ (ap (λ (x : WalkState). counted_places x.scopes) same ∙ sym are) in
     rw closed (ap (λ (k : StoredUnit). Ok k)
     (stored-same header _ _ _ _ (ap (λ (x : WalkState). x.root) same) placed))
+
+unit-bounded : (all : Result (List LocatedNode × ℕ) At) (w : WalkState)
+    → in_section sections.DebugInfo (walk_in all) ≡ Ok w → AreBounded w.scopes
+unit-bounded (Err e) w h = cc
+unit-bounded (Ok all) w h =
+    subst (λ (x : WalkState). AreBounded x.scopes) (same-ok (state_after all.0) w h)
+    (are-bounded 0 (filter_map die_of all.0))
 
 unit-open : (header : UnitHeader) (all : Result (List LocatedNode × ℕ) At) (w : WalkState)
     (fault : LoadFault) → in_section sections.DebugInfo (walk_in all) ≡ Ok w → 0 < w.depth
@@ -75,9 +82,17 @@ unit-fault : (header : UnitHeader) (all : Result (List LocatedNode × ℕ) At) (
 unit-fault header (Err e) fault h = cc
 unit-fault header (Ok all) fault h = cc
 
+pub entries-bounded : (info : List ℕ) (header : UnitHeader) (table : List Declaration)
+    (w : WalkState)
+    → in_section sections.DebugInfo (walk_of info header table) ≡ Ok w → AreBounded w.scopes
+unfolding walk_of
+entries-bounded info header table w h =
+    unit-bounded (items_from header.end (node_at header.format table (take header.end info)) []
+    header.first) w h
+
 pub entries-end : (info : List ℕ) (header : UnitHeader) (table : List Declaration) (w : WalkState)
     (places : List ScopePlace) → in_section sections.DebugInfo (walk_of info header table) ≡ Ok w
-    → w.depth ≡ 0 → places ≡ ended_at 0 w.opened w.scopes
+    → w.depth ≡ 0 → places ≡ counted_places w.scopes
     → in_section sections.DebugInfo (stored_entries info header table)
     ≡ Ok (record { header = header; root = w.root; scopes = places })
 unfolding walk_of entries_of

@@ -8,8 +8,7 @@ use Rattle.std.proofs.lemmas.List.Elements.{filter_map-append}
 use Rattle.std.proofs.lemmas.List.Folds.{list_any-append}
 use Rattle.std.proofs.lemmas.List.Sums.{sum_by-append}
 use Rattle.dwarf_units.specs.declared.attributes.Attribute.{Attribute}
-use Rattle.dwarf_walk.specs.declared.walk.OpenScope.{OpenScope}
-use Rattle.dwarf_walk.specs.declared.unit_entries.ScopePlace.{ScopePlace}
+use Rattle.dwarf_walk.specs.declared.descendants.WalkedScope.{WalkedScope}
 use Rattle.dwarf_walk.specs.declared.unit_entries.RootEntry.{RootEntry}
 use Rattle.dwarf_units.specs.Entries.{Node, Entry, Null, LocatedNode, Die, die_of, opens, closes}
 use Rattle.dwarf_units.specs.Entries.{is_root, depth_after}
@@ -17,7 +16,7 @@ use Rattle.dwarf_walk.specs.Private.Stored.{root_entry, root_in}
 use Rattle.dwarf_walk.specs.References.{or_else}
 use Rattle.dwarf_walk.specs.Private.Readers.{WalkState, state_after_entries, state_after, after_die}
 use Rattle.dwarf_walk.specs.Private.Readers.{depth_after_entry, after_node}
-use Rattle.dwarf_walk.proofs.EndLaws.{places-push, open-push}
+use Rattle.dwarf_walk.proofs.ScopeLaws.{walked-push, least-push}
 
 -- The node at an offset, after a list of nodes.
 abbrev pub standing : List LocatedNode → ℕ → Node → LocatedNode
@@ -25,11 +24,10 @@ standing before at node = record { offset = at; depth = depth_after before; node
 
 -- ---- one more entry or null entry
 
-pub state_after-same : (d e : ℕ) (r s : Option RootEntry) (k l : List ScopePlace)
-    (o p : List OpenScope)
+state_after-same : (d e : ℕ) (r s : Option RootEntry) (k l : List WalkedScope) (o p : ℕ)
     → d ≡ e → r ≡ s → k ≡ l → o ≡ p
-    → (let x : WalkState = record { depth = d; root = r; scopes = k; opened = o } in x)
-    ≡ record { depth = e; root = s; scopes = l; opened = p }
+    → (let x : WalkState = record { depth = d; root = r; scopes = k; least = o } in x)
+    ≡ record { depth = e; root = s; scopes = l; least = p }
 state_after-same d e r s k l o p h1 h2 h3 h4 = cc
 
 root_in-push : (dies : List Die) (die : Die)
@@ -43,8 +41,7 @@ pub state_after_entries-push : (depth behind : ℕ) (dies : List Die) (die : Die
     ≡ record (after_die (state_after_entries depth dies) die)
     { depth = behind }
 state_after_entries-push depth behind dies die = state_after-same _ _ _ _ _ _ _ _ refl
-    (root_in-push dies die)
-    (places-push dies die) (open-push dies die)
+    (root_in-push dies die) (walked-push 0 dies die) (least-push 0 dies die)
 
 count-push : {X : Type 0} (p : X → Bool) (xs : List X) (x : X) (t : Bool) → p x ≡ t
     → count_by p (xs ++ x ∷ []) ≡ count_by p xs + cond t 1 0

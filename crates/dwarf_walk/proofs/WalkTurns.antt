@@ -1,5 +1,5 @@
 -- The loop of the walk over a unit.
-use Rattle.std.proofs.Common.{◌≡◌, ℕ, ◌+◌, ◌-◌, ◌<◌, ◌≤◌, ◌⊎◌, inl, inr, List, [], ◌∷◌, ◌++◌, false}
+use Rattle.std.proofs.Common.{◌≡◌, ℕ, ◌<◌, ◌≤◌, ◌⊎◌, inl, inr, List, [], ◌∷◌, ◌++◌, false}
 use Rattle.std.proofs.Common.{length, take, refl, ap, sym, ◌∙◌, subst, arith, length-take}
 use Rattle.std.proofs.Common.{append-nil}
 use Rattle.std.specs.Prelude.{is_some, Result, Ok, Err, nat_le}

@@ -1,6 +1,6 @@
 pub mod Stored
 pub mod Rereading
-pub mod Ends
+pub mod WalkedScopes
 pub mod Long
 pub mod EntryBitmap
 pub mod Named

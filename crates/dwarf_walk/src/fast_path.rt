@@ -6,13 +6,13 @@ ghost use Rattle.dwarf_units.specs.declared.attributes.Attribute.{Attribute as E
 ghost use Rattle.dwarf_units.specs.Entries.{Entry, depth_limit};
 ghost use Rattle.dwarf_walk.specs.Private.EntryBitmap.{AddsOffsets};
 ghost use Rattle.dwarf_walk.specs.Private.Readers.{AddsNode, Takes, state_of, after_node};
-ghost use Rattle.dwarf_walk.specs.Private.Readers.{after_scope, with_scope};
+ghost use Rattle.dwarf_walk.specs.Private.Readers.{after_scope};
 
+use crate::descendants::WalkedScope;
 use crate::entry_bitmap::EntryBitmap;
 use crate::packed::narrow;
 use crate::scope_kind::kind_of;
-use crate::unit_entries::ScopePlace;
-use crate::walk::{OpenScope, Walk, end_scopes};
+use crate::walk::Walk;
 use dwarf_bytes::{Cause, Cursor};
 use dwarf_units::{FixedSizeHead, UnitTable, UsedAttributes};
 use std::alloc::AllocError;
@@ -96,33 +96,24 @@ impl Walk {
         Ok(cursor.place())
     }
 
-    /// Closes every open scope that does not contain the entry at an offset, and opens a scope if
-    /// the entry is one.
+    /// Updates the least depth with the entry at an offset, and stores the entry if it is a scope.
     // Inlined: called for each entry.
     #[inline(always)]
     pub(crate) fn add_scope(&mut self, offset: usize, tag: u64) -> Result<(), AllocError>
+        requires { self.old.depth ≤ depth_limit }
         ensures { OnOk result (state_of self.new
             ≡ after_scope (state_of self.old) offset tag) }
     {
-        end_scopes(&mut self.scopes, &mut self.opened, self.depth)?;
-        if kind_of(tag).is_some() {
-            self.open(narrow(offset)?)?;
+        self.least = self.least.min(self.depth);
+        if kind_of(tag).is_none() {
+            return Ok(());
         }
-        Ok(())
-    }
-
-    /// Opens a scope whose entry is at an offset.
-    // Inlined: called for each entry.
-    #[inline(always)]
-    fn open(&mut self, offset: u32) -> Result<(), AllocError>
-        ensures { OnOk result (state_of self.new ≡ with_scope offset (state_of self.old)) }
-    {
-        let number = narrow(self.scopes.len())?;
-        self.opened.push(OpenScope {
-            depth: self.depth,
-            number,
+        self.scopes.push(WalkedScope {
+            offset: narrow(offset)?,
+            depth: self.depth as u16,
+            least: self.least as u16,
         })?;
-        self.scopes.push(ScopePlace { offset, inside: 0 })?;
+        self.least = self.depth + 1;
         Ok(())
     }
 }

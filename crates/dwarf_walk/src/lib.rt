@@ -2,6 +2,7 @@
 //! their offsets (DWARF 5, chapters 2.3, 3.3 and 7.5).
 #![tactic(auto)]
 
+mod descendants;
 mod entry_bitmap;
 mod entry_reader;
 mod fast_path;

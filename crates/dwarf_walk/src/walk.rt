@@ -1,7 +1,6 @@
 //! The walk over the entries of a unit (DWARF 5, 2.3, 7.5.2 and 7.5.3).
 
 ghost use Rattle.std.specs.Prelude.{◌≡◌, ◌≤◌, ℕ, List, [], None, Ok, IsSome, IfOk, OnOk, not, take};
-ghost use Rattle.std.specs.Prelude.{reverse};
 ghost use Rattle.dwarf_bytes.specs.declared.fault.Section.TheVariants as sections;
 ghost use Rattle.dwarf_bytes.specs.Refusals.{Decodes, in_section};
 ghost use Rattle.std.specs.List.{filter_map};
@@ -11,12 +10,11 @@ ghost use Rattle.dwarf_walk.specs.Private.Stored.{stored_of, stored_entries};
 ghost use Rattle.dwarf_walk.specs.Private.EntryBitmap.{AddsOffsets, offsets_of};
 ghost use Rattle.dwarf_walk.specs.Private.Readers.{IsAfterEntry, AddsNode, ReadsNode, state_of};
 ghost use Rattle.dwarf_walk.specs.Private.Readers.{state_at, nodes_of, walk_of};
-ghost use Rattle.dwarf_walk.specs.Private.Ends.{ended_at, left_open, with_end};
 ghost use Rattle.dwarf_units.specs.Private.Plans.{Fills};
 
+use crate::descendants::{WalkedScope, count_descendants};
 use crate::entry_bitmap::EntryBitmap;
-use crate::packed::narrow;
-use crate::unit_entries::{RootEntry, ScopePlace, UnitEntries};
+use crate::unit_entries::{RootEntry, UnitEntries};
 use dwarf_bytes::{Cause, Cursor, LoadFault, Section, Span};
 use dwarf_units::{UnitHeader, UnitTable, UsedAttributes};
 use std::alloc::{AllocError, Global};
@@ -28,21 +26,15 @@ pub(crate) struct NodeHead {
     pub(crate) children: bool,
 }
 
-/// A scope that may contain the next entry: the depth of its entry, and the index of the scope in
-/// the unit.
-#[derive(Clone, Copy)]
-pub(crate) struct OpenScope {
-    pub(crate) depth: u32,
-    pub(crate) number: u32,
-}
-
 /// The state of the walk: the data stored for the entries so far, and the depth of the next entry.
+/// `least` is the least depth of the entries since the last scope. It starts at the depth of the
+/// children of that scope.
 #[derive(Drop)]
 pub(crate) struct Walk {
     pub(crate) depth: u32,
     pub(crate) root: Option<RootEntry>,
-    pub(crate) scopes: Vec<ScopePlace>,
-    pub(crate) opened: Vec<OpenScope>,
+    pub(crate) scopes: Vec<WalkedScope>,
+    pub(crate) least: u32,
 }
 
 /// Parses the entries of a unit and sets the bit of each in `bitmap`. A fault is reported at the
@@ -61,29 +53,28 @@ pub fn entries(
     ensures bitmap { OnOk result ((dies : List Die) → entries_of info.now header
         table.now.declarations ≡ Ok dies → AddsOffsets bitmap.old bitmap.new (offsets_of dies)) }
 {
-    let mut walk = walk_unit(alloc, info, header, table, bitmap)?;
+    let walk = walk_unit(alloc, info, header, table, bitmap)?;
     if walk.depth > 0 {
         let at = header.start as u64;
         return Err(LoadFault::at_item(Section::DebugInfo, Cause::TreeOpen, at));
     }
-    end_scopes(&mut walk.scopes, &mut walk.opened, 0)?;
     Ok(UnitEntries {
         header,
         root: walk.root,
-        scopes: walk.scopes,
+        scopes: count_descendants(alloc, &walk.scopes)?,
     })
 }
 
 impl Walk {
     fn new(alloc: Global) -> Walk
         ensures { state_of result
-            ≡ record { depth = 0; root = None; scopes = []; opened = [] } }
+            ≡ record { depth = 0; root = None; scopes = []; least = 0 } }
     {
         Walk {
             depth: 0,
             root: None,
             scopes: Vec::new(alloc),
-            opened: Vec::new(alloc),
+            least: 0,
         }
     }
 
@@ -119,6 +110,7 @@ impl Walk {
 
     /// Stores the data of the entry at an offset, given its used attributes.
     fn keep(&mut self, offset: usize, tag: u64, found: &UsedAttributes) -> Result<(), AllocError>
+        requires { self.old.depth ≤ depth_limit }
         ensures { OnOk result (IsAfterEntry (state_of self.old) (state_of self.new) offset tag
             found.now) }
     {
@@ -189,36 +181,4 @@ fn node(
     let children = head.children();
     head.read_attributes(!rooted, cursor, found)?;
     Ok(Some(NodeHead { tag, children }))
-}
-
-/// Closes every open scope that does not contain an entry at `depth`, and records the number of
-/// scopes below it.
-pub(crate) fn end_scopes(
-    scopes: &mut Vec<ScopePlace>,
-    opened: &mut Vec<OpenScope>,
-    depth: u32,
-) -> Result<(), AllocError>
-    ensures { OnOk result (
-        (scopes.new.items ≡ ended_at depth (reverse opened.old.items) scopes.old.items)
-        × (reverse opened.new.items ≡ left_open depth (reverse opened.old.items))) }
-{
-    while let Some(last) = opened.last() {
-        if last.depth < depth {
-            return Ok(());
-        }
-        end_scope(scopes, last.number as usize)?;
-        opened.pop();
-    }
-    Ok(())
-}
-
-/// Closes the scope at an index: all scopes after it are below it.
-fn end_scope(scopes: &mut Vec<ScopePlace>, number: usize) -> Result<(), AllocError>
-    ensures { OnOk result (scopes.new.items ≡ with_end number scopes.old.items) }
-{
-    if number >= scopes.len() {
-        return Ok(());
-    }
-    scopes[number].inside = narrow(scopes.len() - number - 1)?;
-    Ok(())
 }

@@ -1,6 +1,6 @@
 -- The effect of each step of the walk, for the contracts of its parts.
 use Rattle.std.specs.Prelude.{◌≡◌, ℕ, ◌+◌, ◌-◌, List, [], ◌∷◌, ◌++◌, Bool, Option, Some, None}
-use Rattle.std.specs.Prelude.{is_some, Result, Ok, Err, if◌then◌else◌, take, length, reverse}
+use Rattle.std.specs.Prelude.{is_some, Result, Ok, Err, if◌then◌else◌, take}
 use Rattle.std.specs.List.{filter_map}
 use Rattle.dwarf_bytes.specs.declared.fault.Cause.{Cause}
 use Rattle.dwarf_bytes.specs.declared.format.Format.{Format}
@@ -11,16 +11,15 @@ use Rattle.dwarf_bytes.specs.Refusals.{Fails, Gives}
 use Rattle.dwarf_forms.specs.Declarations.{Declaration}
 use Rattle.dwarf_units.specs.declared.attributes.Attribute.{Attribute}
 use Rattle.dwarf_walk.specs.declared.walk.NodeHead.{NodeHead}
-use Rattle.dwarf_walk.specs.declared.walk.OpenScope.{OpenScope}
 use Rattle.dwarf_walk.specs.declared.walk.Walk.{Walk}
-use Rattle.dwarf_walk.specs.declared.unit_entries.ScopePlace.{ScopePlace}
+use Rattle.dwarf_walk.specs.declared.descendants.WalkedScope.{WalkedScope}
 use Rattle.dwarf_walk.specs.declared.unit_entries.RootEntry.{RootEntry}
 use Rattle.dwarf_walk.specs.declared.entry_bitmap.EntryBitmap.{EntryBitmap}
 use Rattle.dwarf_units.specs.declared.unit_headers.UnitHeader.{UnitHeader}
 use Rattle.dwarf_units.specs.Entries.{Node, Entry, Null, LocatedNode, Die, die_of, depth_after}
 use Rattle.dwarf_units.specs.Entries.{node_at_depth, node_at}
-use Rattle.dwarf_walk.specs.Private.Ends.{recorded_places, open_scopes, ended_at, left_open}
-use Rattle.dwarf_walk.specs.Private.Ends.{new_place, new_open}
+use Rattle.dwarf_walk.specs.Private.WalkedScopes.{walked_scope, walked_scopes}
+use Rattle.dwarf_walk.specs.Private.WalkedScopes.{least_after_entry, least_after}
 use Rattle.dwarf_walk.specs.Private.Stored.{root_entry, root_in}
 use Rattle.dwarf_units.specs.Private.Plans.{Table, stored_attributes}
 use Rattle.dwarf_units.specs.Private.Used.{Used, used_among}
@@ -55,16 +54,16 @@ ReadsNode keep (Err cause) used read old new = Fails cause (read old.bytes old.p
 pub record WalkState : Type 0 where
   pub depth : ℕ
   pub root : Option RootEntry
-  pub scopes : List ScopePlace
-  pub opened : List OpenScope
+  pub scopes : List WalkedScope
+  pub least : ℕ
 
 -- The state after a list of entries.
 abbrev pub state_after_entries : ℕ → List Die → WalkState
 state_after_entries depth dies = record {
   depth = depth;
   root = root_in dies;
-  scopes = recorded_places dies;
-  opened = open_scopes 0 dies;
+  scopes = walked_scopes 0 dies;
+  least = least_after 0 dies;
 }
 
 -- The state after a list of nodes.
@@ -77,7 +76,7 @@ state_of w = record {
   depth = w.depth;
   root = w.root;
   scopes = w.scopes.items;
-  opened = reverse w.opened.items;
+  least = w.least;
 }
 
 -- The state after one more entry.
@@ -85,9 +84,8 @@ abbrev pub after_die : WalkState → Die → WalkState
 after_die w die = record {
   depth = w.depth;
   root = or_else w.root (Some (root_entry die));
-  scopes = ended_at die.depth w.opened w.scopes ++ new_place die;
-  opened = new_open (length (ended_at die.depth w.opened w.scopes)) die
-      ++ left_open die.depth w.opened;
+  scopes = w.scopes ++ walked_scope w.least die;
+  least = least_after_entry w.least die;
 }
 
 -- The state after one more entry, ignoring its attributes. The root is unchanged.
@@ -109,13 +107,6 @@ IsAfterEntry w next at tag used = (attributes : List Attribute) → used ≡ use
       tag = tag;
       attributes = attributes;
     })
-
--- The state after one more scope, whose entry is at an offset.
-abbrev pub with_scope : ℕ → WalkState → WalkState
-with_scope offset w = record w {
-  scopes = w.scopes ++ record { offset = offset; inside = 0 } ∷ [];
-  opened = record { depth = w.depth; number = length w.scopes } ∷ w.opened;
-}
 
 -- The depth after an entry, which may start a list of children.
 abbrev pub depth_after_entry : Bool → ℕ → ℕ

@@ -1,7 +1,9 @@
-use Rattle.std.proofs.Common.{arith, inr}
+use Rattle.std.proofs.Common.{arith, inr, ap, ◌∙◌}
+use Rattle.dwarf_walk.specs.Private.WalkedScopes.{counted_places}
 use Rattle.std.proofs.lemmas.Result.{err_from_is_err_and}
 use Rattle.dwarf_walk.specs.Private.Readers.{state_of}
 use Rattle.dwarf_walk.proofs.WalkEnds.{entries-end, entries-open, entries-fault, entries-bitmap}
+use Rattle.dwarf_walk.proofs.WalkEnds.{entries-bounded}
 use Rattle.dwarf_walk.proofs.walk.entries.Goals as goal
 
 pub returns-in_err-walk-clause-decodes : goal.returns-in_err-walk-clause-decodes
@@ -16,10 +18,15 @@ returns-then-walk-gt0-clause-decodes c =
     (state_of c.in_ok-walk.walk) c.at_item.result c.in_ok-walk.ensures.decodes c.if-walk-gt0.true
     c.at_item.ensures)
 
+pub count_descendants-requires : goal.count_descendants-requires
+count_descendants-requires c = rw c.deref.ensures.value (entries-bounded c.args.info.now c.args.header
+    c.args.table.now.declarations (state_of c.in_ok-walk.walk) c.in_ok-walk.ensures.decodes)
+
 pub returns-clause-decodes : goal.returns-clause-decodes
 returns-clause-decodes c = entries-end c.args.info.now c.args.header c.args.table.now.declarations
-    (state_of c.in_ok-walk.walk) c.end_scopes.new.scopes.items c.in_ok-walk.ensures.decodes
-    (omega (arith, c.if-walk-gt0.false)) c.in_ok-end_scopes.ensures.0
+    (state_of c.in_ok-walk.walk) _ c.in_ok-walk.ensures.decodes
+    (omega (arith, c.if-walk-gt0.false))
+    (c.in_ok-count_descendants.ensures ∙ ap counted_places c.deref.ensures.value)
 
 pub returns-clause-bitmap : goal.returns-clause-bitmap
 returns-clause-bitmap c = entries-bitmap c.args.info.now c.args.header c.args.table.now.declarations

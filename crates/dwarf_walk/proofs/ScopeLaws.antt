@@ -1,0 +1,127 @@
+-- The scopes that the walk stores, and the number of scopes below each.
+use Rattle.std.proofs.Common.{◌≡◌, ℕ, ◌+◌, ◌<◌, ◌≤◌, min, List, [], ◌∷◌, ◌++◌}
+use Rattle.std.proofs.Common.{cond, drop, refl, ap, sym, ◌∙◌, arith, append_assoc, append-nil}
+use Rattle.std.proofs.Common.{zero, suc, length, get_or}
+use Rattle.std.specs.Prelude.{nat_lt, count_by}
+use Rattle.std.specs.List.{prefix_len}
+use Rattle.std.proofs.lemmas.Grind.{common_steps}
+use Rattle.std.proofs.lemmas.Bool.{le-ltb}
+use Rattle.std.proofs.lemmas.List.Elements.{All-nil, All-tail, All-append}
+use Rattle.std.proofs.lemmas.List.Sums.{sum_by-cons, take_while-cons}
+use Rattle.dwarf_walk.specs.declared.descendants.WalkedScope.{WalkedScope}
+use Rattle.dwarf_walk.specs.declared.unit_entries.ScopePlace.{ScopePlace}
+use Rattle.dwarf_units.specs.Entries.{Die, below}
+use Rattle.dwarf_walk.specs.ScopeEntries.{is_scope}
+use Rattle.dwarf_walk.specs.Private.Stored.{scope_places}
+use Rattle.dwarf_walk.specs.Private.WalkedScopes.{walked_scope, walked_scopes, least_after_entry}
+use Rattle.dwarf_walk.specs.Private.WalkedScopes.{least_after, is_deeper, counted_places}
+use Rattle.dwarf_walk.specs.Private.WalkedScopes.{IsBounded, AreBounded}
+
+-- ---- one more entry
+
+pub walked-push : (least : ℕ) (dies : List Die) (die : Die)
+    → walked_scopes least (dies ++ die ∷ [])
+    ≡ walked_scopes least dies ++ walked_scope (least_after least dies) die
+walked-push least [] die = append-nil (walked_scope least die)
+walked-push least (d ∷ dies) die =
+    ap (λ (ws : List WalkedScope). walked_scope least d ++ ws)
+    (walked-push (least_after_entry least d) dies die)
+    ∙ sym (append_assoc (walked_scope least d) (walked_scopes (least_after_entry least d) dies) _)
+
+pub least-push : (least : ℕ) (dies : List Die) (die : Die)
+    → least_after least (dies ++ die ∷ []) ≡ least_after_entry (least_after least dies) die
+least-push least [] die = refl
+least-push least (d ∷ dies) die = least-push (least_after_entry least d) dies die
+
+-- ---- the scopes below an entry
+
+-- The scopes up to the first that is not deeper.
+abbrev deeper : ℕ → ℕ → List Die → ℕ
+deeper depth least dies = prefix_len (is_deeper depth) (walked_scopes least dies)
+
+-- If the least depth is not deeper, neither is the first scope.
+deeper-none : (depth least : ℕ) (dies : List Die) → least ≤ depth → deeper depth least dies ≡ 0
+deeper-none depth least [] le = refl
+deeper-none depth least (d ∷ dies) le =
+    let lower : min least d.depth ≤ depth = omega (arith, le) in
+    let further = deeper-none depth (min least d.depth) dies lower in
+    grind (arith, le-ltb depth (min least d.depth) lower, further)
+
+pub below-deeper : (die : Die) (least : ℕ) (dies : List Die) → die.depth < least
+    → count_by is_scope (below die dies) ≡ deeper die.depth least dies
+below-deeper die least [] lt = refl
+below-deeper die least (d ∷ dies) lt =
+    let first = take_while-cons (λ (x : Die). nat_lt die.depth x.depth) d dies in
+    let sum = sum_by-cons (λ (x : Die). cond (is_scope x) 1 0) d (below die dies) in
+    grind (
+      arith,
+      first,
+      sum,
+      deeper-none die.depth (min least d.depth) dies,
+      below-deeper die (min least d.depth) dies,
+      below-deeper die (d.depth + 1) dies,
+    )
+
+pub places-counted : (least : ℕ) (dies : List Die)
+    → counted_places (walked_scopes least dies) ≡ scope_places dies
+places-counted least [] = refl
+places-counted least (die ∷ rest) =
+    grind (
+      arith,
+      below-deeper die (die.depth + 1) rest,
+      places-counted (die.depth + 1) rest,
+      places-counted (min least die.depth) rest,
+    )
+
+pub are-bounded : (least : ℕ) (dies : List Die) → AreBounded (walked_scopes least dies)
+are-bounded least [] = All-nil IsBounded
+are-bounded least (die ∷ rest) =
+    All-append IsBounded (walked_scope least die)
+    (walked_scopes (least_after_entry least die) rest) (λ k d lt. grind arith)
+    (are-bounded (least_after_entry least die) rest)
+
+-- ---- counting from the last scope to the first
+
+pub counted_places-length : (ws : List WalkedScope) → length (counted_places ws) ≡ length ws
+counted_places-length [] = refl
+counted_places-length (w ∷ rest) = ap suc (counted_places-length rest)
+
+drop-past : (m n : ℕ) (w : WalkedScope) (rest : List WalkedScope) → m ≡ n + 1
+    → drop m (w ∷ rest) ≡ drop n rest
+drop-past m n w rest e = let next : m ≡ suc n = omega (arith, e) in
+    ap (λ (k : ℕ). drop k (w ∷ rest)) next
+
+-- The scopes that are deeper than a depth are deeper than every smaller depth.
+prefix-weaker : (depth deep : ℕ) (ws : List WalkedScope) → depth ≤ deep
+    → prefix_len (is_deeper depth) ws ≡ prefix_len (is_deeper deep) ws
+    + prefix_len (is_deeper depth) (drop (prefix_len (is_deeper deep) ws) ws)
+prefix-weaker depth deep [] le = refl
+prefix-weaker depth deep (w ∷ rest) le =
+    let n = prefix_len (is_deeper deep) rest in
+    grind (
+      arith,
+      common_steps,
+      prefix-weaker depth deep rest le,
+      drop-past (1 + n) n w rest (omega arith),
+    )
+
+-- The scopes below a deeper scope are deeper.
+pub deeper-jump : (depth next : ℕ) (ws : List WalkedScope) (w : WalkedScope) (p : ScopePlace)
+    → AreBounded ws → next < length ws → depth < (get_or ws next w).least
+    → prefix_len (is_deeper depth) (drop next ws) ≡ 1 + (get_or (counted_places ws) next p).inside
+    + prefix_len (is_deeper depth) (drop (next + (1 + (get_or (counted_places ws) next p).inside)) ws)
+deeper-jump depth next [] w p are lt deep = absurd (omega (arith, lt))
+deeper-jump depth zero (x ∷ rest) w p are lt deep =
+    let n = prefix_len (is_deeper x.depth) rest in
+    let le : depth ≤ x.depth = let bound = are 0 w lt in omega (arith, deep, bound) in
+    grind (
+      arith,
+      common_steps,
+      prefix-weaker depth x.depth rest le,
+      drop-past (0 + (1 + n)) n x rest (omega arith),
+    )
+deeper-jump depth (suc next) (x ∷ rest) w p are lt deep =
+    let n = 1 + (get_or (counted_places rest) next p).inside in
+    let further = deeper-jump depth next rest w p (All-tail IsBounded x rest are) (omega (arith, lt)) deep
+    in further ∙ ap (λ (ws : List WalkedScope). n + prefix_len (is_deeper depth) ws)
+    (sym (drop-past (suc next + n) (next + n) x rest (omega arith)))
