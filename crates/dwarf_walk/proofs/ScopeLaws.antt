@@ -47,7 +47,7 @@ deeper-none depth least (d ∷ dies) le =
     let further = deeper-none depth (min least d.depth) dies lower in
     grind (arith, le-ltb depth (min least d.depth) lower, further)
 
-pub below-deeper : (die : Die) (least : ℕ) (dies : List Die) → die.depth < least
+below-deeper : (die : Die) (least : ℕ) (dies : List Die) → die.depth < least
     → count_by is_scope (below die dies) ≡ deeper die.depth least dies
 below-deeper die least [] lt = refl
 below-deeper die least (d ∷ dies) lt =
@@ -86,42 +86,46 @@ pub counted_places-length : (ws : List WalkedScope) → length (counted_places w
 counted_places-length [] = refl
 counted_places-length (w ∷ rest) = ap suc (counted_places-length rest)
 
-drop-past : (m n : ℕ) (w : WalkedScope) (rest : List WalkedScope) → m ≡ n + 1
+drop-first : (m n : ℕ) (w : WalkedScope) (rest : List WalkedScope) → m ≡ n + 1
     → drop m (w ∷ rest) ≡ drop n rest
-drop-past m n w rest e = let next : m ≡ suc n = omega (arith, e) in
-    ap (λ (k : ℕ). drop k (w ∷ rest)) next
+drop-first m n w rest e =
+    let next : m ≡ suc n = omega (arith, e) in ap (λ (k : ℕ). drop k (w ∷ rest)) next
 
--- The scopes that are deeper than a depth are deeper than every smaller depth.
-prefix-weaker : (depth deep : ℕ) (ws : List WalkedScope) → depth ≤ deep
+-- The scopes that are deeper than a depth are also deeper than a smaller one.
+deeper-less : (depth deep : ℕ) (ws : List WalkedScope) → depth ≤ deep
     → prefix_len (is_deeper depth) ws ≡ prefix_len (is_deeper deep) ws
     + prefix_len (is_deeper depth) (drop (prefix_len (is_deeper deep) ws) ws)
-prefix-weaker depth deep [] le = refl
-prefix-weaker depth deep (w ∷ rest) le =
+deeper-less depth deep [] le = refl
+deeper-less depth deep (w ∷ rest) le =
     let n = prefix_len (is_deeper deep) rest in
     grind (
       arith,
       common_steps,
-      prefix-weaker depth deep rest le,
-      drop-past (1 + n) n w rest (omega arith),
+      deeper-less depth deep rest le,
+      drop-first (1 + n) n w rest (omega arith),
     )
 
--- The scopes below a deeper scope are deeper.
+-- The number of scopes below the scope at an index.
+abbrev inside_at : List WalkedScope → ℕ → ScopePlace → ℕ
+inside_at ws index p = (get_or (counted_places ws) index p).inside
+
+-- If a scope is deeper, so are the scopes below it.
 pub deeper-jump : (depth next : ℕ) (ws : List WalkedScope) (w : WalkedScope) (p : ScopePlace)
     → AreBounded ws → next < length ws → depth < (get_or ws next w).least
-    → prefix_len (is_deeper depth) (drop next ws) ≡ 1 + (get_or (counted_places ws) next p).inside
-    + prefix_len (is_deeper depth) (drop (next + (1 + (get_or (counted_places ws) next p).inside)) ws)
+    → prefix_len (is_deeper depth) (drop next ws) ≡ 1 + inside_at ws next p
+    + prefix_len (is_deeper depth) (drop (next + (1 + inside_at ws next p)) ws)
 deeper-jump depth next [] w p are lt deep = absurd (omega (arith, lt))
 deeper-jump depth zero (x ∷ rest) w p are lt deep =
     let n = prefix_len (is_deeper x.depth) rest in
-    let le : depth ≤ x.depth = let bound = are 0 w lt in omega (arith, deep, bound) in
+    let bound = are 0 w lt in
     grind (
       arith,
       common_steps,
-      prefix-weaker depth x.depth rest le,
-      drop-past (0 + (1 + n)) n x rest (omega arith),
+      deeper-less depth x.depth rest (omega (arith, deep, bound)),
+      drop-first (0 + (1 + n)) n x rest (omega arith),
     )
 deeper-jump depth (suc next) (x ∷ rest) w p are lt deep =
-    let n = 1 + (get_or (counted_places rest) next p).inside in
-    let further = deeper-jump depth next rest w p (All-tail IsBounded x rest are) (omega (arith, lt)) deep
-    in further ∙ ap (λ (ws : List WalkedScope). n + prefix_len (is_deeper depth) ws)
-    (sym (drop-past (suc next + n) (next + n) x rest (omega arith)))
+    let n = 1 + inside_at rest next p in
+    deeper-jump depth next rest w p (All-tail IsBounded x rest are) (omega (arith, lt)) deep
+    ∙ ap (λ (ws : List WalkedScope). n + prefix_len (is_deeper depth) ws)
+    (sym (drop-first (suc next + n) (next + n) x rest (omega arith)))

@@ -1,5 +1,5 @@
 -- The data stored for a unit and its bitmap, from the final state of its walk.
-use Rattle.std.proofs.Common.{◌≡◌, ℕ, ◌<◌, ◌⊎◌, inl, inr, List, [], true, false, take, refl}
+use Rattle.std.proofs.Common.{◌≡◌, ℕ, ◌<◌, ◌⊎◌, inl, inr, List, refl}
 use Rattle.std.proofs.Common.{ap, sym, ◌∙◌, subst, arith}
 use Rattle.std.specs.Prelude.{Option, Result, Ok, Err, nat_lt}
 use Rattle.std.specs.List.{filter_map}
@@ -8,7 +8,7 @@ use Rattle.dwarf_bytes.specs.declared.fault.Cause.TheVariants as causes
 use Rattle.dwarf_bytes.specs.declared.fault.LoadFault.{LoadFault}
 use Rattle.dwarf_bytes.specs.declared.fault.Section.TheVariants as sections
 use Rattle.dwarf_bytes.specs.Bind.{◌>>=◌}
-use Rattle.dwarf_bytes.specs.Items.{At, refuse_if, with_offset, items_from}
+use Rattle.dwarf_bytes.specs.Items.{At, refuse_if, with_offset}
 use Rattle.dwarf_bytes.specs.Refusals.{memory_fault, in_section}
 use Rattle.dwarf_bytes.proofs.Numbers.Advance.{after-bind}
 use Rattle.dwarf_forms.specs.Declarations.{Declaration}
@@ -16,7 +16,7 @@ use Rattle.dwarf_bytes.proofs.Numbers.Moves.{same-ok}
 use Rattle.dwarf_walk.specs.declared.unit_entries.ScopePlace.{ScopePlace}
 use Rattle.dwarf_walk.specs.declared.unit_entries.RootEntry.{RootEntry}
 use Rattle.dwarf_units.specs.declared.unit_headers.UnitHeader.{UnitHeader}
-use Rattle.dwarf_units.specs.Entries.{LocatedNode, Die, die_of, depth_after, node_at, entries_of}
+use Rattle.dwarf_units.specs.Entries.{LocatedNode, Die, die_of, depth_after, entries_of}
 use Rattle.dwarf_walk.specs.Private.Stored.{scope_places, StoredUnit, stored_unit, stored_entries}
 use Rattle.dwarf_walk.specs.Private.Readers.{WalkState, state_after, nodes_of, walk_of}
 use Rattle.dwarf_walk.specs.declared.entry_bitmap.EntryBitmap.{EntryBitmap}
@@ -42,53 +42,20 @@ stored-same : (h : UnitHeader) (r s : Option RootEntry) (p q : List ScopePlace) 
     ≡ record { header = h; root = s; scopes = q }
 stored-same h r s p q h1 h2 = cc
 
-unit-end : (header : UnitHeader) (all : Result (List LocatedNode × ℕ) At) (w : WalkState)
-    (places : List ScopePlace) → in_section sections.DebugInfo (walk_in all) ≡ Ok w → w.depth ≡ 0
-    → places ≡ counted_places w.scopes
-    → unit_in header all ≡ Ok (record { header = header; root = w.root; scopes = places })
-unit-end header (Err e) w places h none are = cc
-unit-end header (Ok all) w places h none are =
-    let same : state_after all.0 ≡ w = same-ok (state_after all.0) w h in
-    let closed : nat_lt 0 (depth_after all.0) ≡ false =
-    le-ltb 0 (depth_after all.0) (let depth = ap (λ (x : WalkState). x.depth) same in
-    omega (arith, depth, none)) in
-    let placed : scope_places (filter_map die_of all.0) ≡ places =
-    sym (places-counted 0 (filter_map die_of all.0))
-    ∙ (ap (λ (x : WalkState). counted_places x.scopes) same ∙ sym are) in
-    rw closed (ap (λ (k : StoredUnit). Ok k)
-    (stored-same header _ _ _ _ (ap (λ (x : WalkState). x.root) same) placed))
-
-unit-bounded : (all : Result (List LocatedNode × ℕ) At) (w : WalkState)
-    → in_section sections.DebugInfo (walk_in all) ≡ Ok w → AreBounded w.scopes
-unit-bounded (Err e) w h = cc
-unit-bounded (Ok all) w h =
-    subst (λ (x : WalkState). AreBounded x.scopes) (same-ok (state_after all.0) w h)
-    (are-bounded 0 (filter_map die_of all.0))
-
-unit-open : (header : UnitHeader) (all : Result (List LocatedNode × ℕ) At) (w : WalkState)
-    (fault : LoadFault) → in_section sections.DebugInfo (walk_in all) ≡ Ok w → 0 < w.depth
-    → fault ≡ record { section = sections.DebugInfo; cause = causes.TreeOpen; at = header.start }
-    → unit_in header all ≡ Err fault
-unit-open header (Err e) w fault h some is = cc
-unit-open header (Ok all) w fault h some is =
-    let same : state_after all.0 ≡ w = same-ok (state_after all.0) w h in
-    let open_still : nat_lt 0 (depth_after all.0) ≡ true =
-    lt-ltb 0 (depth_after all.0) (let depth = ap (λ (x : WalkState). x.depth) same in
-    omega (arith, depth, some)) in
-    rw open_still (ap (λ (f : LoadFault). Err f) (sym is))
-
-unit-fault : (header : UnitHeader) (all : Result (List LocatedNode × ℕ) At) (fault : LoadFault)
-    → in_section sections.DebugInfo (walk_in all) ≡ Err fault → unit_in header all ≡ Err fault
-unit-fault header (Err e) fault h = cc
-unit-fault header (Ok all) fault h = cc
+-- A final state of the walk is that of some list of nodes.
+walk-nodes : (nodes : Result (List LocatedNode × ℕ) At) (w : WalkState)
+    → in_section sections.DebugInfo (walk_in nodes) ≡ Ok w
+    → (all : List LocatedNode × ℕ) × (nodes ≡ Ok all) × (state_after all.0 ≡ w)
+walk-nodes (Err e) w h = cc
+walk-nodes (Ok all) w h = (all, refl, same-ok (state_after all.0) w h)
 
 pub entries-bounded : (info : List ℕ) (header : UnitHeader) (table : List Declaration)
-    (w : WalkState)
-    → in_section sections.DebugInfo (walk_of info header table) ≡ Ok w → AreBounded w.scopes
+    (w : WalkState) → in_section sections.DebugInfo (walk_of info header table) ≡ Ok w
+    → AreBounded w.scopes
 unfolding walk_of
 entries-bounded info header table w h =
-    unit-bounded (items_from header.end (node_at header.format table (take header.end info)) []
-    header.first) w h
+    let all = walk-nodes (nodes_of info header table) w h in
+    subst (λ (x : WalkState). AreBounded x.scopes) all.2 (are-bounded 0 (filter_map die_of all.0.0))
 
 pub entries-end : (info : List ℕ) (header : UnitHeader) (table : List Declaration) (w : WalkState)
     (places : List ScopePlace) → in_section sections.DebugInfo (walk_of info header table) ≡ Ok w
@@ -97,22 +64,31 @@ pub entries-end : (info : List ℕ) (header : UnitHeader) (table : List Declarat
     ≡ Ok (record { header = header; root = w.root; scopes = places })
 unfolding walk_of entries_of
 entries-end info header table w places h none are =
-    unit-end header (items_from header.end (node_at header.format table (take header.end info)) []
-    header.first) w places h none are
+    let all = walk-nodes (nodes_of info header table) w h in
+    let depth = ap (λ (x : WalkState). x.depth) all.2 in
+    let placed : scope_places (filter_map die_of all.0.0) ≡ places =
+    sym (places-counted 0 (filter_map die_of all.0.0))
+    ∙ (ap (λ (x : WalkState). counted_places x.scopes) all.2 ∙ sym are) in
+    rw (all.1, le-ltb 0 (depth_after all.0.0) (omega (arith, depth, none)))
+    (ap (λ (k : StoredUnit). Ok k)
+    (stored-same header _ _ _ _ (ap (λ (x : WalkState). x.root) all.2) placed))
 
 pub entries-open : (info : List ℕ) (header : UnitHeader) (table : List Declaration) (w : WalkState)
     (fault : LoadFault) → in_section sections.DebugInfo (walk_of info header table) ≡ Ok w
-    → 0 < w.depth → fault ≡ record {
-      section = sections.DebugInfo;
-      cause = causes.TreeOpen;
-      at =
-          header.start;
-    }
+    → 0 < w.depth
+    → fault ≡ record { section = sections.DebugInfo; cause = causes.TreeOpen; at = header.start }
     → in_section sections.DebugInfo (stored_entries info header table) ≡ Err fault
 unfolding walk_of entries_of
 entries-open info header table w fault h some is =
-    unit-open header (items_from header.end (node_at header.format table (take header.end info)) []
-    header.first) w fault h some is
+    let all = walk-nodes (nodes_of info header table) w h in
+    let depth = ap (λ (x : WalkState). x.depth) all.2 in
+    rw (all.1, lt-ltb 0 (depth_after all.0.0) (omega (arith, depth, some)))
+    (ap (λ (f : LoadFault). Err f) (sym is))
+
+unit-fault : (header : UnitHeader) (all : Result (List LocatedNode × ℕ) At) (fault : LoadFault)
+    → in_section sections.DebugInfo (walk_in all) ≡ Err fault → unit_in header all ≡ Err fault
+unit-fault header (Err e) fault h = cc
+unit-fault header (Ok all) fault h = cc
 
 pub entries-fault : (info : List ℕ) (header : UnitHeader) (table : List Declaration)
     (fault : LoadFault) → (fault ≡ memory_fault)
@@ -122,8 +98,7 @@ pub entries-fault : (info : List ℕ) (header : UnitHeader) (table : List Declar
 unfolding walk_of entries_of
 entries-fault info header table fault (inl memory) = inl memory
 entries-fault info header table fault (inr h) =
-    inr (unit-fault header (items_from header.end
-    (node_at header.format table (take header.end info)) [] header.first) fault h)
+    inr (unit-fault header (nodes_of info header table) fault h)
 
 -- ---- the bits of a unit, from the bits that its walk sets
 
