@@ -28,7 +28,7 @@ pub(crate) struct NodeHead {
 
 /// The state of the walk: the data stored for the entries so far, and the depth of the next entry.
 /// `least` is the least depth of the entries since the last scope. It starts at the depth of the
-/// children of that scope.
+/// children of that scope, and is 0 before the first scope.
 #[derive(Drop)]
 pub(crate) struct Walk {
     pub(crate) depth: u32,
