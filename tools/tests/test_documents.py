@@ -14,7 +14,7 @@ from programs import PROGRAM, TOP, Live, output_of
 import check_docs
 
 
-# A stand-in for `rt try --data NAME=FILE.. -- OPTION..`: it runs the built program in a new folder
+# Replaces `rt try --data NAME=FILE.. -- OPTION..`: runs the built program in a new folder
 # with copies of the files.
 RT = """#!/bin/sh
 folder=$(mktemp -d)
