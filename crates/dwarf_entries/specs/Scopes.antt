@@ -2,7 +2,8 @@
 -- .debug_info.
 use Rattle.std.specs.Prelude.{ℕ, ◌+◌, ◌-◌, List, [], ◌∷◌, length, Option, Some, None, Result, Ok}
 use Rattle.std.specs.Prelude.{option_and_then, map, flat_map, count_by, sum_by}
-use Rattle.std.specs.Prelude.{slice_get, zip, take, drop, ◌==◌, ◌^◌, if◌then◌else◌}
+use Rattle.std.specs.Prelude.{slice_get, zip, take, drop, ◌==◌, ◌^◌, if◌then◌else◌, nat_lt}
+use Rattle.std.specs.List.{find}
 use Rattle.std.specs.Option.{option_map_or, unwrap_or}
 use Rattle.dwarf_bytes.specs.declared.constants.TheConstants.{DW_AT_CALL_FILE, DW_AT_CALL_LINE}
 use Rattle.dwarf_bytes.specs.declared.constants.TheConstants.{DW_AT_STMT_LIST}
@@ -60,9 +61,11 @@ call_site wide calls.Both file line = record { file = Some file; line = Some lin
 call_site wide calls.Wide file line =
     unwrap_or (slice_get wide file) (record { file = None; line = None })
 
--- The stmt_list of the root at an index.
-abbrev pub root_stmt_list : List Root → ℕ → Option ℕ
-root_stmt_list roots number = option_and_then (λ r. r.stmt_list) (slice_get roots number)
+-- The stmt_list of the unit that contains the scope with a number. It is that of the first root
+-- whose scopes end after the number.
+abbrev pub stmt_list_by_number : List Root → ℕ → Option ℕ
+stmt_list_by_number roots number =
+    option_and_then (λ r. r.stmt_list) (find (λ r. nat_lt number r.past) roots)
 
 -- A scope of the program, given its ranges and its call site.
 abbrev pub scope_by_parts : List Root → CallSite → List Range → StoredScope → Scope
@@ -74,7 +77,7 @@ scope_by_parts roots site ranges s = record {
   ranges = ranges;
   name = text_by s.name_section s.name_offset;
   linkage_name = text_by s.linkage_name_section s.linkage_name_offset;
-  stmt_list = root_stmt_list roots s.root;
+  stmt_list = stmt_list_by_number roots s.number;
   call_file = site.file;
   call_line = site.line;
 }

@@ -31,8 +31,6 @@ pub struct Scope {
     /// The end of its ranges in the list of all ranges. They start where the ranges of the scope
     /// before it end.
     pub(crate) ranges_end: u32,
-    /// The index of the root of its unit.
-    pub(crate) root: u32,
     name_offset: u32,
     linkage_name_offset: u32,
     pub(crate) call_file: u32,
@@ -43,15 +41,13 @@ pub struct Scope {
     kind: ScopeKind,
 }
 
-/// The data of a scope, except its ranges. Its stmt_list is given by the index of the root of its
-/// unit.
+/// The data of a scope, except its ranges and its stmt_list, which is found by its number.
 #[derive(Clone, Copy)]
 pub(crate) struct ScopeFacts {
     pub(crate) kind: ScopeKind,
     pub(crate) offset: usize,
     pub(crate) number: usize,
     pub(crate) end: usize,
-    pub(crate) root: usize,
     pub(crate) name: Option<TextOffset>,
     pub(crate) linkage_name: Option<TextOffset>,
     pub(crate) site: CallSite,
@@ -88,7 +84,6 @@ impl Scope {
             number: narrow(facts.number)?,
             end: narrow(facts.end)?,
             ranges_end: narrow(ranges_end)?,
-            root: narrow(facts.root)?,
             name_offset,
             linkage_name_offset,
             call_file,

@@ -1,6 +1,8 @@
 //! The subprograms and inlined subroutines of an object (DWARF 5, 3.3).
 
-ghost use Rattle.std.specs.Prelude.{◌≡◌, ◌<◌, ◌^◌, map, List};
+ghost use Rattle.std.specs.Prelude.{◌≡◌, ◌<◌, ◌^◌, map, List, IfOk, slice_get, nat_lt};
+ghost use Rattle.std.specs.List.{find};
+ghost use Rattle.std.specs.List.Sorted.{IsNonDecreasingBy};
 ghost use Rattle.dwarf_bytes.specs.Refusals.{Decodes, Builds};
 ghost use Rattle.dwarf_walk.specs.Sections.{sections_of};
 ghost use Rattle.dwarf_entries.specs.Bases.{CompilationUnit};
@@ -32,9 +34,12 @@ pub struct Scopes {
 }
 
 impl Model for Scopes {
+    ghost use Rattle.std.specs.List.Sorted.{IsNonDecreasingBy};
     ghost use Rattle.dwarf_entries.specs.Scopes.{Tree, scopes_of};
 
     ghost Value = { Tree };
+
+    ghost invariant = { λ s. IsNonDecreasingBy (λ root. root.past) s.roots.items };
 
     ghost view = { λ s.
         record { roots = s.roots.items; scopes = scopes_of s.roots.items s.lists } };
@@ -111,7 +116,8 @@ impl Scopes {
         ensures { result ≡ stmt_list_at self.now.scopes number }
     {
         let scope = self.lists.scopes.get(number)?;
-        self.roots.get(scope.root as usize)?.stmt_list
+        let roots: &[Root] = &self.roots;
+        roots.get(root_by_number(roots, scope.number()))?.stmt_list
     }
 
     /// Returns the call site of the scope at an index.
@@ -128,6 +134,14 @@ impl Scopes {
             },
         }
     }
+}
+
+/// Returns the index of the first root whose scopes end after a number, by binary search.
+fn root_by_number(roots: &[Root], number: usize) -> usize
+    ensures { IsNonDecreasingBy (λ root. root.past) roots.now
+        → find (λ root. nat_lt number root.past) roots.now ≡ slice_get roots.now result }
+{
+    roots.partition_point(|root| root.past <= number)
 }
 
 /// Fails with an allocation failure if a section has 2^32 bytes or more, because scopes are stored
@@ -151,9 +165,10 @@ fn bound_places(alloc: Global, sections: &Sections<'_>) -> Result<(), AllocError
 /// Returns the roots of the units, each with the numbers of its scopes.
 fn roots(alloc: Global, units: &[UnitEntries]) -> Result<Vec<Root>, LoadFault>
     requires { scope_count units.now < 2 ^ 63 }
-    ensures { (us : List CompilationUnit)
+    ensures roots { (us : List CompilationUnit)
         → map stored_of units.now ≡ map stored_unit_of us
         → Builds (λ roots. roots.items) result (roots_from 0 us) }
+    ensures order { IfOk result (λ roots. IsNonDecreasingBy (λ root. root.past) roots.items) }
 {
     let mut roots = Vec::new(alloc);
     let mut first = 0;

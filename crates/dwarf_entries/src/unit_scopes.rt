@@ -10,8 +10,9 @@ ghost use Rattle.dwarf_entries.specs.Private.StringSections.{AreStringSections};
 ghost use Rattle.dwarf_entries.specs.Bases.{CompilationUnit};
 ghost use Rattle.dwarf_entries.specs.Scopes.{ParsedScope, ScopeSite, scope_at, sites_in};
 ghost use Rattle.dwarf_entries.specs.Scopes.{roots_from, scopes_of};
-ghost use Rattle.dwarf_entries.specs.Private.Passes.{AreUnits, IsRootOf, IsScopeSite, AreParsed};
-ghost use Rattle.dwarf_entries.specs.Private.Passes.{AddsScopes, scope_facts, all_scopes};
+ghost use Rattle.dwarf_entries.specs.Private.Passes.{AreUnits, IsFirstNumberOf, IsScopeSite};
+ghost use Rattle.dwarf_entries.specs.Private.Passes.{AreParsed, AddsScopes, scope_facts};
+ghost use Rattle.dwarf_entries.specs.Private.Passes.{all_scopes};
 ghost use Rattle.dwarf_entries.specs.Private.EntryOffsets.{scope_count, IsBitmapOf, AreReadIn};
 ghost use Rattle.dwarf_walk.specs.Private.Rereading.{IsReaderOf};
 ghost use Rattle.dwarf_entries.specs.Private.NameCache.{IsCacheOf};
@@ -42,12 +43,10 @@ pub(crate) struct Units<'a> {
     pub(crate) bases: &'a [Bases],
 }
 
-/// The indexes of a scope: its unit, the root of that unit, and the scope itself, with the number
-/// of scopes below it.
+/// The index of the unit of a scope, the number of the scope, and the number of scopes below it.
 #[derive(Clone, Copy)]
 pub(crate) struct ScopeNumbers {
     pub(crate) unit: usize,
-    pub(crate) root: usize,
     pub(crate) number: usize,
     pub(crate) inside: usize,
 }
@@ -97,14 +96,13 @@ impl<'a> Units<'a> {
         Ok((facts(numbers, entry, names), items))
     }
 
-    /// Appends the scopes of a unit, whose root has the index `root`. Each scope is re-read.
-    /// `left` is the number of range items that may still be read.
+    /// Appends the scopes of a unit. Each scope is re-read. `left` is the number of range items
+    /// that may still be read.
     fn unit_scopes(
         self,
         reader: &mut EntryReader<'_>,
         cache: &mut NameCache,
         unit: usize,
-        root: usize,
         left: &mut u64,
         lists: &mut ScopeLists,
     ) -> Result<(), LoadFault>
@@ -117,7 +115,7 @@ impl<'a> Units<'a> {
             → AreReadIn (sections_of self.entry.sections.now) us
             → IsReaderOf (sections_of self.entry.sections.now) reader.old
             → IsCacheOf (sections_of self.entry.sections.now) us cache.old
-            → slice_get us unit ≡ Some u → IsRootOf us root u
+            → slice_get us unit ≡ Some u → IsFirstNumberOf us unit (length before)
             → AreParsed (roots_from 0 us) before lists.old left.old
             → AddsScopes result (sections_of self.entry.sections.now) us
             (sites_in u u.dies) before lists.new left.new }
@@ -139,7 +137,6 @@ impl<'a> Units<'a> {
             };
             let numbers = ScopeNumbers {
                 unit,
-                root,
                 number: lists.scopes.len(),
                 inside: place.inside as usize,
             };
@@ -173,13 +170,9 @@ impl<'a> Units<'a> {
     {
         let mut left = ITEMS_LIMIT;
         let mut cache = NameCache::new(alloc);
-        let mut root = 0;
         let mut lists = ScopeLists::new(alloc, scope_count(self.units))?;
         for unit in 0..self.units.len() {
-            self.unit_scopes(reader, &mut cache, unit, root, &mut left, &mut lists)?;
-            if self.units[unit].root.is_some() {
-                root += 1;
-            }
+            self.unit_scopes(reader, &mut cache, unit, &mut left, &mut lists)?;
         }
         Ok(lists)
     }
@@ -195,7 +188,6 @@ fn facts(numbers: ScopeNumbers, entry: &ScopeEntry, names: EntryNames) -> ScopeF
         offset: entry.entry.offset,
         number: numbers.number,
         end: numbers.number + numbers.inside + 1,
-        root: numbers.root,
         name: names.name,
         linkage_name: names.linkage_name,
         site: CallSite {

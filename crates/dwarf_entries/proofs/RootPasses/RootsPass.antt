@@ -2,7 +2,10 @@
 use Rattle.std.proofs.Common.{◌≡◌, ℕ, ◌+◌, ◌<◌, ◌≤◌, List, [], ◌∷◌, ◌++◌, length, take, drop}
 use Rattle.std.proofs.Common.{get_or, map, refl, ap, sym, ◌∙◌, subst, arith, append_assoc}
 use Rattle.std.proofs.Common.{append-nil, drop-cons, add-one}
-use Rattle.std.specs.Prelude.{Option, Some, None, count_by, sum_by}
+use Rattle.std.specs.Prelude.{Option, Some, None, All, count_by, sum_by, ◌-◌}
+use Rattle.std.specs.List.Sorted.{IsNonDecreasingBy}
+use Rattle.std.proofs.lemmas.List.Sorted.{IsNonDecreasingBy-push}
+use Rattle.std.proofs.lemmas.List.Elements.{All-nil, All-cons, All-append, All-weaker}
 use Rattle.std.proofs.lemmas.List.{drop_all, get_or-map, length-map, take_more, take-append-drop}
 use Rattle.std.proofs.lemmas.List.Sums.{sum_by-append}
 use Rattle.dwarf_entries.specs.declared.scope.Root.{Root}
@@ -53,6 +56,30 @@ root-at units us index unit same within is =
       root_is = ap (λ (k : StoredUnit). k.root) here;
       count = ap (λ (k : StoredUnit). length k.scopes) here ∙ places-counted u.dies;
     }
+
+-- The scopes of a list of roots end in order, at or before a number.
+pub record EndInOrder (roots : List Root) (number : ℕ) : Type 0 where
+  pub rise : IsNonDecreasingBy (λ root. root.past) roots
+  pub within : All (λ root. root.past ≤ number) roots
+
+pub ends-later : (roots : List Root) (number later : ℕ) → EndInOrder roots number → number ≤ later
+    → EndInOrder roots later
+ends-later roots number later order after = record {
+  rise = order.rise;
+  within = All-weaker (λ (root : Root). root.past ≤ number) (λ (root : Root). root.past ≤ later)
+      (λ root until. omega (arith, until, after)) roots order.within;
+}
+
+pub ends-push : (roots : List Root) (number : ℕ) (root : Root) → EndInOrder roots number
+    → number ≤ root.past → EndInOrder (roots ++ root ∷ []) root.past
+ends-push roots number root order after = record {
+  rise = IsNonDecreasingBy-push (λ (r : Root). r.past) roots root order.rise
+      (λ d some. omega (arith, order.within (length roots - 1) d (omega (arith, some)), after));
+  within = All-append (λ (r : Root). r.past ≤ root.past) roots (root ∷ [])
+      (ends-later roots number root.past order after).within
+      (All-cons (λ (r : Root). r.past ≤ root.past) root [] (omega arith)
+      (All-nil (λ (r : Root). r.past ≤ root.past)));
+}
 
 -- The sum of the numbers of scopes up to the next index.
 pub count-within : (units : List UnitEntries) (index : ℕ) (unit : UnitEntries) (first : ℕ)

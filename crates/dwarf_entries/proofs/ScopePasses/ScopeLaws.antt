@@ -205,6 +205,6 @@ scope-is s units bases us before p numbers budget entry names items old new d st
           ∙ (ap (λ (r : Result Covering Cause). r
           >>= λ covering. Ok (scope_of_place before p names covering))
           (covers-is s units bases us before p numbers budget entry d stored place ∙ covers_read)
-          ∙ rw (place.entry_is, place.root_is, ending, place.number_is) refl),
+          ∙ rw (place.entry_is, place.stmt_list_is, ending, place.number_is) refl),
       grown,
     )

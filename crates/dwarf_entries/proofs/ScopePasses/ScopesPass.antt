@@ -1,8 +1,8 @@
 -- The iterations of the pass over the scopes of all units.
-use Rattle.std.proofs.Common.{◌≡◌, ℕ, ◌+◌, ◌<◌, ◌≤◌, ◌⊎◌, inl, inr, zero, suc, List, [], ◌∷◌, ◌++◌}
-use Rattle.std.proofs.Common.{length, drop, get_or, refl, ap, sym, ◌∙◌, arith}
-use Rattle.std.specs.Prelude.{Result, Ok, Err, Some, None, slice_get, sum_by}
-use Rattle.std.proofs.lemmas.List.{map-append, length-map}
+use Rattle.std.proofs.Common.{◌≡◌, ℕ, ◌+◌, ◌<◌, ◌≤◌, ◌⊎◌, inl, inr, suc, List, [], ◌∷◌, ◌++◌}
+use Rattle.std.proofs.Common.{length, drop, get_or, refl, ap, sym, ◌∙◌, arith, length-append}
+use Rattle.std.specs.Prelude.{Result, Ok, Err, Some, None, slice_get, sum_by, count_by}
+use Rattle.std.proofs.lemmas.List.{map-append, length-map, length-drop}
 use Rattle.std.proofs.lemmas.List.Sums.{sum_by-append}
 use Rattle.std.proofs.lemmas.Option.{slice_get_cases}
 use Rattle.dwarf_bytes.specs.declared.fault.Cause.{Cause}
@@ -23,17 +23,18 @@ use Rattle.dwarf_entries.specs.declared.scope.Root.{Root}
 use Rattle.dwarf_entries.specs.declared.scope.ScopeFacts.{ScopeFacts}
 use Rattle.dwarf_entries.specs.declared.scope_lists.ScopeLists.{ScopeLists}
 use Rattle.dwarf_entries.specs.declared.unit_scopes.ScopeNumbers.{ScopeNumbers}
-use Rattle.dwarf_units.specs.Entries.{Die}
 use Rattle.dwarf_entries.specs.Private.Shared.{AddsFacts, facts_of, IsPushed}
 use Rattle.dwarf_entries.proofs.ScopePasses.SharedLaws.{scopes-length}
 use Rattle.dwarf_entries.proofs.ScopePasses.PushedScopes.{pushed}
-use Rattle.dwarf_entries.proofs.RootPasses.RootNumbers.{rooted}
+use Rattle.dwarf_entries.proofs.RootPasses.RootNumbers.{by_number}
+use Rattle.dwarf_entries.proofs.RootPasses.RootParts.{sites-count}
+use Rattle.dwarf_walk.specs.ScopeEntries.{is_scope}
 use Rattle.dwarf_walk.specs.Sections.{Sections}
 use Rattle.dwarf_entries.specs.Bases.{CompilationUnit}
 use Rattle.dwarf_entries.specs.Scopes.{scope_at, ParsedScope, ScopeSite, Scope, sites_in}
 use Rattle.dwarf_entries.specs.Scopes.{stmt_list_of, roots_from}
-use Rattle.dwarf_entries.specs.Private.Passes.{AreUnits, IsRootOf, IsScopeSite, parse_scope}
-use Rattle.dwarf_entries.specs.Private.Passes.{AreParsed}
+use Rattle.dwarf_entries.specs.Private.Passes.{AreUnits, IsFirstNumberOf, IsScopeSite}
+use Rattle.dwarf_entries.specs.Private.Passes.{parse_scope, AreParsed}
 use Rattle.dwarf_walk.specs.Private.Stored.{StoredUnit, scope_entry, scope_places, stored_of}
 use Rattle.dwarf_entries.proofs.ScopePasses.ScopeLaws.{stored_in, unit_at}
 use Rattle.dwarf_entries.proofs.ScopePasses.SiteLaws.{SiteAt}
@@ -64,6 +65,7 @@ pub record CheckedSoFar (s : Sections) (us : List CompilationUnit) (u : Compilat
     (before : List ParsedScope) (index : ℕ) (lists : ScopeLists) (left : ℕ) : Type 0 where
   pub parsed : List ParsedScope
   pub are_parsed : AreParsed (roots_from 0 us) parsed lists left
+  pub counted : length parsed ≡ length before + index
   pub read : made_front parsed (each_from (parse_scope s us) parsed
       (drop index (sites_in u u.dies)))
       ≡ made_front before (each_from (parse_scope s us) before (sites_in u u.dies))
@@ -72,15 +74,17 @@ pub checked-none : (s : Sections) (us : List CompilationUnit) (u : CompilationUn
     (before : List ParsedScope) (lists : ScopeLists) (left : ℕ)
     → AreParsed (roots_from 0 us) before lists left → CheckedSoFar s us u before 0 lists left
 checked-none s us u before lists left are =
-    record { parsed = before; are_parsed = are; read = refl }
+    record { parsed = before; are_parsed = are; counted = omega arith; read = refl }
 
--- A unit with a scope has entries.
-has_entries : (u : CompilationUnit) (dies : List Die) (index : ℕ) (p : ScopeSite)
-    (ps : List ScopeSite) → drop index (sites_in u dies) ≡ p ∷ ps → (die : Die) × (rest : List Die)
-    × (dies ≡ die ∷ rest)
-has_entries u [] zero p ps h = cc
-has_entries u [] (suc index) p ps h = cc
-has_entries u (die ∷ rest) index p ps h = (die, rest, refl)
+-- A site has an index below the number of scopes of its unit.
+site-within : (u : CompilationUnit) (index : ℕ) (p : ScopeSite) (ps : List ScopeSite)
+    → drop index (sites_in u u.dies) ≡ p ∷ ps → index < count_by is_scope u.dies
+site-within u index p ps h =
+    let rest = length-drop index (sites_in u u.dies) in
+    let some : length (drop index (sites_in u u.dies)) ≡ suc (length ps) =
+    ap (λ (qs : List ScopeSite). length qs) h in
+    let all = sites-count u u.dies in
+    omega (arith, rest, some, all)
 
 -- The list has as many scopes as were resolved.
 checked-count : (roots : List Root) (parsed : List ParsedScope) (lists : ScopeLists) (left : ℕ)
@@ -117,20 +121,23 @@ pub is-place : (s : Sections) (us : List CompilationUnit) (u : CompilationUnit)
     (before : List ParsedScope) (numbers : ScopeNumbers) (index : ℕ) (lists : ScopeLists) (left : ℕ)
     (stored : ScopePlace) (header : UnitHeader) (entry : ScopeEntry)
     → (so_far : CheckedSoFar s us u before index lists left)
-    → slice_get us numbers.unit ≡ Some u → IsRootOf us numbers.root u
+    → slice_get us numbers.unit ≡ Some u → IsFirstNumberOf us numbers.unit (length before)
     → (known : PlaceChecked s u index stored header) → numbers.number ≡ length lists.scopes.items
     → numbers.inside ≡ stored.inside
     → scope_entry_at header.format known.read.table (bytes_in s header) stored.offset ≡ Ok entry
     → IsScopeSite us numbers entry left so_far.parsed known.site.place
-is-place s us u before numbers index lists left stored header entry so_far found rooted known
+is-place s us u before numbers index lists left stored header entry so_far found first known
     number_is descendants_are again =
     let p = known.site in
     let sizes = checked-count (roots_from 0 us) so_far.parsed lists left so_far.are_parsed in
-    let dies = has_entries u u.dies index p.place (drop (index + 1) (sites_in u u.dies)) p.rest in
+    let within = site-within u index p.place (drop (index + 1) (sites_in u u.dies)) p.rest in
+    let counted = so_far.counted in
     record {
       unit_is = found ∙ ap (λ (v : CompilationUnit). Some v) (sym p.is_place.unit_is);
-      root_is = rooted dies.0 dies.1 dies.2 ∙ ap (λ (v : CompilationUnit). stmt_list_of v.dies)
-          (sym p.is_place.unit_is);
+      stmt_list_is = by_number us u numbers.unit (length before) numbers.number found first
+          (omega (arith, number_is, sizes, counted))
+          (omega (arith, number_is, sizes, counted, within))
+          ∙ ap (λ (v : CompilationUnit). stmt_list_of v.dies) (sym p.is_place.unit_is);
       entry_is = same-ok entry (scope_entry p.place.member.die p.place.kind)
           (sym again ∙ entry-there s u index stored header known);
       descendants_are = descendants_are ∙ p.descendants_are;
@@ -168,6 +175,7 @@ checked-next s us u before index lists mid new left after stored items facts so_
         in_list = behind.in_list;
         counted = omega (arith, so_far.are_parsed.counted, counted, sum);
       };
+      counted = omega (arith, so_far.counted, length-append parsed (one ∷ []));
       read = sym (each-next (parse_scope s us) parsed p.place (drop (index + 1) places) one here)
           ∙ (ap (λ (ps : List ScopeSite). made_front parsed (each_from (parse_scope s us)
           parsed ps))

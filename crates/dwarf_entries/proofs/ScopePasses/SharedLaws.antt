@@ -9,8 +9,8 @@ use Rattle.dwarf_entries.specs.declared.calls.CallSite.{CallSite}
 use Rattle.dwarf_entries.specs.declared.scope.Range.{Range}
 use Rattle.dwarf_entries.specs.declared.scope.Root.{Root}
 use Rattle.dwarf_entries.specs.declared.scope.Scope.{Scope as StoredScope}
-use Rattle.dwarf_entries.specs.Scopes.{Scope, call_site, root_stmt_list, scope_of, scopes_from}
-use Rattle.dwarf_entries.specs.Scopes.{ranges_at, stmt_list_at}
+use Rattle.dwarf_entries.specs.Scopes.{Scope, call_site, stmt_list_by_number, scope_of}
+use Rattle.dwarf_entries.specs.Scopes.{scopes_from, ranges_at, stmt_list_at}
 use Rattle.dwarf_entries.specs.Private.Shared.{ranges_start}
 
 -- ---- the scope at an index
@@ -92,7 +92,7 @@ ranges-nowhere roots wide ranges ss n none =
 pub stmt_list-there : (roots : List Root) (wide : List CallSite) (ranges : List Range)
     (ss : List StoredScope) (n : ℕ) (o : Option StoredScope) → slice_get ss n ≡ o
     → stmt_list_at (scopes_from roots wide ranges 0 ss) n
-    ≡ option_and_then (λ (s : StoredScope). root_stmt_list roots s.root) o
+    ≡ option_and_then (λ (s : StoredScope). stmt_list_by_number roots s.number) o
 stmt_list-there roots wide ranges ss n o found =
     ap (λ (p : Option Scope). option_and_then (λ (t : Scope). t.stmt_list) p)
     (scopes-at roots wide ranges 0 ss n
@@ -103,7 +103,7 @@ stmt_list-there roots wide ranges ss n o found =
     by_case : (o : Option StoredScope) → option_and_then (λ (t : Scope). t.stmt_list)
         (option_map (λ t. scope_of roots wide
         (take (t.ranges_end - ranges_start 0 ss n) (drop (ranges_start 0 ss n) ranges)) t) o)
-        ≡ option_and_then (λ (s : StoredScope). root_stmt_list roots s.root) o
+        ≡ option_and_then (λ (s : StoredScope). stmt_list_by_number roots s.number) o
     by_case None = refl
     by_case (Some s) = refl
 

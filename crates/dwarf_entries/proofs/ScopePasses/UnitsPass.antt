@@ -1,7 +1,7 @@
 -- The pass over the scopes of all units.
 use Rattle.std.proofs.Common.{◌≡◌, ℕ, ◌+◌, ◌<◌, ◌≤◌, ◌⊎◌, inl, inr, List, [], ◌++◌, length, drop}
-use Rattle.std.proofs.Common.{get_or, cond, refl, ap, sym, ◌∙◌, subst, arith, append_assoc}
-use Rattle.std.specs.Prelude.{Result, Ok, Err, Option, Some, is_some, slice_get}
+use Rattle.std.proofs.Common.{refl, ap, sym, ◌∙◌, subst, arith, append_assoc, length-append}
+use Rattle.std.specs.Prelude.{Result, Ok, Err, Some, slice_get}
 use Rattle.std.proofs.lemmas.List.{drop_all, length-map}
 use Rattle.dwarf_bytes.specs.declared.fault.Section.TheVariants as names
 use Rattle.dwarf_bytes.specs.declared.fault.LoadFault.{LoadFault}
@@ -11,41 +11,41 @@ use Rattle.dwarf_bytes.specs.Refusals.{memory_fault, in_section}
 use Rattle.dwarf_bytes.proofs.Items.EachLaws.{made_front, each-end}
 use Rattle.dwarf_entries.specs.declared.bases.Bases.{Bases}
 use Rattle.dwarf_walk.specs.declared.unit_entries.UnitEntries.{UnitEntries}
-use Rattle.dwarf_walk.specs.declared.unit_entries.RootEntry.{RootEntry}
 use Rattle.dwarf_entries.specs.declared.scope.Range.{Range}
 use Rattle.dwarf_entries.specs.declared.scope.Scope.{Scope as StoredScope}
 use Rattle.dwarf_entries.specs.declared.scope_lists.ScopeLists.{ScopeLists}
 use Rattle.dwarf_entries.specs.Private.Shared.{AreConsecutive}
-use Rattle.dwarf_entries.proofs.RootPasses.RootNumbers.{RootsFrom, units-from, rooted, roots_after}
+use Rattle.dwarf_entries.proofs.RootPasses.RootNumbers.{units-from, first-next}
+use Rattle.dwarf_entries.proofs.RootPasses.RootParts.{sites-count}
 use Rattle.dwarf_walk.specs.Sections.{Sections}
 use Rattle.dwarf_entries.specs.Bases.{CompilationUnit}
 use Rattle.dwarf_entries.specs.Scopes.{ParsedScope, ScopeSite, Scope, items_limit, sites_in}
 use Rattle.dwarf_entries.specs.Scopes.{roots_from, scopes_from, scopes_of}
-use Rattle.dwarf_entries.specs.Private.Passes.{AreUnits, IsRootOf, parse_scope, AreParsed}
+use Rattle.dwarf_entries.specs.Private.Passes.{AreUnits, IsFirstNumberOf, parse_scope, AreParsed}
 use Rattle.dwarf_entries.specs.Private.Passes.{AddsScopes, all_sites, all_scopes}
-use Rattle.dwarf_bytes.proofs.Items.EachPlaces.{each-append}
-use Rattle.dwarf_walk.specs.Private.Stored.{StoredUnit, root_in, stored_of}
-use Rattle.dwarf_entries.proofs.ScopePasses.ScopeLaws.{stored_in, unit_at}
+use Rattle.dwarf_bytes.proofs.Items.EachPlaces.{each-append, each-length}
+use Rattle.dwarf_walk.specs.Private.Stored.{StoredUnit, stored_of}
+use Rattle.dwarf_entries.proofs.ScopePasses.ScopeLaws.{stored_in}
 use Rattle.dwarf_entries.proofs.ScopePasses.ScopesPass.{unit-read}
 
 -- ---- the loop over the units
 
 -- The scopes of the units before the index.
-pub record ScopesSoFar (s : Sections) (us : List CompilationUnit) (index root : ℕ)
+pub record ScopesSoFar (s : Sections) (us : List CompilationUnit) (index : ℕ)
     (lists : ScopeLists) (left : ℕ) : Type 0 where
   pub parsed : List ParsedScope
   pub are_parsed : AreParsed (roots_from 0 us) parsed lists left
-  pub roots : RootsFrom us index root
+  pub first : IsFirstNumberOf us index (length parsed)
   pub read : made_front parsed (each_from (parse_scope s us) parsed (all_sites (drop index us)))
       ≡ each (parse_scope s us) (all_sites us)
 
 pub scopes_none : (s : Sections) (us : List CompilationUnit) (lists : ScopeLists)
-    → lists.scopes.items ≡ [] → lists.ranges.items ≡ [] → ScopesSoFar s us 0 0 lists items_limit
+    → lists.scopes.items ≡ [] → lists.ranges.items ≡ [] → ScopesSoFar s us 0 lists items_limit
 scopes_none s us lists scopes_are ranges_are =
     record {
       parsed = [];
       are_parsed = none;
-      roots = record { number = 0; left = refl };
+      first = refl;
       read =
           no-front (each (parse_scope s us) (all_sites us));
     }
@@ -90,25 +90,25 @@ stretch s us parsed after places more is =
     behind (Err e) = refl
 
 pub scopes-next : (s : Sections) (units : List UnitEntries) (bases : List Bases)
-    (us : List CompilationUnit) (index root next : ℕ) (d : UnitEntries) (old lists : ScopeLists)
-    (left after : ℕ) → AreUnits units bases us → index < length units
-    → (so_far : ScopesSoFar s us index root old left)
-    → next ≡ root + cond (is_some (get_or units index d).root) 1 0
+    (us : List CompilationUnit) (index : ℕ) (old lists : ScopeLists) (left after : ℕ)
+    → AreUnits units bases us → index < length units
+    → (so_far : ScopesSoFar s us index old left)
     → ((u : CompilationUnit) (before : List ParsedScope) → slice_get us index ≡ Some u
-    → IsRootOf us root u → AreParsed (roots_from 0 us) before old left
+    → IsFirstNumberOf us index (length before) → AreParsed (roots_from 0 us) before old left
     → AddsScopes (Ok tt) s us (sites_in u u.dies) before lists after)
-    → ScopesSoFar s us (index + 1) next lists after
-scopes-next s units bases us index root next d old lists left after are within so_far next_is adds =
+    → ScopesSoFar s us (index + 1) lists after
+scopes-next s units bases us index old lists left after are within so_far adds =
     let u = unit-read units bases us index are within in
     let parsed = so_far.parsed in
-    let added = adds u.0 parsed u.1 (rooted us u.0 index root so_far.roots u.1) so_far.are_parsed in
-    let root_is : (get_or units index d).root ≡ root_in u.0.dies =
-    ap (λ (k : StoredUnit). k.root) ((unit_at units bases us index u.0 are u.1).entries_are d) in
+    let added = adds u.0 parsed u.1 so_far.first so_far.are_parsed in
+    let size = length-append parsed added.0 in
+    let few = each-length (parse_scope s us) parsed (sites_in u.0 u.0.dies) added.0 added.1 in
+    let sites = sites-count u.0 u.0.dies in
     record {
       parsed = parsed ++ added.0;
       are_parsed = added.2;
-      roots = roots_after us u.0 index root next so_far.roots u.1
-          (next_is ∙ ap (λ (r : Option RootEntry). root + cond (is_some r) 1 0) root_is);
+      first = first-next us u.0 index (length parsed) (length (parsed ++ added.0)) u.1 so_far.first
+          (omega (arith, size, few, sites));
       read = sym (stretch s us parsed added.0 (sites_in u.0 u.0.dies)
           (all_sites (drop (index + 1) us)) added.1)
           ∙ (ap (λ (ps : List ScopeSite). made_front parsed (each_from (parse_scope s us)
@@ -117,17 +117,16 @@ scopes-next s units bases us index root next d old lists left after are within s
     }
 
 pub scopes-fault : (s : Sections) (units : List UnitEntries) (bases : List Bases)
-    (us : List CompilationUnit) (index root : ℕ) (old lists : ScopeLists) (left after : ℕ)
+    (us : List CompilationUnit) (index : ℕ) (old lists : ScopeLists) (left after : ℕ)
     (fault : LoadFault) → AreUnits units bases us → index < length units
-    → (so_far : ScopesSoFar s us index root old left)
+    → (so_far : ScopesSoFar s us index old left)
     → ((u : CompilationUnit) (before : List ParsedScope) → slice_get us index ≡ Some u
-    → IsRootOf us root u → AreParsed (roots_from 0 us) before old left
+    → IsFirstNumberOf us index (length before) → AreParsed (roots_from 0 us) before old left
     → AddsScopes (Err fault) s us (sites_in u u.dies) before lists after)
     → (fault ≡ memory_fault) ⊎ (in_section names.DebugInfo (all_scopes s us) ≡ Err fault)
-scopes-fault s units bases us index root old lists left after fault are within so_far adds =
+scopes-fault s units bases us index old lists left after fault are within so_far adds =
     let u = unit-read units bases us index are within in
-    by_fault u.0 u.1 (adds u.0 so_far.parsed u.1 (rooted us u.0 index root so_far.roots u.1)
-    so_far.are_parsed)
+    by_fault u.0 u.1 (adds u.0 so_far.parsed u.1 so_far.first so_far.are_parsed)
   where
     parsed : List ParsedScope
     parsed = so_far.parsed
@@ -163,10 +162,10 @@ scopes-fault s units bases us index root old lists left after fault are within s
         (each_from (parse_scope s us) parsed (sites_in u u.dies)) refl bad)
 
 pub scopes_end : (s : Sections) (units : List UnitEntries) (bases : List Bases)
-    (us : List CompilationUnit) (index root : ℕ) (lists : ScopeLists) (left : ℕ)
-    → AreUnits units bases us → length units ≤ index → ScopesSoFar s us index root lists left
+    (us : List CompilationUnit) (index : ℕ) (lists : ScopeLists) (left : ℕ)
+    → AreUnits units bases us → length units ≤ index → ScopesSoFar s us index lists left
     → in_section names.DebugInfo (all_scopes s us) ≡ Ok (scopes_of (roots_from 0 us) lists)
-scopes_end s units bases us index root lists left are past so_far =
+scopes_end s units bases us index lists left are past so_far =
     let parsed = so_far.parsed in
     let sizes : length units ≡ length us = sym (length-map units stored_of)
     ∙ (ap (λ (ks : List StoredUnit). length ks) are.same ∙ length-map us stored_in) in

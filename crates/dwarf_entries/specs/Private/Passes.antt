@@ -1,6 +1,7 @@
 -- The results of the passes over all units, for their contracts.
-use Rattle.std.specs.Prelude.{◌≡◌, ◌⊎◌, ◌++◌, ◌+◌, ◌-◌, ℕ, List, ◌∷◌, length, Option, Some, None}
-use Rattle.std.specs.Prelude.{Result, Ok, Err, map, flat_map, slice_get, sum_by, zip}
+use Rattle.std.specs.Prelude.{◌≡◌, ◌⊎◌, ◌++◌, ◌+◌, ◌-◌, ℕ, List, length, Option, Some, None}
+use Rattle.std.specs.Prelude.{Result, Ok, Err, map, flat_map, slice_get, sum_by, count_by, zip}
+use Rattle.std.specs.Prelude.{take}
 use Rattle.dwarf_bytes.specs.declared.fault.Section.TheVariants as names
 use Rattle.dwarf_bytes.specs.declared.fault.LoadFault.{LoadFault}
 use Rattle.dwarf_bytes.specs.declared.format.Format.{Format}
@@ -21,9 +22,10 @@ use Rattle.dwarf_walk.specs.Sections.{Sections}
 use Rattle.dwarf_units.specs.Entries.{Die, entries_of}
 use Rattle.dwarf_entries.specs.Bases.{CompilationUnit, no_bases, bases_by, unit_of}
 use Rattle.dwarf_entries.specs.Scopes.{Tree, ParsedScope, ScopeSite, Scope, items_limit, sites_in}
-use Rattle.dwarf_entries.specs.Scopes.{roots_from, root_stmt_list, scopes_of, scope_at}
+use Rattle.dwarf_entries.specs.Scopes.{roots_from, stmt_list_by_number, scopes_of, scope_at}
 use Rattle.dwarf_entries.specs.Scopes.{stmt_list_of}
 use Rattle.dwarf_walk.specs.declared.unit_entries.ScopeEntry.{ScopeEntry}
+use Rattle.dwarf_walk.specs.ScopeEntries.{is_scope}
 use Rattle.dwarf_units.specs.Units.{units_of, tables_of}
 use Rattle.dwarf_walk.specs.Private.Stored.{StoredUnit, scope_entry, stored_unit, stored_of}
 use Rattle.dwarf_entries.specs.Private.EntryOffsets.{AreInOrder}
@@ -73,18 +75,21 @@ pub record AreUnits (units : List UnitEntries) (bases : List Bases) (us : List C
   pub order : AreInOrder 0 us
   pub bases_are : bases ≡ map bases_of us
 
--- The index is that of the root of a unit, if the unit has entries.
-abbrev pub IsRootOf : List CompilationUnit → ℕ → CompilationUnit → Type 0
-IsRootOf us root u =
-    (die : Die) (rest : List Die) → u.dies ≡ die ∷ rest
-    → root_stmt_list (roots_from 0 us) root ≡ stmt_list_of u.dies
+-- The number of scopes of some units.
+abbrev pub number_of_scopes : List CompilationUnit → ℕ
+number_of_scopes us = sum_by (λ u. count_by is_scope u.dies) us
+
+-- The number is that of the first scope of the unit at an index, if the unit has scopes.
+abbrev pub IsFirstNumberOf : List CompilationUnit → ℕ → ℕ → Type 0
+IsFirstNumberOf us unit number = number ≡ number_of_scopes (take unit us)
 
 -- The site is a scope of a unit of the program, after the scopes in `before`. `budget` is the rest
 -- of the budget of range items.
 pub record IsScopeSite (us : List CompilationUnit) (numbers : ScopeNumbers) (entry : ScopeEntry)
     (budget : ℕ) (before : List ParsedScope) (p : ScopeSite) : Type 0 where
   pub unit_is : slice_get us numbers.unit ≡ Some p.member.unit
-  pub root_is : root_stmt_list (roots_from 0 us) numbers.root ≡ stmt_list_of p.member.unit.dies
+  pub stmt_list_is :
+      stmt_list_by_number (roots_from 0 us) numbers.number ≡ stmt_list_of p.member.unit.dies
   pub entry_is : entry ≡ scope_entry p.member.die p.kind
   pub descendants_are : numbers.inside ≡ p.inside
   pub number_is : numbers.number ≡ length before
@@ -97,7 +102,6 @@ scope_facts numbers entry names = record {
   offset = entry.entry.offset;
   number = numbers.number;
   end = numbers.number + numbers.inside + 1;
-  root = numbers.root;
   name = names.name;
   linkage_name = names.linkage_name;
   site = record { file = entry.call_file; line = entry.call_line };

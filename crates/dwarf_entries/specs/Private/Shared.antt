@@ -13,7 +13,7 @@ use Rattle.dwarf_entries.specs.declared.scope.Scope.{Scope as StoredScope}
 use Rattle.dwarf_entries.specs.declared.scope.ScopeFacts.{ScopeFacts}
 use Rattle.dwarf_entries.specs.declared.scope_lists.ScopeLists.{ScopeLists}
 use Rattle.dwarf_entries.specs.Ranges.{Covering}
-use Rattle.dwarf_entries.specs.Scopes.{Scope, scope_of, root_stmt_list, ParsedScope}
+use Rattle.dwarf_entries.specs.Scopes.{Scope, scope_of, stmt_list_by_number, ParsedScope}
 
 -- The ranges of an entry are appended. On success, the result also has the number of range list
 -- items that were read.
@@ -34,7 +34,7 @@ facts_of roots ranges s = record {
   ranges = ranges;
   name = s.name;
   linkage_name = s.linkage_name;
-  stmt_list = root_stmt_list roots s.root;
+  stmt_list = stmt_list_by_number roots s.number;
   call_file = s.site.file;
   call_line = s.site.line;
 }

@@ -130,7 +130,7 @@ returns-in_err-roots c read =
     c.in_ok-bases.bases.items entries
     ((rw c.as_slice.ensures.value at c.in_ok-bases.ensures) c.args.headers.now entries.dies
     entries.stored_are) in
-    rw (p.1, p.2) (inl ((rw c.as_slice-4.ensures.value at c.in_err-roots.ensures) units.us
+    rw (p.1, p.2) (inl ((rw c.as_slice-4.ensures.value at c.in_err-roots.ensures.roots) units.us
     units.are.same))
 
 pub returns : goal.returns
@@ -156,4 +156,4 @@ returns c read =
     c.in_ok-lists.lists c.in_ok-roots.roots.items units
     ((rw (c.as_slice-2.ensures.value, c.as_slice-3.ensures.value) at
     c.in_ok-lists.ensures.scopes) units.us units.are marked units.read_in again)
-    ((rw c.as_slice-4.ensures.value at c.in_ok-roots.ensures) units.us units.are.same)
+    ((rw c.as_slice-4.ensures.value at c.in_ok-roots.ensures.roots) units.us units.are.same)

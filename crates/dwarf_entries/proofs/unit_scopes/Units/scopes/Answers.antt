@@ -1,20 +1,12 @@
-use Rattle.std.proofs.Common.{◌≡◌, ◌+◌, ◌≤◌, cond, sym, ap, ◌∙◌, arith}
-use Rattle.std.specs.Prelude.{Bool, true, false}
 use Rattle.std.proofs.lemmas.Result.{err_from_is_err_and}
 use Rattle.dwarf_walk.specs.Sections.{sections_of}
 use Rattle.dwarf_entries.proofs.ScopePasses.UnitsPass.{scopes_none, scopes-next, scopes-fault}
 use Rattle.dwarf_entries.proofs.ScopePasses.UnitsPass.{scopes_end}
 use Rattle.dwarf_entries.proofs.OriginChains.CacheLaws.{cache-none}
 use Rattle.dwarf_entries.proofs.unit_scopes.Units.scopes.Goals as goal
-use Rattle.dwarf_entries.proofs.unit_scopes.Units.scopes.Goals.{then-is_some, else-is_some}
-
-one_at_most : (b : Bool) → cond b 1 0 ≤ 1
-one_at_most true = omega arith
-one_at_most false = omega arith
 
 pub loop-unit-init : goal.loop-unit-init
 loop-unit-init c = record {
-  few = omega arith;
   reader = λ s reader. reader;
   cache = λ us are marked read reader. cache-none (sections_of c.args.self.sections.now) us
       c.new-cache.result c.new-cache.ensures;
@@ -28,7 +20,7 @@ returns-in_err-unit_scopes-clause-scopes c us are marked read reader =
     c.from_residual-in_err-unit_scopes.ensures.1 in
     let s = sections_of c.args.self.sections.now in
     rw (p.1, p.2)
-    (scopes-fault s c.args.self.units.now c.args.self.bases.now us c.loop-unit.unit c.loop-unit.root
+    (scopes-fault s c.args.self.units.now c.args.self.bases.now us c.loop-unit.unit
     c.loop-unit.lists c.loop-unit.lists c.loop-unit.left 0 c.in_err-unit_scopes.field-0.0 are
     c.loop-unit-test.true (c.loop-unit.invariant.so_far us are marked read reader)
     (λ u before. c.in_err-unit_scopes.ensures.scopes us u before are marked read
@@ -37,16 +29,7 @@ returns-in_err-unit_scopes-clause-scopes c us are marked read reader =
 
 pub loop-unit-preserved : goal.loop-unit-preserved
 loop-unit-preserved c =
-    let next : c.if-is_some.root ≡ c.loop-unit.root + cond c.is_some.result 1 0 =
-    elim c.if-is_some.branch [
-      | then-is_some w ↦ w.root-is ∙ sym
-          (ap (λ (b : Bool). c.loop-unit.root + cond b 1 0) w.if-is_some.true)
-      | else-is_some w ↦ w.root-is ∙ (omega arith
-          ∙ sym (ap (λ (b : Bool). c.loop-unit.root + cond b 1 0) w.if-is_some.false))
-    ] in
-    let few : cond c.is_some.result 1 0 ≤ 1 = one_at_most c.is_some.result in
     record {
-      few = omega (arith, next, few, c.loop-unit.invariant.few);
       reader = λ s reader. c.in_ok-unit_scopes.ensures.reader s
           (c.loop-unit.invariant.reader s reader);
       cache = λ us are marked read reader.
@@ -55,10 +38,8 @@ loop-unit-preserved c =
           (c.loop-unit.invariant.cache us are marked read reader);
       so_far = λ us are marked read reader.
           scopes-next (sections_of c.args.self.sections.now) c.args.self.units.now
-          c.args.self.bases.now us c.loop-unit.unit c.loop-unit.root c.if-is_some.root _
-          c.loop-unit.lists _ c.loop-unit.left _ are c.loop-unit-test.true
-          (c.loop-unit.invariant.so_far us are marked read reader)
-          (next ∙ ap (λ (b : Bool). c.loop-unit.root + cond b 1 0) c.is_some.ensures)
+          c.args.self.bases.now us c.loop-unit.unit c.loop-unit.lists _ c.loop-unit.left _ are
+          c.loop-unit-test.true (c.loop-unit.invariant.so_far us are marked read reader)
           (λ u before. c.in_ok-unit_scopes.ensures.scopes us u before are marked read
           (c.loop-unit.invariant.reader (sections_of c.args.self.sections.now) reader)
           (c.loop-unit.invariant.cache us are marked read reader));
@@ -67,7 +48,7 @@ loop-unit-preserved c =
 pub returns-clause-scopes : goal.returns-clause-scopes
 returns-clause-scopes c us are marked read reader =
     scopes_end (sections_of c.args.self.sections.now) c.args.self.units.now c.args.self.bases.now us
-    c.loop-unit.unit c.loop-unit.root c.loop-unit.lists c.loop-unit.left are
+    c.loop-unit.unit c.loop-unit.lists c.loop-unit.left are
     c.loop-unit-test.false (c.loop-unit.invariant.so_far us are marked read reader)
 
 pub returns-in_err-unit_scopes-clause-reader : goal.returns-in_err-unit_scopes-clause-reader

@@ -1,4 +1,4 @@
-use Rattle.std.proofs.Common.{◌≤◌, List}
+use Rattle.std.proofs.Common.{List}
 use Rattle.dwarf_walk.specs.Sections.{Sections, sections_of}
 use Rattle.dwarf_entries.specs.Bases.{CompilationUnit}
 use Rattle.dwarf_entries.specs.Private.EntryOffsets.{IsBitmapOf, AreReadIn}
@@ -10,7 +10,6 @@ use Rattle.dwarf_entries.proofs.unit_scopes.Units.scopes.Given as goal
 
 abbrev pub invariant-loop-unit : goal.invariant-loop-unit
 invariant-loop-unit l = record {
-  few : l.root ≤ l.unit;
   reader : (s : Sections) → IsReaderOf s l.fn.reader → IsReaderOf s l.reader;
   cache : (us : List CompilationUnit) → AreUnits l.self.units.now l.self.bases.now us
       → IsBitmapOf l.self.bitmap.now us → AreReadIn (sections_of l.self.sections.now) us
@@ -19,5 +18,5 @@ invariant-loop-unit l = record {
   so_far : (us : List CompilationUnit) → AreUnits l.self.units.now l.self.bases.now us
       → IsBitmapOf l.self.bitmap.now us → AreReadIn (sections_of l.self.sections.now) us
       → IsReaderOf (sections_of l.self.sections.now) l.fn.reader
-      → ScopesSoFar (sections_of l.self.sections.now) us l.unit l.root l.lists l.left;
+      → ScopesSoFar (sections_of l.self.sections.now) us l.unit l.lists l.left;
 }

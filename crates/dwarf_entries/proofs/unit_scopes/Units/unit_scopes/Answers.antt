@@ -13,7 +13,7 @@ abbrev d : ScopePlace
 d = record { offset = 0; inside = 0 }
 
 pub returns-in-Err-clause-scopes : goal.returns-in-Err-clause-scopes
-returns-in-Err-clause-scopes c us u before are marked read reader knew found root parsed =
+returns-in-Err-clause-scopes c us u before are marked read reader knew found first parsed =
     let s = sections_of c.args.self.sections.now in
     let of_sections = c.loop-place.invariant.reader s reader in
     let cache = place-checked s c.args.self.units.now c.args.self.bases.now us u c.args.unit
@@ -25,16 +25,16 @@ returns-in-Err-clause-scopes c us u before are marked read reader knew found roo
     (c.at_item.ensures ∙ ap (λ (k : ℕ). at_item names.DebugInfo c.in-Err.cause k) c.from-at.ensures)
 
 pub returns-in-Err-scope-clause-scopes : goal.returns-in-Err-scope-clause-scopes
-returns-in-Err-scope-clause-scopes c us u before are marked read reader knew found root parsed =
+returns-in-Err-scope-clause-scopes c us u before are marked read reader knew found first parsed =
     let s = sections_of c.args.self.sections.now in
     let of_sections = c.loop-place.invariant.reader s reader in
     let cache = place-checked s c.args.self.units.now c.args.self.bases.now us u c.args.unit
     c.loop-place.place-index c.index-self-unit.result c.as_slice-place-items.result.now d are
     read found c.as_slice-place-items.ensures.value c.loop-place-test.true in
-    let so_far = c.loop-place.invariant.so_far us u before are marked read reader knew found root
+    let so_far = c.loop-place.invariant.so_far us u before are marked read reader knew found first
     parsed in
     let place = is-place s us u before _ c.loop-place.place-index c.loop-place.lists
-    c.loop-place.left _ _ c.in-Ok.entry so_far found root cache
+    c.loop-place.left _ _ c.in-Ok.entry so_far found first cache
     (c.len.ensures ∙ c.loop-place.lists.scopes.ok.0) refl
     (c.in-Ok.ensures.scope s cache.read.table of_sections cache.table_is) in
     checked-fault s us u before c.loop-place.place-index c.loop-place.lists c.loop-place.lists
@@ -55,16 +55,16 @@ loop-place-preserved c = record {
       c.in-Ok-scope.ensures.cache us are marked read
       (c.in-Ok.ensures.reader s (c.loop-place.invariant.reader s reader))
       (c.loop-place.invariant.cache us are marked read reader knew);
-  so_far = λ us u before are marked read reader knew found root parsed.
+  so_far = λ us u before are marked read reader knew found first parsed.
       let s = sections_of c.args.self.sections.now in
       let of_sections = c.loop-place.invariant.reader s reader in
       let cache = place-checked s c.args.self.units.now c.args.self.bases.now us u c.args.unit
       c.loop-place.place-index c.index-self-unit.result c.as_slice-place-items.result.now d are
       read found c.as_slice-place-items.ensures.value c.loop-place-test.true in
-      let so_far = c.loop-place.invariant.so_far us u before are marked read reader knew found root
+      let so_far = c.loop-place.invariant.so_far us u before are marked read reader knew found first
       parsed in
       let place = is-place s us u before _ c.loop-place.place-index c.loop-place.lists
-      c.loop-place.left _ _ c.in-Ok.entry so_far found root cache
+      c.loop-place.left _ _ c.in-Ok.entry so_far found first cache
       (c.len.ensures ∙ c.loop-place.lists.scopes.ok.0) refl
       (c.in-Ok.ensures.scope s cache.read.table of_sections cache.table_is) in
       checked-next s us u before c.loop-place.place-index c.loop-place.lists
@@ -77,10 +77,10 @@ loop-place-preserved c = record {
 }
 
 pub returns-clause-scopes : goal.returns-clause-scopes
-returns-clause-scopes c us u before are marked read reader knew found root parsed =
+returns-clause-scopes c us u before are marked read reader knew found first parsed =
     checked-end (sections_of c.args.self.sections.now) us u before c.loop-place.place-index
     c.loop-place.lists c.loop-place.left
-    (c.loop-place.invariant.so_far us u before are marked read reader knew found root parsed)
+    (c.loop-place.invariant.so_far us u before are marked read reader knew found first parsed)
     (all-there c.args.self.units.now c.args.self.bases.now us u c.args.unit c.loop-place.place-index
     _ _ are found c.as_slice-place-items.ensures.value c.loop-place-test.false)
 

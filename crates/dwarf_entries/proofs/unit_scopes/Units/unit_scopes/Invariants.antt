@@ -1,4 +1,4 @@
-use Rattle.std.proofs.Common.{◌≡◌, List, Some}
+use Rattle.std.proofs.Common.{◌≡◌, List, Some, length}
 use Rattle.std.specs.Prelude.{slice_get}
 use Rattle.dwarf_walk.specs.Sections.{Sections, sections_of}
 use Rattle.dwarf_entries.specs.Bases.{CompilationUnit}
@@ -6,7 +6,7 @@ use Rattle.dwarf_entries.specs.Scopes.{ParsedScope, roots_from}
 use Rattle.dwarf_entries.specs.Private.EntryOffsets.{IsBitmapOf, AreReadIn}
 use Rattle.dwarf_walk.specs.Private.Rereading.{IsReaderOf}
 use Rattle.dwarf_entries.specs.Private.NameCache.{IsCacheOf}
-use Rattle.dwarf_entries.specs.Private.Passes.{AreUnits, IsRootOf, AreParsed}
+use Rattle.dwarf_entries.specs.Private.Passes.{AreUnits, IsFirstNumberOf, AreParsed}
 use Rattle.dwarf_entries.proofs.ScopePasses.ScopesPass.{CheckedSoFar}
 use Rattle.dwarf_entries.proofs.unit_scopes.Units.unit_scopes.Given as goal
 
@@ -24,6 +24,6 @@ invariant-loop-place l = record {
       → AreReadIn (sections_of l.self.sections.now) us
       → IsReaderOf (sections_of l.self.sections.now) l.fn.reader
       → IsCacheOf (sections_of l.self.sections.now) us l.fn.cache → slice_get us l.unit ≡ Some u
-      → IsRootOf us l.root u → AreParsed (roots_from 0 us) before l.fn.lists l.fn.left
+      → IsFirstNumberOf us l.unit (length before) → AreParsed (roots_from 0 us) before l.fn.lists l.fn.left
       → CheckedSoFar (sections_of l.self.sections.now) us u before l.place-index l.lists l.left;
 }
