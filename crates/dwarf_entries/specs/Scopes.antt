@@ -1,7 +1,7 @@
 -- The subprograms and inlined subroutines of all units (DWARF 5, 3.3), and the faults of
 -- .debug_info.
-use Rattle.std.specs.Prelude.{ℕ, ◌+◌, ◌-◌, List, [], ◌∷◌, length, Option, Some, None, Result, Ok}
-use Rattle.std.specs.Prelude.{option_and_then, map, flat_map, count_by, sum_by}
+use Rattle.std.specs.Prelude.{ℕ, ◌+◌, ◌-◌, ◌*◌, List, [], ◌∷◌, length, Option, Some, None, Result}
+use Rattle.std.specs.Prelude.{Ok, option_and_then, map, flat_map, count_by, sum_by}
 use Rattle.std.specs.Prelude.{slice_get, zip, take, drop, ◌==◌, ◌^◌, if◌then◌else◌, nat_lt}
 use Rattle.std.specs.List.{find}
 use Rattle.std.specs.Option.{option_map_or, unwrap_or}
@@ -51,7 +51,11 @@ abbrev pub text_by : Section → ℕ → Option TextOffset
 text_by section offset =
     if offset == 2 ^ 32 - 1 then None else Some (record { section = section; offset = offset })
 
--- The file and line of a call site, given the numbers that it has. If one of them has more than 32
+-- The index of a wide call site in its list, given the low and the high half of the index.
+abbrev pub wide_index : ℕ → ℕ → ℕ
+wide_index low high = low + 2 ^ 16 * high
+
+-- The file and line of a call site, given the numbers that it has. If one of them has more than 16
 -- bits, both are at an index of a list.
 abbrev pub call_site : List CallSite → Calls → ℕ → ℕ → CallSite
 call_site wide calls.Missing file line = record { file = None; line = None }
@@ -59,7 +63,7 @@ call_site wide calls.File file line = record { file = Some file; line = None }
 call_site wide calls.Line file line = record { file = None; line = Some line }
 call_site wide calls.Both file line = record { file = Some file; line = Some line }
 call_site wide calls.Wide file line =
-    unwrap_or (slice_get wide file) (record { file = None; line = None })
+    unwrap_or (slice_get wide (wide_index file line)) (record { file = None; line = None })
 
 -- The stmt_list of the unit that contains the scope with a number. It is that of the first root
 -- whose scopes end after the number.

@@ -2,12 +2,11 @@
 //! many references to the entry.
 
 ghost use Rattle.std.specs.Prelude.{◌≡◌, ◌==◌, ◌&&◌, ℕ, ◌<◌, length, None, Some, true, false};
-ghost use Rattle.std.specs.Prelude.{IfSome, OnOk, OnErr, MatchOption, if◌then◌else◌};
+ghost use Rattle.std.specs.Prelude.{◌^◌, IfSome, OnOk, OnErr, SomeIff, MatchOption, if◌then◌else◌};
 ghost use Rattle.dwarf_entries.specs.declared.origin_chains.EntryNames.{EntryNames as Names};
 ghost use Rattle.dwarf_entries.specs.Private.NameCache.{cached_names_of, slot_at, slot_of};
 ghost use Rattle.dwarf_entries.specs.Private.Narrow.{are_narrow};
 
-use crate::calls::narrow_number;
 use crate::origin_chains::EntryNames;
 use crate::references::UnitPlace;
 use crate::text_offset::{text_by, text_parts};
@@ -114,5 +113,15 @@ impl NameCache {
             self.slots.push(None)?;
         }
         Ok(())
+    }
+}
+
+/// Converts a number to 32 bits, or returns `None` if it has more.
+fn narrow_number(number: u64) -> Option<u32>
+    ensures { SomeIff result (number < 2 ^ 32) number }
+{
+    match u32::try_from(number) {
+        Ok(narrow) => Some(narrow),
+        Err(_) => None,
     }
 }

@@ -16,7 +16,7 @@ use std::alloc::{AllocError, Global};
 pub(crate) struct ScopeLists {
     pub(crate) scopes: Vec<Scope>,
     pub(crate) ranges: Vec<Range>,
-    /// The call sites that need 64 bits.
+    /// The call sites that need more than 16 bits for their file or line.
     pub(crate) wide: Vec<CallSite>,
 }
 

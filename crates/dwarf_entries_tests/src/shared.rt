@@ -117,6 +117,36 @@ fn calls_of_neighbours(rt: HostRuntime) {
     have_calls(&rt, &read, &calls);
 }
 
+#[test]
+fn calls_at_the_bound_of_16_bits(rt: HostRuntime) {
+    let table = table(&rt, &CALLED);
+    let entries = [
+        1, // unit
+        5, 0xff, 0xff, 0, 0, 0, 0, 0, 0, // line 65,535
+        5, 0, 0, 1, 0, 0, 0, 0, 0, // line 65,536
+        5, 0, 0, 0, 0, 1, 0, 0, 0, // line 2^32
+        4, 0xff, 0xff, 0, 0, 0, 0, 0, 0, // file 65,535
+        4, 0, 0, 1, 0, 0, 0, 0, 0, // file 65,536
+        2, 0xff, 0xff, 0, 0, 0, 0, 0, 0, 0xff, 0xff, 0, 0, 0, 0, 0, 0, // 65,535 and 65,535
+        2, 0xff, 0xff, 0, 0, 0, 0, 0, 0, 0, 0, 1, 0, 0, 0, 0, 0, // 65,535 and 65,536
+        2, 0, 0, 1, 0, 0, 0, 0, 0, 0xff, 0xff, 0, 0, 0, 0, 0, 0, // 65,536 and 65,535
+        0,
+    ];
+    let info = unit(&rt, &entries);
+    let read = scopes_of(&rt, &sections(&info, &table));
+    let calls = [
+        (None, Some(65_535)),
+        (None, Some(65_536)),
+        (None, Some(4_294_967_296)),
+        (Some(65_535), None),
+        (Some(65_536), None),
+        (Some(65_535), Some(65_535)),
+        (Some(65_535), Some(65_536)),
+        (Some(65_536), Some(65_535)),
+    ];
+    have_calls(&rt, &read, &calls);
+}
+
 /// Checks the call of each scope.
 fn have_calls(rt: &impl Abort, read: &Scopes, calls: &[(Option<u64>, Option<u64>)]) {
     are_equal(rt, read.scopes().len(), calls.len());
@@ -128,16 +158,17 @@ fn have_calls(rt: &impl Abort, read: &Scopes, calls: &[(Option<u64>, Option<u64>
 #[test]
 fn line_programs_of_units(rt: HostRuntime) {
     let table = table(&rt, &UNITS);
-    let units: [Unit<'_>; 4] = [
+    let units: [Unit<'_>; 5] = [
         (1, 0, &[1, 0x10, 0, 0, 0, 3, 0]),
         (1, 0, &[]),
         (1, 0, &[2, 3, 3, 0]),
+        (1, 0, &[1, 0x20, 0, 0, 0, 0]), // no scopes
         (1, 0, &[1, 0x30, 0, 0, 0, 3, 3, 0]),
     ];
     let info = units_of(&rt, &units);
     let read = scopes_of(&rt, &sections(&info, &table));
     let wanted = [Some(0x10), None, None, Some(0x30), Some(0x30)];
-    are_equal(&rt, read.roots().len(), 3);
+    are_equal(&rt, read.roots().len(), 4);
     have_programs(&rt, &read, &wanted);
 }
 

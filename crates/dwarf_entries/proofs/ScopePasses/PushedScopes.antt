@@ -14,7 +14,7 @@ use Rattle.dwarf_entries.specs.declared.scope.Scope.{Scope as StoredScope}
 use Rattle.dwarf_entries.specs.declared.scope.ScopeFacts.{ScopeFacts}
 use Rattle.dwarf_entries.specs.declared.scope_lists.ScopeLists.{ScopeLists}
 use Rattle.dwarf_entries.specs.Scopes.{Scope, call_site, scope_by_parts, scope_of, scopes_from}
-use Rattle.dwarf_entries.specs.Scopes.{scopes_of}
+use Rattle.dwarf_entries.specs.Scopes.{scopes_of, wide_index}
 use Rattle.dwarf_entries.specs.Private.Shared.{IsInList, AreConsecutive, facts_of, IsPushed}
 
 -- ---- one more scope
@@ -46,7 +46,8 @@ stretch-new ranges new first end first_is end_is =
     ∙ take-append_seam new [])))
 
 -- A call site does not change when the list of wide ones grows.
-call-stays : (wide more : List CallSite) (c : Calls) (file line : ℕ) → IsInList (length wide) c file
+call-stays : (wide more : List CallSite) (c : Calls) (file line : ℕ)
+    → IsInList (length wide) c file line
     → call_site (wide ++ more) c file line ≡ call_site wide c file line
 call-stays wide more calls.Missing file line in_list = refl
 call-stays wide more calls.File file line in_list = refl
@@ -54,8 +55,9 @@ call-stays wide more calls.Line file line in_list = refl
 call-stays wide more calls.Both file line in_list = refl
 call-stays wide more calls.Wide file line in_list =
     let d : CallSite = record { file = None; line = None } in
-    unwrap_or-slice_get (wide ++ more) file d
-    ∙ (get_or_append_left wide more d file in_list ∙ sym (unwrap_or-slice_get wide file d))
+    let index : ℕ = wide_index file line in
+    unwrap_or-slice_get (wide ++ more) index d
+    ∙ (get_or_append_left wide more d index in_list ∙ sym (unwrap_or-slice_get wide index d))
 
 pub scopes-push : (roots : List Root) (wide more : List CallSite) (ranges new : List Range)
     (first : ℕ) (ss : List StoredScope) (s : StoredScope) → AreConsecutive (length wide) first
@@ -81,17 +83,17 @@ scopes-push roots wide more ranges new first (t ∷ ts) s in_list ends =
     ∙ ap (λ (xs : List Scope). scope_of roots wide (take (t.ranges_end - first) (drop first ranges))
     t ∷ xs) (scopes-push roots wide more ranges new t.ranges_end ts s in_list.2 ends)
 
-more-in_list : (many more : ℕ) (c : Calls) (place : ℕ) → IsInList many c place
-    → IsInList (many + more) c place
-more-in_list many more calls.Missing place in_list = tt
-more-in_list many more calls.File place in_list = tt
-more-in_list many more calls.Line place in_list = tt
-more-in_list many more calls.Both place in_list = tt
-more-in_list many more calls.Wide place in_list = omega (arith, in_list)
+more-in_list : (many more : ℕ) (c : Calls) (file line : ℕ) → IsInList many c file line
+    → IsInList (many + more) c file line
+more-in_list many more calls.Missing file line in_list = tt
+more-in_list many more calls.File file line in_list = tt
+more-in_list many more calls.Line file line in_list = tt
+more-in_list many more calls.Both file line in_list = tt
+more-in_list many more calls.Wide file line in_list = omega (arith, in_list)
 
 pub in_list-push : (many more first past new : ℕ) (ss : List StoredScope) (s : StoredScope)
     → AreConsecutive many first past ss → s.ranges_end ≡ past + new
-    → IsInList (many + more) s.calls s.call_file
+    → IsInList (many + more) s.calls s.call_file s.call_line
     → AreConsecutive (many + more) first (past + new) (ss ++ s ∷ [])
 in_list-push many more first past new [] s in_list ends inside = (
   omega (arith, in_list, ends),
@@ -100,7 +102,7 @@ in_list-push many more first past new [] s in_list ends inside = (
 )
 in_list-push many more first past new (t ∷ ts) s in_list ends inside = (
   in_list.0,
-  more-in_list many more t.calls t.call_file in_list.1,
+  more-in_list many more t.calls t.call_file t.call_line in_list.1,
   in_list-push many more t.ranges_end past
       new ts s in_list.2 ends inside,
 )
@@ -149,8 +151,8 @@ pushed roots old mid new found facts in_list scopes_stay wide_stays ranges_grow 
       length-append old.ranges.items
           found,
     ) in
-    let inside : IsInList (length old.wide.items + length more) s.calls s.call_file =
-    subst (λ (k : ℕ). IsInList k s.calls s.call_file) counted is.packs.in_list in
+    let inside : IsInList (length old.wide.items + length more) s.calls s.call_file s.call_line =
+    subst (λ (k : ℕ). IsInList k s.calls s.call_file s.call_line) counted is.packs.in_list in
     let behind = in_list-push (length old.wide.items) (length more) 0 (length old.ranges.items)
     (length found) old.scopes.items s in_list ends inside in
     let described : scope_of roots (old.wide.items ++ more) found s ≡ facts_of roots found facts =

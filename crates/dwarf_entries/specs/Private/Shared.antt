@@ -13,7 +13,8 @@ use Rattle.dwarf_entries.specs.declared.scope.Scope.{Scope as StoredScope}
 use Rattle.dwarf_entries.specs.declared.scope.ScopeFacts.{ScopeFacts}
 use Rattle.dwarf_entries.specs.declared.scope_lists.ScopeLists.{ScopeLists}
 use Rattle.dwarf_entries.specs.Ranges.{Covering}
-use Rattle.dwarf_entries.specs.Scopes.{Scope, scope_of, stmt_list_by_number, ParsedScope}
+use Rattle.dwarf_entries.specs.Scopes.{Scope, scope_of, stmt_list_by_number, wide_index}
+use Rattle.dwarf_entries.specs.Scopes.{ParsedScope}
 
 -- The ranges of an entry are appended. On success, the result also has the number of range list
 -- items that were read.
@@ -48,24 +49,24 @@ AddsFacts roots (Ok described) old new outcome =
     × (new ≡ old ++ found)
 AddsFacts roots (Err cause) old new outcome = Fails cause outcome
 
--- A number of a call site has at most 32 bits, if there is one.
-abbrev pub IsNarrow : Option ℕ → Type 0
-IsNarrow number = IfSome number (λ n. n < 2 ^ 32)
+-- A number of a call site has at most 16 bits, if there is one.
+abbrev pub IsShort : Option ℕ → Type 0
+IsShort number = IfSome number (λ n. n < 2 ^ 16)
 
 -- A call site that is stored in a list of a given length has an index within it.
-abbrev pub IsInList : ℕ → Calls → ℕ → Type 0
-IsInList many calls.Missing place = Unit {0}
-IsInList many calls.File place = Unit {0}
-IsInList many calls.Line place = Unit {0}
-IsInList many calls.Both place = Unit {0}
-IsInList many calls.Wide place = place < many
+abbrev pub IsInList : ℕ → Calls → ℕ → ℕ → Type 0
+IsInList many calls.Missing file line = Unit {0}
+IsInList many calls.File file line = Unit {0}
+IsInList many calls.Line file line = Unit {0}
+IsInList many calls.Both file line = Unit {0}
+IsInList many calls.Wide file line = wide_index file line < many
 
 -- The ranges of the scopes are consecutive, from one index to another. The indexes of their call
 -- sites are within a list of a given length.
 abbrev pub AreConsecutive : ℕ → ℕ → ℕ → List StoredScope → Type 0
 AreConsecutive many first past [] = first ≡ past
 AreConsecutive many first past (s ∷ ss) =
-    (first ≤ s.ranges_end) × IsInList many s.calls s.call_file
+    (first ≤ s.ranges_end) × IsInList many s.calls s.call_file s.call_line
     × AreConsecutive many s.ranges_end past ss
 
 -- The index of the first range of the scope at an index.
@@ -80,8 +81,8 @@ pub record Packs (facts : ScopeFacts) (ranges_end : ℕ) (old new : List CallSit
     : Type 0 where
   pub more : List CallSite
   pub added : new ≡ old ++ more
-  pub few : IsNarrow facts.site.file → IsNarrow facts.site.line → new ≡ old
-  pub in_list : IsInList (length new) s.calls s.call_file
+  pub few : IsShort facts.site.file → IsShort facts.site.line → new ≡ old
+  pub in_list : IsInList (length new) s.calls s.call_file s.call_line
   pub ends : s.ranges_end ≡ ranges_end
   pub tells :
       (roots : List Root) (ranges : List Range)

@@ -53,5 +53,6 @@ pub returns-clause-order : goal.returns-clause-order
 returns-clause-order c = c.loop-unit.invariant.order.rise
 
 pub returns-clause-roots : goal.returns-clause-roots
-returns-clause-roots c us same = roots-end c.args.units.now us c.loop-unit.unit-index c.loop-unit.first
-    c.loop-unit.roots.items same c.loop-unit-test.false (c.loop-unit.invariant.so_far us same)
+returns-clause-roots c us same =
+    roots-end c.args.units.now us c.loop-unit.unit-index c.loop-unit.first c.loop-unit.roots.items
+    same c.loop-unit-test.false (c.loop-unit.invariant.so_far us same)

@@ -24,6 +24,7 @@ invariant-loop-place l = record {
       → AreReadIn (sections_of l.self.sections.now) us
       → IsReaderOf (sections_of l.self.sections.now) l.fn.reader
       → IsCacheOf (sections_of l.self.sections.now) us l.fn.cache → slice_get us l.unit ≡ Some u
-      → IsFirstNumberOf us l.unit (length before) → AreParsed (roots_from 0 us) before l.fn.lists l.fn.left
+      → IsFirstNumberOf us l.unit (length before)
+      → AreParsed (roots_from 0 us) before l.fn.lists l.fn.left
       → CheckedSoFar (sections_of l.self.sections.now) us u before l.place-index l.lists l.left;
 }
