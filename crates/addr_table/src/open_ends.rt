@@ -18,7 +18,7 @@ pub(crate) struct End {
     pub(crate) key: usize,
 }
 
-/// Ends in no order, of which the lowest can be taken.
+/// A priority queue of ends: the lowest one is removed first.
 #[derive(Drop)]
 pub(crate) struct OpenEnds {
     heap: BinaryHeap<Reverse<(u64, u32)>>,

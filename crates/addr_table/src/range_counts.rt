@@ -1,4 +1,4 @@
-//! Counts ranges, so that lists of their endpoints can be allocated with the full capacity.
+//! Counts ranges, so that lists of their starts can be allocated with the full capacity.
 
 ghost use Rattle.std.specs.Prelude.{◌≡◌, ◌-◌, ◌^◌, length, min, sum_by};
 ghost use Rattle.dwarf_entries.specs.Order.{AreInOrder};

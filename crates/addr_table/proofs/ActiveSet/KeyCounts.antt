@@ -2,14 +2,14 @@
 use Rattle.std.proofs.Common.{◌≡◌, ◌≢◌, ◌∙◌, ℕ, ◌+◌, ◌-◌, ◌<◌, ◌≤◌, List, length, set, get_or}
 use Rattle.std.proofs.Common.{Bool, true, false, not, cond, ◌&&◌, ◌||◌, ap, sym, subst, inl}
 use Rattle.std.proofs.Common.{inr, arith}
-use Rattle.std.specs.Prelude.{◌==◌, nat_lt}
+use Rattle.std.specs.Prelude.{◌==◌}
 use Rattle.std.proofs.lemmas.Bool.{cases_eq, cases_lt, false≢true}
 use Rattle.std.proofs.lemmas.Bool.Decides.{nat_tests}
 use Rattle.std.proofs.Math.ListN.{get_or-eq_default}
 use Rattle.std.proofs.lemmas.List.{length-set, length-replicate, get_or-set_same, get_or-set_other}
 use Rattle.std.proofs.lemmas.List.FromFn.{length-map-range_with_len, get_or-map-range_with_len}
 use Rattle.std.proofs.lemmas.List.FromFn.{fill_by_all}
-use Rattle.addr_table.specs.Private.Active.{count_at, counts_of, IsIndexed}
+use Rattle.addr_table.specs.Private.Active.{count_at, counts_of}
 use Rattle.addr_table.specs.Private.Bits.{has, is_filled}
 use Rattle.addr_table.proofs.ActiveSet.ActiveLaws.{SetsBit, ClearsBit, zeros_of, zeros}
 
@@ -50,27 +50,6 @@ counts-set keys words further words' further' key v lt here others =
           get_or-set_other (counts_of keys words further) key k v 0 other
           ∙ counts-at keys words further k is ∙ sym (others k other)
     ]
-
--- a bit that is not set has no further ranges
-pub no-further : (keys : ℕ) (words further blocks groups : List ℕ) (key : ℕ) → key < keys
-    → IsIndexed (counts_of keys words further) words blocks groups → has words key ≡ false
-    → get_or further key 0 ≡ 0
-no-further keys words further blocks groups key lt h unset =
-    let none : nat_lt 0 (get_or (counts_of keys words further) key 0) ≡ false =
-    sym (h.words_are.same key) ∙ unset in
-    let zero : get_or (counts_of keys words further) key 0 ≡ 0 = grind (arith, nat_tests) in
-    let at = counts-at keys words further key lt in
-    let all : cond (has words key) 1 0 + get_or further key 0 ≡ 0 = sym at ∙ zero in
-    omega (arith, all)
-
--- a key with a range has its bit set
-pub some-bit : (keys : ℕ) (words further blocks groups : List ℕ) (key : ℕ)
-    → IsIndexed (counts_of keys words further) words blocks groups
-    → 0 < get_or (counts_of keys words further) key 0 → has words key ≡ true
-some-bit keys words further blocks groups key h some =
-    h.words_are.same key
-    ∙ (let q : nat_lt 0 (get_or (counts_of keys words further) key 0) ≡ true =
-    grind (arith, nat_tests) in q)
 
 one-more : (b : Bool) (n : ℕ) → b ≡ true → cond b 1 0 + n ≡ 1 + n
 one-more true n is = omega arith

@@ -6,7 +6,7 @@ use Rattle.std.specs.declared.cmp.Ordering.{Ordering}
 use Rattle.std.specs.declared.cmp.Reverse.{Reverse}
 use Rattle.addr_table.specs.declared.open_ends.End.{End}
 
--- the end that an item of the heap stands for: its address comes first
+-- the end that an item of the heap represents; the item has its address first
 abbrev pub end_in : Reverse (ℕ × ℕ) → End
 end_in item = record { at = item.0.0; key = item.0.1 }
 
