@@ -14,6 +14,7 @@ pub mod OpenEndLaws
 pub mod OpenLaws
 pub mod RangeCountLaws
 pub mod RangeEnds
+pub mod RowCursorLaws
 pub mod RowOrderLaws
 pub mod RowStartLaws
 pub mod StartDigits

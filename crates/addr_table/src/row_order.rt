@@ -1,8 +1,7 @@
-//! The rows that cover addresses, in the order of their sequences' first addresses.
+//! The rows that cover addresses, sequence by sequence.
 
-ghost use Rattle.std.specs.Prelude.{◌≡◌, ◌++◌, ◌<◌, ◌^◌, true, drop, length, IfOk, OnOk};
-ghost use Rattle.std.specs.List.Sorted.{IsPermutation};
-ghost use Rattle.addr_table.specs.Private.RowOrder.{covering_from, sequence_from, starts_from};
+ghost use Rattle.std.specs.Prelude.{◌≡◌, ◌∷◌, [], ◌+◌, ◌<◌, ◌^◌, false, length, IfOk, MatchOption};
+ghost use Rattle.addr_table.specs.Private.RowOrder.{covering_from, covers_at, sequence_at, rows_in};
 ghost use Rattle.addr_table.specs.Private.RowOrder.{row_address};
 
 use crate::packed::narrow;
@@ -19,49 +18,56 @@ pub(crate) fn address_of(rows: &[Row], row: usize) -> u64
     }
 }
 
-/// Returns the indexes of the first rows of sequences.
-fn sequence_starts(alloc: Global, rows: &[Row]) -> Result<Vec<u32>, AllocError>
+/// Returns whether a row covers addresses.
+fn covers(rows: &[Row], row: usize) -> bool
+    requires { row < length rows.now }
+    ensures { result ≡ covers_at rows.now row }
+{
+    !rows[row].end && rows[row].address < address_of(rows, row + 1)
+}
+
+/// Returns the first row at or after row `from` that covers addresses, in the same sequence.
+pub(crate) fn first_covering(rows: &[Row], from: usize) -> Option<usize>
+    ensures { MatchOption result (sequence_at rows.now from ≡ [])
+        (λ n. (n < length rows.now)
+        × (sequence_at rows.now from ≡ n ∷ sequence_at rows.now (n + 1))) }
+{
+    let mut number = from;
+    while number < rows.len() && !rows[number].end {
+        if covers(rows, number) {
+            return Some(number);
+        }
+        number += 1;
+    }
+    None
+}
+
+/// Returns the number of rows that cover addresses.
+pub(crate) fn count_covering(rows: &[Row]) -> usize
+    ensures { result ≡ length (covering_from 0 rows.now) }
+{
+    let mut covering = 0;
+    for number in 0..rows.len() {
+        covering += usize::from(covers(rows, number));
+    }
+    covering
+}
+
+/// Returns the first row that covers addresses of each sequence that has one.
+pub(crate) fn sequence_starts(alloc: Global, rows: &[Row]) -> Result<Vec<u32>, AllocError>
     requires { length rows.now < 2 ^ 32 }
-    ensures { IfOk result (λ starts. starts.items ≡ starts_from true 0 rows.now) }
+    ensures { IfOk result
+        (λ starts. rows_in false rows.now starts.items ≡ covering_from 0 rows.now) }
 {
     let mut starts = Vec::new(alloc);
     let mut is_first = true;
     for number in 0..rows.len() {
         if is_first {
-            starts.push(narrow(number))?;
+            if let Some(row) = first_covering(rows, number) {
+                starts.push(narrow(row))?;
+            }
         }
         is_first = rows[number].end;
     }
     Ok(starts)
-}
-
-/// Appends the rows of a sequence that cover addresses, from row `start` on.
-fn add_sequence(order: &mut Vec<u32>, rows: &[Row], start: usize) -> Result<(), AllocError>
-    requires { length rows.now < 2 ^ 32 }
-    ensures { OnOk result
-        (order.new.items ≡ order.old.items ++ sequence_from start (drop start rows.now)) }
-{
-    let mut number = start;
-    while number < rows.len().saturating_sub(1) && !rows[number].end {
-        if rows[number].address < rows[number + 1].address {
-            order.push(narrow(number))?;
-        }
-        number += 1;
-    }
-    Ok(())
-}
-
-/// Returns the rows that cover addresses. Few sequences overlap, so most rows are in ascending
-/// order of address.
-pub(crate) fn covering_rows(alloc: Global, rows: &[Row]) -> Result<Vec<u32>, AllocError>
-    requires { length rows.now < 2 ^ 32 }
-    ensures { IfOk result (λ order. IsPermutation (covering_from 0 rows.now) order.items) }
-{
-    let mut starts = sequence_starts(alloc, rows)?;
-    starts.sort_unstable_by_key(|start| address_of(rows, *start as usize));
-    let mut order = Vec::with_capacity(alloc, rows.len())?;
-    for index in 0..starts.len() {
-        add_sequence(&mut order, rows, starts[index] as usize)?;
-    }
-    Ok(order)
 }

@@ -2,7 +2,8 @@
 
 ghost use Rattle.std.specs.Prelude.{◌≡◌, ◌+◌, ◌-◌, ◌^◌, ◌<◌, ◌≤◌, length, drop, min};
 ghost use Rattle.std.specs.Prelude.{slice_index_or};
-ghost use Rattle.std.specs.Prelude.{MatchOption};
+ghost use Rattle.std.specs.Prelude.{MatchOption, true, false, not};
+ghost use Rattle.std.specs.Int.{from_bool};
 ghost use Rattle.std.specs.List.Sorted.{IsNonDecreasingBy};
 ghost use Rattle.addr_table.specs.declared.starts.Start.{Start as Started};
 ghost use Rattle.addr_table.specs.Private.Merged.{IsNext, Takes, merged, starts_in, taken_of};
@@ -18,8 +19,6 @@ use std::marker::Model;
 pub(crate) struct StartCursor<'a> {
     rows: RowStarts<'a>,
     scopes: StartList,
-    /// The number of starts of rows that were taken.
-    row: usize,
     /// The number of starts of scopes that were taken.
     scope: usize,
     /// The next start, and whether it is one of a row.
@@ -31,31 +30,38 @@ impl<'a> Model for StartCursor<'a> {
 
     ghost Value = { Cursor };
 
-    ghost view = { λ c. record { rows = c.rows; scopes = c.scopes; row = c.row; scope = c.scope } };
+    ghost view = { λ c. record {
+        rows = c.rows.all;
+        scopes = c.scopes;
+        row = c.rows.taken;
+        scope = c.scope
+    } };
 
-    ghost invariant = { λ c. IsMerging c.rows c.scopes c.row c.scope
-        × IsNext (record { rows = c.rows; scopes = c.scopes; row = c.row; scope = c.scope })
-        c.next };
+    ghost invariant = { λ c. IsMerging c.rows.all c.scopes c.rows.taken c.scope
+        × IsNext (record {
+            rows = c.rows.all;
+            scopes = c.scopes;
+            row = c.rows.taken;
+            scope = c.scope
+        }) c.next };
 }
 
-/// Returns the next start of two ascending lists, and whether it is one of a row. `row` and
-/// `scope` are the numbers of starts that were taken from each list.
-fn next_of(
-    rows: &RowStarts<'_>,
-    scopes: &StartList,
-    row: usize,
-    scope: usize,
-) -> Option<(Start, bool)>
-    ensures { IsNext (record { rows = rows.now; scopes = scopes.now; row = row; scope = scope })
-        result }
+/// Returns the next start of two ascending lists, and whether it is one of a row. `scope` is the
+/// number of starts of scopes that were taken.
+fn next_of(rows: &RowStarts<'_>, scopes: &StartList, scope: usize) -> Option<(Start, bool)>
+    ensures { IsNext (record {
+        rows = rows.now.all;
+        scopes = scopes.now;
+        row = rows.now.taken;
+        scope = scope
+    }) result }
 {
-    if row >= rows.len() {
+    let Some(of_row) = rows.peek() else {
         if scope >= scopes.len() {
             return None;
         }
         return Some((scopes.get(scope), false));
-    }
-    let of_row = rows.get(row);
+    };
     if scope < scopes.len() {
         let of_scope = scopes.get(scope);
         if of_scope.at < of_row.at {
@@ -65,19 +71,35 @@ fn next_of(
     Some((of_row, true))
 }
 
+/// Takes the next start of two lists: one of a row, or one of a scope after `scope` others. Returns
+/// the number of starts of scopes that were taken.
+fn take(rows: &mut RowStarts<'_>, scope: usize, is_row: bool) -> usize
+    requires row { is_row ≡ true → rows.old.taken < length rows.old.all }
+    requires scope { is_row ≡ false → scope + 1 < 2 ^ 64 }
+    ensures all { rows.new.all ≡ rows.old.all }
+    ensures row { rows.new.taken ≡ rows.old.taken + from_bool is_row }
+    ensures scope { result ≡ scope + from_bool (not is_row) }
+{
+    if is_row {
+        rows.advance();
+        return scope;
+    }
+    scope + 1
+}
+
 impl<'a> StartCursor<'a> {
     /// Begins at the first start of two ascending lists.
     pub(crate) fn new(rows: RowStarts<'a>, scopes: StartList) -> StartCursor<'a>
-        requires rows { IsNonDecreasingBy (λ (e : Started). e.at) rows }
+        requires rows { IsNonDecreasingBy (λ (e : Started). e.at) rows.all }
         requires scopes { IsNonDecreasingBy (λ (e : Started). e.at) scopes }
-        ensures starts { starts_in result ≡ merged rows.entry scopes }
+        requires first { rows.taken ≡ 0 }
+        ensures starts { starts_in result ≡ merged rows.entry.all scopes }
         ensures taken { taken_of result ≡ 0 }
     {
-        let next = next_of(&rows, &scopes, 0, 0);
+        let next = next_of(&rows, &scopes, 0);
         StartCursor {
             rows,
             scopes,
-            row: 0,
             scope: 0,
             next,
         }
@@ -114,9 +136,8 @@ impl<'a> StartCursor<'a> {
         if next.at > end {
             return None;
         }
-        self.row += usize::from(is_row);
-        self.scope += usize::from(!is_row);
-        self.next = next_of(&self.rows, &self.scopes, self.row, self.scope);
+        self.scope = take(&mut self.rows, self.scope, is_row);
+        self.next = next_of(&self.rows, &self.scopes, self.scope);
         Some(next)
     }
 }

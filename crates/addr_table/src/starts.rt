@@ -8,7 +8,6 @@ ghost use Rattle.addr_table.specs.Private.Sweep.{reaches_of};
 ghost use Rattle.addr_table.specs.Private.Merged.{starts_in, taken_of};
 
 use crate::range_counts::count_ranges;
-use crate::row_order::covering_rows;
 use crate::row_starts::RowStarts;
 use crate::scopes::{count, scope_at};
 use crate::start_cursor::StartCursor;
@@ -106,6 +105,6 @@ pub(crate) fn cursor<'a>(
     let mut of_scopes = StartList::new(alloc, count_ranges(scopes))?;
     of_scopes.add_scopes(rows.len(), scopes)?;
     of_scopes.sort(alloc)?;
-    let of_rows = RowStarts::of(rows, covering_rows(alloc, rows)?)?;
+    let of_rows = RowStarts::of(alloc, rows)?;
     Ok(StartCursor::new(of_rows, of_scopes))
 }

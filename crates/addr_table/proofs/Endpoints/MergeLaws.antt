@@ -1,21 +1,20 @@
 -- Two ascending lists of starts, merged.
 use Rattle.std.proofs.Common.{◌≡◌, ℕ, zero, suc, ◌+◌, ◌<◌, ◌≤◌, List, [], ◌∷◌, ◌++◌, length, drop}
-use Rattle.std.proofs.Common.{get_or, Bool, true, false, cond, refl, ap, sym, ◌∙◌, subst, inl, inr}
+use Rattle.std.proofs.Common.{get_or, Bool, true, false, cond, refl, ap, sym, ◌∙◌, subst}
 use Rattle.std.proofs.Common.{arith}
 use Rattle.std.specs.Prelude.{nat_le, not}
 use Rattle.std.specs.Int.{from_bool}
 use Rattle.std.specs.List.{AllByRecursion}
 use Rattle.std.specs.List.Sorted.{IsPermutation, IsNonDecreasingBy}
-use Rattle.std.proofs.lemmas.Bool.{cases_lt}
 use Rattle.std.proofs.lemmas.Bool.Decides.{nat_tests}
-use Rattle.std.proofs.lemmas.List.{drop_more, drop_all}
+use Rattle.std.proofs.lemmas.List.{drop_more}
 use Rattle.std.proofs.lemmas.List.Elements.{All-from_recursion, recursion_from_All, All-append}
 use Rattle.std.proofs.lemmas.List.Sorted.{IsPermutation-refl, IsPermutation-trans}
 use Rattle.std.proofs.lemmas.List.Sorted.{IsPermutation-cons, IsPermutation-middle, All-permutation}
 use Rattle.addr_table.specs.declared.starts.Start.{Start}
 use Rattle.addr_table.specs.Private.Merged.{merged_from, merged, IsMerging}
 use Rattle.addr_table.specs.Private.Merged.{IsHead, IsNextIn, Cursor}
-use Rattle.addr_table.proofs.Scanning.Lists.{each-weaker}
+use Rattle.addr_table.proofs.Scanning.Lists.{each-weaker, in-front}
 
 -- ---- the same starts
 
@@ -46,14 +45,14 @@ merged-all P xs ys a b =
 
 -- ---- their order
 
-abbrev From : ℕ → List Start → Type 0
+abbrev pub From : ℕ → List Start → Type 0
 From n ends = AllByRecursion (λ (e : Start). n ≤ e.at) ends
 
-abbrev Rise : List Start → Type 0
+abbrev pub Rise : List Start → Type 0
 Rise [] = Unit {0}
 Rise (e ∷ ends) = From e.at ends × Rise ends
 
-further : (m n : ℕ) (ends : List Start) → m ≤ n → From n ends → From m ends
+pub further : (m n : ℕ) (ends : List Start) → m ≤ n → From n ends → From m ends
 further m n ends le h =
     each-weaker (λ (e : Start). n ≤ e.at) (λ (e : Start). m ≤ e.at) (λ e k. omega (arith, le, k))
     ends h
@@ -66,7 +65,7 @@ rise-of (e ∷ ends) h = (
   rise-of ends (λ i j d le lt. h (suc i) (suc j) d (omega (arith, le)) (omega (arith, lt))),
 )
 
-from-rise : (ends : List Start) → Rise ends → IsNonDecreasingBy (λ (e : Start). e.at) ends
+pub from-rise : (ends : List Start) → Rise ends → IsNonDecreasingBy (λ (e : Start). e.at) ends
 from-rise [] h i j d le lt = absurd (omega (arith, lt))
 from-rise (e ∷ ends) h zero zero d le lt = omega arith
 from-rise (e ∷ ends) h zero (suc j) d le lt =
@@ -128,28 +127,6 @@ first-scope [] y ys low = refl
 first-scope (x ∷ xs) y ys low =
     let lt : y.at < x.at = low x xs refl in
     let is : nat_le x.at y.at ≡ false = grind (arith, nat_tests) in rw is refl
-
--- the start before the rest of a list
-in-front : (ends : List Start) (n : ℕ) (e : Start) (later : List Start) (d : Start) → drop n ends
-    ≡ e ∷ later
-    → (n < length ends) × (get_or ends n d ≡ e) × (drop (n + 1) ends ≡ later)
-in-front ends n e later d is =
-    let lt : n < length ends = elim (cases_lt n (length ends)) [
-      | inl lt ↦ lt
-      | inr ge ↦ absurd (empty (sym (drop_all n ends ge) ∙ is))
-    ] in
-    let split : get_or ends n d ∷ drop (n + 1) ends ≡ e ∷ later =
-    sym (drop_more ends n d lt) ∙ is in
-    (lt, heads split, tails split)
-  where
-    empty : [] ≡ e ∷ later → ⊥
-    empty h = cc
-
-    heads : {x y : Start} {xs ys : List Start} → x ∷ xs ≡ y ∷ ys → x ≡ y
-    heads h = cc
-
-    tails : {x y : Start} {xs ys : List Start} → x ∷ xs ≡ y ∷ ys → xs ≡ ys
-    tails h = cc
 
 -- one more start of the rows is taken
 pub row-first : (rows scopes : List Start) (row scope : ℕ) (e : Start)
