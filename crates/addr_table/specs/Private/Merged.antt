@@ -42,7 +42,6 @@ pub record IsMerging (rows scopes : List Start) (row scope : ℕ) : Type 0 where
 abbrev pub IsHead : Cursor → Start → Bool → Type 0
 IsHead c e true = (c.row < length c.rows) × ((d : Start) → e ≡ slice_index_or c.rows c.row d)
     × ((d : Start) → c.scope < length c.scopes → e.at ≤ (slice_index_or c.scopes c.scope d).at)
-    × (c.row + 1 < 2 ^ 64)
 IsHead c e false = (c.scope < length c.scopes)
     × ((d : Start) → e ≡ slice_index_or c.scopes c.scope d)
     × ((d : Start) → c.row < length c.rows → e.at < (slice_index_or c.rows c.row d).at)

@@ -1,15 +1,12 @@
 use Rattle.std.proofs.Common.{sym, subst}
-use Rattle.std.proofs.lemmas.List.Sorted.{IsPermutation-map, IsPermutation-trans}
-use Rattle.addr_table.specs.Private.RowOrder.{row_start}
 use Rattle.addr_table.specs.Private.Sweep.{AreStarts, reaches_of}
 use Rattle.addr_table.proofs.Endpoints.BuildLaws.{rows-sorted, are-sorted, starts-merged}
 use Rattle.addr_table.proofs.starts.cursor.Goals as goal
 
 pub returns-clause-starts : goal.returns-clause-starts
 returns-clause-starts c =
-    let rows = rows-sorted c.args.rows.now _ (IsPermutation-trans _ _ _
-    (IsPermutation-map (row_start c.args.rows.now) _ _ c.in_ok-covering_rows.ensures)
-    c.in_ok-of_rows.ensures.permutation) c.in_ok-of_rows.ensures.rise in
+    let rows = rows-sorted c.args.rows.now _ c.in_ok-of_rows.ensures.permutation
+    c.in_ok-of_rows.ensures.rise in
     let scopes = are-sorted _ _ _ _ c.in_ok-of_scopes.ensures c.in_ok-add_scopes.ensures
     c.sort.ensures.permutation c.in_ok-sort.ensures.rise in
     subst (AreStarts (reaches_of c.args.rows.now c.args.scopes.now.scopes))

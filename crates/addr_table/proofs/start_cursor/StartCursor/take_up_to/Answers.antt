@@ -1,7 +1,5 @@
-use Rattle.std.proofs.Common.{◌≡◌, ◌+◌, ℕ, drop, refl, ap, subst}
+use Rattle.std.proofs.Common.{◌≡◌, ◌+◌, ℕ, drop, refl, subst}
 use Rattle.std.proofs.Common.{arith}
-use Rattle.std.specs.Int.{from_bool}
-use Rattle.std.specs.Prelude.{not}
 use Rattle.addr_table.specs.Private.Merged.{Cursor, IsHead, IsNext, IsNextIn, Takes, starts_in}
 use Rattle.addr_table.specs.Private.Merged.{taken_of}
 use Rattle.addr_table.specs.Private.Sweep.{Above}
@@ -13,9 +11,9 @@ use Rattle.addr_table.proofs.start_cursor.StartCursor.take_up_to.Goals.{In_ok-ne
 -- the fields before the call
 abbrev inside : In_ok-next → Cursor
 inside c = record {
-  rows = c.self.inside.rows;
+  rows = c.self.inside.rows.all;
   scopes = c.self.inside.scopes;
-  row = c.self.inside.row;
+  row = c.self.inside.rows.taken;
   scope = c.self.inside.scope;
 }
 
@@ -37,10 +35,10 @@ returns-then-next-end-clause-taken c =
 
 pub invariant_of-self : goal.invariant_of-self
 invariant_of-self c = (
-  one-taken (inside (goal.at.invariant_of-self c).In_ok-next) c.in_ok-next.next
+  rw c.take-self-inside.ensures.all
+      (one-taken (inside (goal.at.invariant_of-self c).In_ok-next) c.in_ok-next.next
       c.in_ok-next.is_row _ _ c.self.invariant.0 (head (goal.at.invariant_of-self c).In_ok-next)
-      (ap (λ n. c.self.inside.row + n) c.from.ensures)
-      (ap (λ n. c.self.inside.scope + n) c.from-2.ensures),
+      c.take-self-inside.ensures.row c.take-self-inside.ensures.scope),
   c.next_of-self-inside.ensures,
 )
 
@@ -48,11 +46,10 @@ pub returns-clause-taken : goal.returns-clause-taken
 returns-clause-taken c =
     let a = (goal.at.returns-clause-taken c).In_ok-next in
     let n = next a in
-    let row : c.from.result ≡ from_bool c.in_ok-next.is_row = c.from.ensures in
-    let scope : c.from-2.result ≡ from_bool (not c.in_ok-next.is_row) = c.from-2.ensures in
     let one = one-counted c.in_ok-next.is_row in
-    let after : ℕ = c.self.inside.row + c.from.result + (c.self.inside.scope + c.from-2.result) in
-    let more : after ≡ taken_of (inside a) + 1 = omega (arith, row, scope, one) in
+    let after : ℕ = c.take-self-inside.new.rows.taken + c.take-self-inside.result in
+    let more : after ≡ taken_of (inside a) + 1 =
+    omega (arith, c.take-self-inside.ensures.row, c.take-self-inside.ensures.scope, one) in
     let T : Cursor → Type 0 = λ x. Takes c.args.end c.in_ok-next.next (taken_of x) after
     (starts_in x) in
     subst T c.self.view_is (record {
