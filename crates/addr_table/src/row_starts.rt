@@ -1,6 +1,6 @@
 //! The starts of the addresses that rows cover.
 
-ghost use Rattle.std.specs.Prelude.{◌≡◌, ◌∷◌, [], ◌+◌, ◌<◌, ◌≤◌, ◌^◌, Bool, drop, length, map};
+ghost use Rattle.std.specs.Prelude.{◌≡◌, ◌∷◌, [], ◌+◌, ◌<◌, ◌≤◌, ◌^◌, drop, length, map};
 ghost use Rattle.std.specs.Prelude.{slice_index, slice_index_or, IfOk, MatchOption};
 ghost use Rattle.std.specs.List.Sorted.{IsPermutation, IsNonDecreasingBy};
 ghost use Rattle.addr_table.specs.declared.starts.Start.{Start as Started};
@@ -39,8 +39,8 @@ impl<'a> Model for RowStarts<'a> {
     ghost Value = { RowCursor };
 
     ghost view = { λ r. record {
-        all = map (row_start r.rows.now) (rows_in r.has_all r.rows.now r.order.items);
-        taken = r.taken
+      all = map (row_start r.rows.now) (rows_in r.has_all r.rows.now r.order.items);
+      taken = r.taken;
     } };
 
     ghost invariant = { λ r.

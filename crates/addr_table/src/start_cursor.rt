@@ -31,18 +31,18 @@ impl<'a> Model for StartCursor<'a> {
     ghost Value = { Cursor };
 
     ghost view = { λ c. record {
-        rows = c.rows.all;
-        scopes = c.scopes;
-        row = c.rows.taken;
-        scope = c.scope
+      rows = c.rows.all;
+      scopes = c.scopes;
+      row = c.rows.taken;
+      scope = c.scope;
     } };
 
     ghost invariant = { λ c. IsMerging c.rows.all c.scopes c.rows.taken c.scope
         × IsNext (record {
-            rows = c.rows.all;
-            scopes = c.scopes;
-            row = c.rows.taken;
-            scope = c.scope
+          rows = c.rows.all;
+          scopes = c.scopes;
+          row = c.rows.taken;
+          scope = c.scope;
         }) c.next };
 }
 
@@ -50,10 +50,10 @@ impl<'a> Model for StartCursor<'a> {
 /// number of starts of scopes that were taken.
 fn next_of(rows: &RowStarts<'_>, scopes: &StartList, scope: usize) -> Option<(Start, bool)>
     ensures { IsNext (record {
-        rows = rows.now.all;
-        scopes = scopes.now;
-        row = rows.now.taken;
-        scope = scope
+      rows = rows.now.all;
+      scopes = scopes.now;
+      row = rows.now.taken;
+      scope = scope;
     }) result }
 {
     let Some(of_row) = rows.peek() else {

@@ -114,3 +114,65 @@ fn segments_and_scan_return_the_same_places(rt: HostRuntime) {
     agree_with_scan(&rt, &without_entries());
     agree_with_scan(&rt, &format_of_64_bits());
 }
+
+/// Returns an object with two sequences. The first has rows at 0x1000 and 0x1004 and ends at
+/// 0x1014. The second has row 3 at `start` and ends `len` bytes after it.
+fn sequences(start: u64, len: u8) -> [u8; 725] {
+    let mut object = two_sequences();
+    // advance_pc 4, and a special opcode that advances the line by 2
+    object[328..331].copy_from_slice(&[0x02, 0x04, 0x14]);
+    object[339..347].copy_from_slice(&start.to_le_bytes());
+    object[352] = len;
+    object
+}
+
+/// Checks the rows of addresses.
+fn are_rows(rt: &(impl Abort + AllocGlobal), object: &[u8], expected: &[(u64, Option<usize>)]) {
+    let module = sample(rt, object);
+    for pair in expected {
+        let (link, row) = *pair;
+        let actual = find(&module, link).and_then(|place| place.row());
+        are_equal(rt, (link, actual), (link, row));
+    }
+    agree_with_scan(rt, object);
+}
+
+#[test]
+fn sequences_in_descending_order(rt: HostRuntime) {
+    let expected = [
+        (0xfef, None),
+        (0xff0, Some(3)),
+        (0xfff, Some(3)),
+        (0x1000, Some(0)),
+        (0x1004, Some(1)),
+        (0x1013, Some(1)),
+        (0x1014, None),
+    ];
+    are_rows(&rt, &sequences(0xff0, 0x10), &expected);
+}
+
+#[test]
+fn sequences_that_overlap_at_their_ends(rt: HostRuntime) {
+    let expected = [
+        (0x1000, Some(0)),
+        (0x1008, Some(1)),
+        (0x1013, Some(1)),
+        (0x1014, Some(3)),
+        (0x1017, Some(3)),
+        (0x1018, None),
+    ];
+    are_rows(&rt, &sequences(0x1008, 0x10), &expected);
+}
+
+#[test]
+fn a_sequence_that_starts_between_two_rows_of_another(rt: HostRuntime) {
+    let expected = [
+        (0x1001, Some(0)),
+        (0x1002, Some(0)),
+        (0x1004, Some(1)),
+        (0x1014, Some(3)),
+        (0x1015, Some(3)),
+        (0x1016, None),
+    ];
+    are_rows(&rt, &sequences(0x1002, 0x14), &expected);
+}

@@ -13,8 +13,13 @@ within c =
     let lt : r.taken < length (map (row_start r.rows.now) (rows_in r.has_all r.rows.now
     r.order.items)) =
     subst P (sym c.self.view_is) c.requires.within in
-    omega (arith, lt, c.self.invariant.len_is, length-map (rows_in r.has_all r.rows.now
-    r.order.items) (row_start r.rows.now))
+    omega (
+      arith,
+      lt,
+      c.self.invariant.len_is,
+      length-map (rows_in r.has_all r.rows.now
+          r.order.items) (row_start r.rows.now),
+    )
 
 pub invariant_of-self : goal.invariant_of-self
 invariant_of-self c =
