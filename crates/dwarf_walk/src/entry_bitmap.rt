@@ -1,6 +1,6 @@
 //! A bitmap of the offsets at which entries start, with one bit for each byte of the section.
 
-ghost use Rattle.std.specs.Prelude.{◌≡◌, ℕ, ◌<◌, [], ◌∷◌, length, false, OnOk};
+ghost use Rattle.std.specs.Prelude.{◌≡◌, ℕ, [], ◌∷◌, false, IfOk, OnOk};
 ghost use Rattle.dwarf_walk.specs.Private.EntryBitmap.{has_entry, AddsOffsets};
 
 use std::alloc::{AllocError, Global};
@@ -15,20 +15,21 @@ pub struct EntryBitmap {
 }
 
 impl EntryBitmap {
-    /// Creates an empty bitmap.
-    pub fn new(alloc: Global) -> EntryBitmap
-        ensures { (place : ℕ) → has_entry result place ≡ false }
+    /// Creates an empty bitmap for a section of `len` bytes.
+    pub fn new(alloc: Global, len: usize) -> Result<EntryBitmap, AllocError>
+        ensures { IfOk result (λ bitmap. (place : ℕ) → has_entry bitmap place ≡ false) }
     {
-        EntryBitmap {
-            words: Vec::new(alloc),
-        }
+        let words = vec![in alloc; 0; len / WORD + 1]?;
+        Ok(EntryBitmap { words })
     }
 
-    /// Sets the bit of an offset. Fails if out of memory.
+    /// Sets the bit of an offset. Fails if the offset is beyond the last word.
     pub(crate) fn add_offset(&mut self, place: usize) -> Result<(), AllocError>
         ensures { OnOk result (AddsOffsets self.old self.new (place ∷ [])) }
     {
-        self.reach(place / WORD)?;
+        if place / WORD >= self.words.len() {
+            return Err(AllocError);
+        }
         self.words[place / WORD] |= 1u64 << (place % WORD);
         Ok(())
     }
@@ -41,16 +42,5 @@ impl EntryBitmap {
             Some(word) => (*word >> (place % WORD)) % 2 == 1,
             None => false,
         }
-    }
-
-    /// Appends zero words until the bitmap contains the word with this index.
-    fn reach(&mut self, word: usize) -> Result<(), AllocError>
-        ensures there { OnOk result (word < length self.new.words.items) }
-        ensures same { (place : ℕ) → has_entry self.new place ≡ has_entry self.old place }
-    {
-        while self.words.len() <= word {
-            self.words.push(0)?;
-        }
-        Ok(())
     }
 }
