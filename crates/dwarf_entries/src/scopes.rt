@@ -75,7 +75,7 @@ impl Scopes {
             → Decodes (λ scopes. scopes) result (tree_with
             (sections_of sections.now) headers.now read.tables) }
     {
-        let mut bitmap = EntryBitmap::new(alloc);
+        let mut bitmap = EntryBitmap::new(alloc, sections.debug_info.len())?;
         let stored = all_entries(alloc, sections, headers, &mut reader.tables, &mut bitmap)?;
         let bases = all_bases(alloc, sections, stored.as_slice())?;
         let units = Units {

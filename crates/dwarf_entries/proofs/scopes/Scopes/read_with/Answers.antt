@@ -12,7 +12,8 @@ use Rattle.dwarf_entries.proofs.scopes.Scopes.read_with.Goals as goal
 
 pub returns-in_err-stored : goal.returns-in_err-stored
 returns-in_err-stored c read =
-    let p = err_from_is_err_and c.from_residual.result c.from_residual.ensures.1 in
+    let p = err_from_is_err_and c.from_residual-in_err-stored.result
+    c.from_residual-in_err-stored.ensures.1 in
     rw (p.1, p.2) (entries-pass-fault (sections_of c.args.sections.now) c.args.headers.now
     c.in_err-stored.field-0.0 read (c.in_err-stored.ensures.decodes read.tables read.tables_are))
 
@@ -74,8 +75,8 @@ returns-in_err-lists c read =
     ((rw c.as_slice.ensures.value at c.in_ok-bases.ensures) c.args.headers.now entries.dies
     entries.stored_are) in
     let marked = all-marked s c.args.headers.now read c.in_ok-stored.stored.items
-    c.in_ok-bases.bases.items units c.new-bitmap.result c.all_entries.new.bitmap
-    c.new-bitmap.ensures c.in_ok-stored.ensures.bitmap in
+    c.in_ok-bases.bases.items units c.in_ok-bitmap.bitmap c.all_entries.new.bitmap
+    c.in_ok-bitmap.ensures c.in_ok-stored.ensures.bitmap in
     rw (p.1, p.2)
     (scopes-pass-fault s c.args.headers.now read c.in_ok-stored.stored.items
     c.in_ok-bases.bases.items
@@ -100,8 +101,8 @@ roots-requires c =
     ((rw c.as_slice.ensures.value at c.in_ok-bases.ensures) c.args.headers.now entries.dies
     entries.stored_are) in
     let marked = all-marked s c.args.headers.now read c.in_ok-stored.stored.items
-    c.in_ok-bases.bases.items units c.new-bitmap.result c.all_entries.new.bitmap
-    c.new-bitmap.ensures c.in_ok-stored.ensures.bitmap in
+    c.in_ok-bases.bases.items units c.in_ok-bitmap.bitmap c.all_entries.new.bitmap
+    c.in_ok-bitmap.ensures c.in_ok-stored.ensures.bitmap in
     let counted = scopes-counted s c.args.headers.now read c.in_ok-stored.stored.items
     c.in_ok-bases.bases.items (scopes_of (roots_from 0 units.us) c.in_ok-lists.lists) units
     ((rw (c.as_slice-2.ensures.value, c.as_slice-3.ensures.value) at
@@ -150,8 +151,8 @@ returns c read =
     ((rw c.as_slice.ensures.value at c.in_ok-bases.ensures) c.args.headers.now entries.dies
     entries.stored_are) in
     let marked = all-marked s c.args.headers.now read c.in_ok-stored.stored.items
-    c.in_ok-bases.bases.items units c.new-bitmap.result c.all_entries.new.bitmap
-    c.new-bitmap.ensures c.in_ok-stored.ensures.bitmap in
+    c.in_ok-bases.bases.items units c.in_ok-bitmap.bitmap c.all_entries.new.bitmap
+    c.in_ok-bitmap.ensures c.in_ok-stored.ensures.bitmap in
     tree-read s c.args.headers.now read c.in_ok-stored.stored.items c.in_ok-bases.bases.items
     c.in_ok-lists.lists c.in_ok-roots.roots.items units
     ((rw (c.as_slice-2.ensures.value, c.as_slice-3.ensures.value) at
