@@ -16,8 +16,7 @@ pub mod PlanSteps
 pub mod MergedSteps
 pub mod PlanLaws
 pub mod PlanTurns
-pub mod FixedSizeEntries
-pub mod FixedSizeCodes
+pub mod NodeShapes
 pub mod LinkLaws
 pub mod SharedTableLaws
 pub mod StoreLaws

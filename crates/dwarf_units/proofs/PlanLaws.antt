@@ -1,6 +1,6 @@
 -- Running the steps of a declaration stores the same attributes as reading its attributes one by
 -- one.
-use Rattle.std.proofs.Common.{◌≡◌, ℕ, ◌+◌, ◌≤◌, List, [], ◌∷◌, ◌++◌, Bool, true, false, cond}
+use Rattle.std.proofs.Common.{◌≡◌, ℕ, ◌≤◌, List, [], ◌∷◌, ◌++◌, Bool, true, false, cond}
 use Rattle.std.proofs.Common.{length, refl, ap, sym, ◌∙◌}
 use Rattle.std.specs.Prelude.{Result, Ok, Err, not, ◌&&◌, filter}
 use Rattle.dwarf_bytes.specs.declared.fault.Cause.{Cause}

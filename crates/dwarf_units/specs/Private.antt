@@ -5,7 +5,7 @@ pub mod Heads
 pub mod Rising
 pub mod Numbers
 pub mod Tables
-pub mod FixedSizeHeads
+pub mod NodeShapes
 pub mod Names
 pub mod Used
 pub mod Slots

@@ -1,28 +1,27 @@
 //! A cached abbreviation table and the decode plans of its unshared attributes (DWARF 5, 7.5.3).
 
 ghost use Rattle.std.specs.Prelude.{◌≡◌, ◌<◌, ◌≤◌, ◌+◌, ◌-◌, ◌*◌, ◌^◌, ◌==◌, Some, None, length};
-ghost use Rattle.std.specs.Prelude.{find, sum_by, IsTrue, ◌↔◌, IfOk, IfNone, IfSome};
+ghost use Rattle.std.specs.Prelude.{List, find, sum_by, IsTrue, ◌↔◌, IfOk, IfNone, IfSome};
 ghost use Rattle.dwarf_bytes.specs.declared.fault.Section.TheVariants as sections;
 ghost use Rattle.dwarf_bytes.specs.Refusals.{Decodes, in_section};
 ghost use Rattle.dwarf_forms.specs.Tables.{declarations_of};
 ghost use Rattle.dwarf_forms.specs.Private.SharedTables.{full_declarations};
 ghost use Rattle.dwarf_units.specs.Private.Links.{LinksGrow};
-ghost use Rattle.dwarf_units.specs.Private.FixedSizeHeads.{AreFixedSize, precomputed_head};
-ghost use Rattle.dwarf_units.specs.Private.FixedSizeHeads.{fixed_size_head};
+ghost use Rattle.dwarf_forms.specs.declared.memoized_lists.MemoizedAttribute.{MemoizedAttribute};
+ghost use Rattle.dwarf_forms.specs.Private.SharedTables.{AreShared};
+ghost use Rattle.dwarf_units.specs.Private.NodeShapes.{AreShapes, shape_at, shape_count};
 ghost use Rattle.dwarf_units.specs.Private.Plans.{plan_of, plan_len};
 ghost use Rattle.dwarf_units.specs.Private.SharedTables.{IsReadable, own_size, plans_of};
+ghost use Rattle.dwarf_units.specs.Private.SharedTables.{full_table};
 
-use crate::fixed_size_head::FixedSizeHead;
 use crate::linked_lists::LinkedLists;
+use crate::node_shape::{NodeShape, shapes};
 use crate::plans::{Plan, plans};
 use crate::unit_headers::UnitHeader;
 use dwarf_bytes::{Format, LoadFault};
 use dwarf_forms::{AbbreviationDeclaration, AbbreviationTable};
 use std::alloc::{AllocError, Global};
 use std::marker::Model;
-
-/// The greatest abbreviation code that is encoded in one byte.
-const CODE_LIMIT: usize = 127;
 
 /// An abbreviation table, its offset in `.debug_abbrev`, and the decode plans of its unshared
 /// attributes in units of a format.
@@ -32,13 +31,13 @@ pub(crate) struct CachedTable {
     format: Format,
     table: AbbreviationTable,
     plans: Vec<Plan>,
-    /// The heads of fixed-size entries by code. Index 0 is code 1.
-    fixed_size: Vec<Option<FixedSizeHead>>,
+    /// The shapes of nodes by their code.
+    shapes: Vec<Option<NodeShape>>,
 }
 
 impl Model for CachedTable {
     ghost use Rattle.std.specs.Prelude.{◌≡◌};
-    ghost use Rattle.dwarf_units.specs.Private.FixedSizeHeads.{AreFixedSize};
+    ghost use Rattle.dwarf_units.specs.Private.NodeShapes.{AreShapes, shape_count};
     ghost use Rattle.dwarf_units.specs.Private.SharedTables.{SharedTable, plans_of};
 
     ghost Value = { SharedTable };
@@ -50,7 +49,7 @@ impl Model for CachedTable {
     } };
 
     ghost invariant = { λ t. (t.plans.items ≡ plans_of t.format t.table)
-        × AreFixedSize t.format t.table t.fixed_size.items };
+        × AreShapes t.format t.table (shape_count t.table) t.shapes.items };
 }
 
 impl CachedTable {
@@ -73,13 +72,13 @@ impl CachedTable {
     {
         let table = lists.table(alloc, format, offset, left)?;
         let plans = plans(alloc, format, &table)?;
-        let fixed_size = fixed_size_heads(alloc, &table, &plans)?;
+        let shapes = shapes(alloc, format, &table)?;
         Ok(CachedTable {
             offset,
             format,
             table,
             plans,
-            fixed_size,
+            shapes,
         })
     }
 
@@ -107,14 +106,14 @@ impl CachedTable {
         declaration_and_plan(&self.table, &self.plans, code)
     }
 
-    /// Returns the fixed-size head of a one-byte code, if there is one.
+    /// Returns the shape of the nodes with a one-byte code, if there is one.
     // Inlined: called for each entry.
     #[inline(always)]
-    pub(crate) fn fixed_size(&self, code: u8) -> Option<FixedSizeHead>
-        ensures { result ≡ precomputed_head self.now code }
+    pub(crate) fn shape(&self, code: u8) -> Option<NodeShape>
+        ensures { (memoized : List MemoizedAttribute) → AreShared memoized self.now.declarations
+            → result ≡ shape_at (full_table memoized self.now) code }
     {
-        let place = usize::from(code).checked_sub(1)?;
-        *self.fixed_size.get(place)?
+        *self.shapes.get(usize::from(code))?
     }
 
     /// Returns the number of declarations.
@@ -158,32 +157,6 @@ fn declaration_and_plan<'a>(
     let declaration = table.declarations().get(place)?;
     let plan = plans.get(place)?;
     Some((declaration, plan))
-}
-
-/// Computes the fixed-size heads of the codes from 1 up to the number of declarations, at most
-/// 127.
-fn fixed_size_heads(
-    alloc: Global,
-    table: &AbbreviationTable,
-    plans: &[Plan],
-) -> Result<Vec<Option<FixedSizeHead>>, AllocError>
-    ensures { (format : Format) → plans.now ≡ plans_of format table.now
-        → IfOk result (λ heads. AreFixedSize format table.now heads.items) }
-{
-    let mut heads = Vec::new(alloc);
-    for place in 0..table.declarations().len().min(CODE_LIMIT) {
-        heads.push(fixed_size_head(table, plans, place as u64 + 1))?;
-    }
-    Ok(heads)
-}
-
-/// Returns the fixed-size head of a code, if its entries have a fixed size.
-fn fixed_size_head(table: &AbbreviationTable, plans: &[Plan], code: u64) -> Option<FixedSizeHead>
-    ensures { (format : Format) → plans.now ≡ plans_of format table.now
-        → result ≡ fixed_size_head format table.now code }
-{
-    let (declaration, plan) = declaration_and_plan(table, plans, code)?;
-    FixedSizeHead::of(declaration, plan)
 }
 
 /// Counts the unshared attributes of declarations.

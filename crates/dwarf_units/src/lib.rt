@@ -5,9 +5,9 @@
 mod attributes;
 mod cached_table;
 mod entry_head;
-mod fixed_size_head;
 pub mod laws;
 mod linked_lists;
+mod node_shape;
 mod numbers;
 mod plans;
 mod shared_suffixes;
@@ -22,7 +22,7 @@ mod used_name;
 
 pub use attributes::{Attribute, AttributeValue, is_address};
 pub use entry_head::EntryHead;
-pub use fixed_size_head::FixedSizeHead;
+pub use node_shape::NodeShape;
 pub use tables::Tables;
 pub use unit_headers::{UnitHeader, UnitType, units};
 pub use unit_table::UnitTable;

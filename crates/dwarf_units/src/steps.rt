@@ -85,7 +85,7 @@ fn is_unsigned(layout: ValueLayout) -> bool
 /// Returns the size in bytes of every value of an attribute, if it is fixed and if such a value is
 /// invalid only when bytes are missing.
 #[tactic(auto, unfolding(crate::specs::Private::Plans::fixed_len))]
-fn fixed_len(format: Format, specification: &AttributeSpecification) -> Option<u16>
+pub(crate) fn fixed_len(format: Format, specification: &AttributeSpecification) -> Option<u16>
     ensures { result ≡ fixed_len format specification.now }
 {
     if !accepts(specification.name, specification.form) {

@@ -1,15 +1,16 @@
 //! The abbreviation table of one unit (DWARF 5, 7.5.3).
 
-ghost use Rattle.std.specs.Prelude.{◌≡◌, ◌≤◌, IfSome, option_map};
+ghost use Rattle.std.specs.Prelude.{◌≡◌, ◌<◌, ◌≤◌, IfSome, option_map};
 ghost use Rattle.dwarf_units.specs.Entries.{declaration_of, depth_limit};
 ghost use Rattle.dwarf_units.specs.Private.Heads.{head_in};
-ghost use Rattle.dwarf_units.specs.Private.FixedSizeHeads.{IsFixedSizeNode, fixed_size_entry_at};
+ghost use Rattle.dwarf_units.specs.Private.NodeShapes.{IsFixedSizeNode, fixed_size_node_at};
+ghost use Rattle.dwarf_units.specs.Private.NodeShapes.{shape_at};
 ghost use Rattle.dwarf_units.specs.Private.SharedTables.{IsReadable, full_table};
 
 use crate::cached_table::CachedTable;
 use crate::entry_head::{DEPTH_LIMIT, EntryHead};
-use crate::fixed_size_head::FixedSizeHead;
 use crate::linked_lists::LinkedLists;
+use crate::node_shape::NodeShape;
 use std::marker::Model;
 
 /// A cached abbreviation table, together with the memoized attributes that its declarations share.
@@ -47,29 +48,39 @@ impl<'a> UnitTable<'a> {
         Some(EntryHead::new(self.table.format(), declaration, plan, self.lists))
     }
 
-    /// Returns the head of the entry at an offset and the offset after it, if the entry has a
+    /// Returns the shape of the nodes with a one-byte code, if there is one.
+    // Inlined: called for each entry.
+    #[inline(always)]
+    fn shape(&self, code: u8) -> Option<NodeShape>
+        ensures { result ≡ shape_at self.now code }
+    {
+        self.table.shape(code)
+    }
+
+    /// Returns the shape of the node at an offset and the offset after the node, if the node has a
     /// fixed size, is below the root, and is not truncated.
     // Inlined: called for each entry.
     #[inline(always)]
-    pub fn fixed_size_entry(
+    #[tactic(auto, unfolding(crate::specs::Private::NodeShapes::fixed_size_node_at))]
+    pub fn fixed_size_node(
         &self,
         depth: u32,
         bytes: &[u8],
         place: usize,
-    ) -> Option<(FixedSizeHead, usize)>
-        ensures found { result ≡ fixed_size_entry_at self.now depth bytes.now place }
+    ) -> Option<(NodeShape, usize)>
+        ensures found { result ≡ fixed_size_node_at self.now depth bytes.now place }
         ensures node { IfSome result (IsFixedSizeNode self.now depth bytes.now place) }
-        ensures limit { IfSome result (λ _. depth ≤ depth_limit) }
+        ensures depth { IfSome result (λ _. (0 < depth) × (depth ≤ depth_limit)) }
     {
         if depth == 0 || depth > DEPTH_LIMIT {
             return None;
         }
         let code = *bytes.get(place)?;
-        let head = self.table.fixed_size(code)?;
-        let after = place + 1 + usize::from(head.len);
+        let shape = self.shape(code)?;
+        let after = place + usize::from(shape.len);
         if after > bytes.len() {
             return None;
         }
-        Some((head, after))
+        Some((shape, after))
     }
 }

@@ -1,12 +1,14 @@
 -- The bitmap of entry offsets: the bits that a walk sets, and how they are looked up.
-use Rattle.std.proofs.Common.{◌≡◌, ℕ, ◌*◌, ◌/◌, ◌%◌, ◌^◌, ◌<◌, List, [], ◌++◌, length, set, get_or}
+use Rattle.std.proofs.Common.{◌≡◌, ℕ, ◌*◌, ◌/◌, ◌%◌, ◌^◌, ◌<◌, List, [], ◌∷◌, ◌++◌, length, set, get_or}
 use Rattle.std.proofs.Common.{Bool, true, false, refl, sym, ap, ◌∙◌, subst, arith, inl, inr}
-use Rattle.std.specs.Prelude.{nat_eq, ◌==◌, ◌||◌, bit_or}
+use Rattle.std.specs.Prelude.{nat_eq, ◌==◌, ◌||◌, bit_or, if◌then◌else◌}
+use Rattle.std.specs.Int.Bits.{or_zero_r}
+use Rattle.std.proofs.Math.Nat.{zero-mul}
 use Rattle.std.specs.List.{list_any}
-use Rattle.std.specs.Int.{bit_at, w64}
+use Rattle.std.specs.Int.{bit_at, from_bool, w64}
 use Rattle.std.proofs.lemmas.Bool.{cases_eq}
 use Rattle.std.proofs.lemmas.Bool.Decides.{nat_tests}
-use Rattle.std.proofs.lemmas.List.{get_or-set_same, get_or-set_other}
+use Rattle.std.proofs.lemmas.List.{get_or-set_same, get_or-set_other, set-get_or}
 use Rattle.std.proofs.lemmas.List.Folds.{list_any-append}
 use Rattle.std.proofs.lemmas.Nat.Bits.{bit_at_set_same, bit_at_set_other}
 use Rattle.dwarf_walk.specs.declared.entry_bitmap.EntryBitmap.{EntryBitmap}
@@ -57,11 +59,24 @@ has-set words k v j lt is = elim (cases_eq (j / 64) (k / 64)) [
       set-other _ _ j k here (λ e. other (ap (λ n. n / 64) e))
 ]
 
--- ---- setting bits
-
 or-none : (b : Bool) → b ≡ (b || false)
 or-none true = refl
 or-none false = refl
+
+-- A bit that is set, or 0 that is added to its word.
+pub adds-bit : (words : List ℕ) (k v j : ℕ) (is_entry : Bool) → k / 64 < length words
+    → v ≡ bit_or (get_or words (k / 64) 0) (from_bool is_entry * 2 ^ (k % 64) % 2 ^ 64)
+    → has (set words (k / 64) v) j
+    ≡ (has words j || list_any (λ place. place == j) (if is_entry then k ∷ [] else []))
+adds-bit words k v j true lt is = has-set words k v j lt is
+adds-bit words k v j false lt is =
+    let none : from_bool false * 2 ^ (k % 64) % 2 ^ 64 ≡ 0 =
+    ap (λ n. n % 2 ^ 64) (zero-mul (2 ^ (k % 64))) in
+    let same : v ≡ get_or words (k / 64) 0 =
+    is ∙ (ap (bit_or (get_or words (k / 64) 0)) none ∙ or_zero_r (get_or words (k / 64) 0)) in
+    rw (same, set-get_or words (k / 64) 0) (or-none (has words j))
+
+-- ---- setting bits
 
 or-more : (a b c : Bool) → ((a || b) || c) ≡ (a || (b || c))
 or-more true b c = refl

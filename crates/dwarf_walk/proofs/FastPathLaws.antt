@@ -1,77 +1,62 @@
 -- The fast path for the node at an offset of a unit.
-use Rattle.std.proofs.Common.{◌≡◌, ℕ, ◌-◌, ◌+◌, List, Bool, true, [], ◌∷◌, refl, ap, sym, ◌∙◌}
-use Rattle.std.proofs.Common.{arith, subst}
-use Rattle.std.specs.Prelude.{Some, is_some, Result, Ok, slice_get}
-use Rattle.dwarf_bytes.specs.declared.fault.Cause.{Cause}
-use Rattle.dwarf_bytes.specs.declared.format.Format.{Format}
-use Rattle.dwarf_bytes.proofs.Numbers.Moves.{same-ok}
-use Rattle.dwarf_forms.specs.Declarations.{Declaration}
-use Rattle.dwarf_units.specs.declared.attributes.Attribute.{Attribute}
-use Rattle.dwarf_units.specs.declared.fixed_size_head.FixedSizeHead.{FixedSizeHead}
-use Rattle.dwarf_units.specs.Entries.{Node, Entry, Null, node_at_depth}
-use Rattle.dwarf_units.specs.Private.FixedSizeHeads.{IsFixedSizeNode}
-use Rattle.dwarf_units.specs.Private.Plans.{Table}
-use Rattle.dwarf_units.proofs.FixedSizeEntries.{one-byte}
+use Rattle.std.proofs.Common.{◌≡◌, ℕ, ◌-◌, ◌+◌, ◌≤◌, Bool, true, false, [], ◌∷◌, refl, ap}
+use Rattle.std.proofs.Common.{◌∙◌, arith, subst}
+use Rattle.std.specs.Prelude.{Option, Some, None, is_some, not, if◌then◌else◌}
+use Rattle.std.specs.Int.{from_bool}
+use Rattle.dwarf_units.specs.declared.node_shape.NodeShape.{NodeShape}
+use Rattle.dwarf_units.specs.Entries.{Node, Entry, Null}
+use Rattle.dwarf_units.specs.Private.NodeShapes.{HasShape}
 use Rattle.dwarf_walk.specs.declared.entry_bitmap.EntryBitmap.{EntryBitmap}
+use Rattle.dwarf_walk.specs.declared.unit_entries.RootEntry.{RootEntry}
 use Rattle.dwarf_walk.specs.Private.EntryBitmap.{AddsOffsets}
-use Rattle.dwarf_walk.specs.Private.Readers.{WalkState, after_node, places_of, state_at}
-use Rattle.dwarf_walk.proofs.BitmapLaws.{adds-none}
+use Rattle.dwarf_walk.specs.Private.Readers.{WalkState, after_node, after_scope}
+use Rattle.dwarf_walk.specs.Private.Readers.{depth_after_entry, places_of}
+use Rattle.dwarf_walk.specs.References.{or_else}
 
--- ---- a null entry
+-- ---- a node of a known shape
 
-pub null-node : (format : Format) (table : List Declaration) (depth : ℕ) (rooted : Bool)
-    (unit : List ℕ) (at : ℕ) → slice_get unit at ≡ Some 0
-    → node_at_depth format table depth rooted unit at ≡ Ok (Null, at + 1)
-null-node format table depth rooted unit at there =
-    rw (one-byte unit at 0 there (omega arith)) refl
+rooted-is : (root : Option RootEntry) (x : RootEntry) → is_some root ≡ true
+    → or_else root (Some x) ≡ root
+rooted-is (Some r) x rooted = refl
+rooted-is None x rooted = cc
 
-pub null-taken : (format : Format) (table : List Declaration) (w : WalkState) (unit : List ℕ)
-    (at : ℕ)
-    → slice_get unit at ≡ Some 0 → state_at format table w unit at
-    ≡ Ok (record w { depth = w.depth - 1 }, at + 1)
-null-taken format table w unit at there =
-    rw (null-node format table w.depth (is_some w.root) unit at there) refl
+pub bit-small : (b : Bool) → from_bool b ≤ 1
+bit-small true = omega arith
+bit-small false = omega arith
 
--- The bits that are set for the node that is read.
-bitmap-of : (bitmap marked : EntryBitmap) (at : ℕ) (read : Result (Node × ℕ) Cause)
-    (found node : Node × ℕ)
-    → read ≡ Ok found → AddsOffsets bitmap marked (places_of at found.0) → read ≡ Ok node
-    → AddsOffsets bitmap marked (places_of at node.0)
-bitmap-of bitmap marked at read found node is adds here =
-    subst (λ (n : Node × ℕ). AddsOffsets bitmap marked (places_of at n.0))
-    (same-ok found node (sym is ∙ here)) adds
+entry-depth : (children : Bool) (depth : ℕ)
+    → (depth + from_bool children) - from_bool false ≡ depth_after_entry children depth
+entry-depth true depth = omega arith
+entry-depth false depth = omega arith
 
-pub null-bitmap : (format : Format) (table : List Declaration) (depth : ℕ) (rooted : Bool)
-    (unit : List ℕ) (at : ℕ) (bitmap : EntryBitmap) → slice_get unit at ≡ Some 0 → (node : Node × ℕ)
-    → node_at_depth format table depth rooted unit at ≡ Ok node
-    → AddsOffsets bitmap bitmap (places_of at node.0)
-null-bitmap format table depth rooted unit at bitmap there node is =
-    bitmap-of bitmap bitmap at (node_at_depth format table depth rooted unit at) (Null, at + 1) node
-    (null-node format table depth rooted unit at there) (adds-none bitmap) is
+-- The state after the node. `mid` is the state before the depth is updated.
+pub shape-added : (w mid : WalkState) (at depth : ℕ) (shape : NodeShape) (node : Node)
+    → HasShape shape node → is_some w.root ≡ true
+    → (shape.is_null ≡ false → mid ≡ after_scope w at shape.tag)
+    → (shape.is_null ≡ true → shape.tag ≡ 0 → mid ≡ w)
+    → depth ≡ (w.depth + from_bool shape.children) - from_bool shape.is_null
+    → record mid { depth = depth } ≡ after_node w at node
+shape-added w mid at depth shape Null is rooted entry null deep =
+    let same : mid ≡ w = null (ap (λ (s : NodeShape). s.is_null) is)
+    (ap (λ (s : NodeShape). s.tag) is) in
+    let depth_is : depth ≡ (w.depth + from_bool false) - from_bool true =
+    deep ∙ rw is refl in
+    let less : (w.depth + from_bool false) - from_bool true ≡ w.depth - 1 = omega arith in
+    rw (same, depth_is, less) refl
+shape-added w mid at depth shape (Entry tag children attributes) is rooted entry null deep =
+    let same : mid ≡ after_scope w at tag =
+    subst (λ (t : ℕ). mid ≡ after_scope w at t) is.1 (entry is.0) in
+    let depth_is : depth ≡ depth_after_entry children w.depth =
+    deep ∙ (rw (is.0, is.2) refl ∙ entry-depth children w.depth) in
+    rw (same, depth_is, rooted-is w.root _ rooted) refl
 
--- ---- a fixed-size entry
-
-pub fixed_size-taken : (table : Table) (w taken : WalkState) (unit : List ℕ) (at : ℕ)
-    (found : FixedSizeHead × ℕ) → is_some w.root ≡ true → IsFixedSizeNode table w.depth
-    unit at found
-    → ((attributes : List Attribute) → taken
-    ≡ after_node w at (Entry found.0.tag found.0.children attributes))
-    → state_at table.format table.declarations w unit at ≡ Ok (taken, found.1)
-fixed_size-taken table w taken unit at found rooted is_node is =
-    rw (rooted, is_node.1) (ap (λ (x : WalkState). Ok (x, found.1)) (sym (is is_node.0)))
-
-pub fixed_size-bitmap : (table : Table) (w : WalkState) (unit : List ℕ) (at : ℕ)
-    (found : FixedSizeHead
-    × ℕ)
-    (bitmap marked : EntryBitmap) → is_some w.root ≡ true → IsFixedSizeNode table w.depth
-    unit at found
-    → AddsOffsets bitmap marked (at ∷ [])
-    → (node : Node × ℕ) → node_at_depth table.format table.declarations w.depth
-    (is_some w.root) unit
-    at ≡ Ok node → AddsOffsets bitmap marked (places_of at node.0)
-fixed_size-bitmap table w unit at found bitmap marked rooted is_node adds node is =
-    let there = subst (λ (r : Bool). node_at_depth table.format table.declarations w.depth r unit at
-    ≡ Ok (Entry found.0.tag found.0.children is_node.0, found.1)) (sym rooted) is_node.1 in
-    bitmap-of bitmap marked at (node_at_depth table.format table.declarations w.depth
-    (is_some w.root)
-    unit at) (Entry found.0.tag found.0.children is_node.0, found.1) node there adds is
+-- The bits that are set for the node.
+pub shape-marked : (bitmap marked : EntryBitmap) (at : ℕ) (shape : NodeShape) (node : Node)
+    → HasShape shape node
+    → AddsOffsets bitmap marked (if not shape.is_null then at ∷ [] else [])
+    → AddsOffsets bitmap marked (places_of at node)
+shape-marked bitmap marked at shape Null is adds =
+    subst (λ (b : Bool). AddsOffsets bitmap marked (if not b then at ∷ [] else []))
+    (ap (λ (s : NodeShape). s.is_null) is) adds
+shape-marked bitmap marked at shape (Entry tag children attributes) is adds =
+    subst (λ (b : Bool). AddsOffsets bitmap marked (if not b then at ∷ [] else [])) is.0 adds

@@ -1,6 +1,9 @@
 -- An entry with only some of its attributes stored.
 use Rattle.std.proofs.Common.{◌≡◌, ℕ, List, [], ◌∷◌, Bool, true, false, cond, refl, ap, sym, ◌∙◌}
-use Rattle.std.proofs.Common.{subst}
+use Rattle.std.proofs.Common.{◌+◌, arith}
+use Rattle.std.specs.Int.{from_bool}
+use Rattle.dwarf_walk.specs.declared.entry_bitmap.EntryBitmap.{EntryBitmap}
+use Rattle.dwarf_walk.specs.Private.EntryBitmap.{AddsOffsets}
 use Rattle.std.specs.Prelude.{Option, Some, None, is_some, option_map, Ok, find, filter, not, ◌==◌}
 use Rattle.std.proofs.lemmas.Bool.{false≢true, eqb-true}
 use Rattle.dwarf_bytes.specs.declared.constants.TheConstants.{DW_AT_ABSTRACT_ORIGIN}
@@ -16,13 +19,13 @@ use Rattle.dwarf_units.specs.declared.attributes.AttributeValue.{AttributeValue}
 use Rattle.dwarf_walk.specs.declared.walk.NodeHead.{NodeHead}
 use Rattle.dwarf_walk.specs.declared.unit_entries.RootEntry.{RootEntry}
 use Rattle.dwarf_units.specs.Attributes.{is_used}
-use Rattle.dwarf_units.specs.Entries.{Die, value_of, node_at_depth}
+use Rattle.dwarf_units.specs.Entries.{Die, Entry, value_of, node_at_depth}
 use Rattle.dwarf_walk.specs.Private.Stored.{named_entry, root_entry}
 use Rattle.dwarf_walk.specs.References.{or_else}
 use Rattle.dwarf_walk.specs.Private.Readers.{HasStored, IsAfterEntry, node_of, WalkState}
-use Rattle.dwarf_walk.specs.Private.Readers.{depth_after_entry, after_die, state_at}
+use Rattle.dwarf_walk.specs.Private.Readers.{Takes, after_die, depth_after_entry}
 use Rattle.dwarf_units.specs.Private.Plans.{stored_attributes}
-use Rattle.dwarf_units.specs.Private.Used.{Used}
+use Rattle.dwarf_units.specs.Private.Used.{Used, used_among}
 
 -- The value of a used attribute is stored if used attributes are.
 pub value-stored : (xs : List Attribute) (name : ℕ) → is_used name ≡ true
@@ -101,6 +104,17 @@ after-stored w offset depth tag all found are = by_flag (not (is_some w.root)) r
     by_flag true is are = rw are (rw (root-stored die) refl)
     by_flag false is are = rw (root-stays w.root (root_entry other) (root_entry die) is) refl
 
+-- The state after an entry whose used attributes are stored if there is no root yet.
+pub entry-stored : (w kept : WalkState) (at tag : ℕ) (all : List Attribute) (used : Used)
+    (rooted : Bool) → rooted ≡ is_some w.root
+    → used ≡ used_among (stored_attributes (not rooted) all) → IsAfterEntry w kept at tag used
+    → kept ≡ after_die w (record
+    { offset = at; depth = w.depth; tag = tag; attributes = all })
+entry-stored w kept at tag all used rooted known stored is =
+    is (stored_attributes (not rooted) all) stored
+    ∙ after-stored w at w.depth tag all (stored_attributes (not rooted) all)
+    (ap (λ (r : Bool). stored_attributes (not r) all) known)
+
 -- A step returns the entry that is read, and stores its used attributes if there is no root yet.
 abbrev ReadsEntry : Format → List Declaration → WalkState → Bool → List ℕ → ℕ → ℕ → Option NodeHead
     → Used → Type 0
@@ -108,37 +122,26 @@ ReadsEntry format table w rooted unit at after found used =
     (all : List Attribute) × (node_at_depth format table w.depth rooted unit at
     ≡ Ok (node_of found all, after)) × HasStored (not rooted) found used all
 
--- The state after an entry that is read. The depth is not yet updated.
-entry-stored : (format : Format) (table : List Declaration) (w kept : WalkState) (unit : List ℕ)
-    (at after : ℕ) (head : NodeHead) (used : Used)
-    → ReadsEntry format table w (is_some w.root) unit at after (Some head) used
-    → IsAfterEntry w kept at head.tag used
-    → (state_at format table w unit at ≡ Ok
-    (record kept { depth = depth_after_entry head.children w.depth }, after))
-    × (kept.depth ≡ w.depth)
-entry-stored format table w kept unit at after head used read is =
-    let keep = not (is_some w.root) in
-    let all : kept ≡ after_die w (record
-    { offset = at; depth = w.depth; tag = head.tag; attributes = read.0 }) =
-    is (stored_attributes keep read.0) read.2 ∙ after-stored w at w.depth head.tag read.0
-    (stored_attributes keep read.0) refl in
-    (rw (read.1, all) refl, ap (λ (x : WalkState). x.depth) all)
+depth-bit : (children : Bool) (depth : ℕ)
+    → depth + from_bool children ≡ depth_after_entry children depth
+depth-bit true depth = refl
+depth-bit false depth = omega arith
 
--- The same for a step that has the offset of the entry and knows whether there is a root.
-pub step-stored : (format : Format) (table : List Declaration) (w kept : WalkState) (unit : List ℕ)
-    (at after : ℕ) (found : Option NodeHead) (head : NodeHead) (used : Used) (rooted : Bool)
-    (offset : ℕ)
-    → rooted ≡ is_some w.root → offset ≡ at → found ≡ Some head
-    → ReadsEntry format table w rooted unit at after found used
-    → IsAfterEntry w kept offset head.tag used
-    → (state_at format table w unit at ≡ Ok
-    (record kept { depth = depth_after_entry head.children w.depth }, after))
-    × (kept.depth ≡ w.depth)
-step-stored format table w kept unit at after found head used rooted offset known place is read
-    kept_is =
-    let first = subst (λ (r : Bool). ReadsEntry format table w r unit at after found used) known
-    read in
-    let second = subst (λ (f : Option NodeHead). ReadsEntry format table w (is_some w.root) unit at
-    after f used) is first in
-    entry-stored format table w kept unit at after head used second
-    (subst (λ (k : ℕ). IsAfterEntry w kept k head.tag used) place kept_is)
+-- The entry that is read with a cursor is added.
+pub entry-taken : (format : Format) (table : List Declaration) (w kept : WalkState)
+    (unit bytes : List ℕ) (at start after next depth : ℕ) (found : Option NodeHead)
+    (head : NodeHead) (used : Used) (rooted : Bool) (bitmap marked : EntryBitmap)
+    → rooted ≡ is_some w.root → bytes ≡ unit → start ≡ at → next ≡ after → found ≡ Some head
+    → ReadsEntry format table w rooted bytes start after found used
+    → IsAfterEntry w kept at head.tag used
+    → depth ≡ kept.depth + from_bool head.children → AddsOffsets bitmap marked (at ∷ [])
+    → Takes format table unit at w (record kept { depth = depth }) bitmap marked (Ok next)
+entry-taken format table w kept unit bytes at start after next depth found head used rooted bitmap
+    marked known same place moved some read is deep adds =
+    let here : ReadsEntry format table w rooted unit at next (Some head) used =
+    rw (same, place, ← moved, some) at read in
+    let kept_is = entry-stored w kept at head.tag here.0 used rooted known here.2 is in
+    let depth_is : depth ≡ depth_after_entry head.children w.depth =
+    deep ∙ (ap (λ (k : WalkState). k.depth + from_bool head.children) kept_is
+    ∙ depth-bit head.children w.depth) in
+    (Entry head.tag head.children here.0, rw known at here.1, (rw (kept_is, depth_is) refl, adds))

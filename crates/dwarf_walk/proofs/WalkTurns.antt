@@ -2,7 +2,7 @@
 use Rattle.std.proofs.Common.{◌≡◌, ℕ, ◌<◌, ◌≤◌, ◌⊎◌, inl, inr, List, [], ◌∷◌, ◌++◌, false}
 use Rattle.std.proofs.Common.{length, take, refl, ap, sym, ◌∙◌, subst, arith, length-take}
 use Rattle.std.proofs.Common.{append-nil}
-use Rattle.std.specs.Prelude.{is_some, Result, Ok, Err, nat_le}
+use Rattle.std.specs.Prelude.{Option, Some, None, is_some, Result, Ok, Err, nat_le, true}
 use Rattle.std.specs.List.{filter_map}
 use Rattle.std.proofs.lemmas.Bool.{lt-leb, le-leb}
 use Rattle.std.proofs.lemmas.List.{map-append}
@@ -14,7 +14,6 @@ use Rattle.dwarf_bytes.specs.declared.format.Format.{Format}
 use Rattle.dwarf_bytes.specs.Bind.{◌>>=◌}
 use Rattle.dwarf_bytes.specs.Items.{Item, End, Advances}
 use Rattle.dwarf_bytes.specs.Refusals.{memory_fault, at_item, in_section, Fails}
-use Rattle.dwarf_bytes.proofs.Numbers.Advance.{after-bind}
 use Rattle.dwarf_forms.specs.Declarations.{Declaration}
 use Rattle.dwarf_bytes.proofs.Numbers.Moves.{same-ok}
 use Rattle.dwarf_bytes.proofs.Items.Turns.{SoFar, so-far-none, so-far-item, so-far-end}
@@ -24,8 +23,9 @@ use Rattle.dwarf_units.specs.Entries.{Node, Entry, Null, LocatedNode, Die, die_o
 use Rattle.dwarf_units.specs.Entries.{node_at_depth, node_at}
 use Rattle.dwarf_walk.specs.Private.Stored.{root_in}
 use Rattle.dwarf_walk.specs.Private.Readers.{WalkState, state_after, after_node, nodes_of}
-use Rattle.dwarf_walk.specs.Private.Readers.{places_of, state_at, walk_of}
+use Rattle.dwarf_walk.specs.Private.Readers.{Takes, places_of, walk_of}
 use Rattle.dwarf_walk.specs.declared.entry_bitmap.EntryBitmap.{EntryBitmap}
+use Rattle.dwarf_walk.specs.declared.unit_entries.RootEntry.{RootEntry}
 use Rattle.dwarf_walk.specs.Private.EntryBitmap.{AddsOffsets, offsets_of}
 use Rattle.dwarf_walk.proofs.BitmapLaws.{adds-none, adds-more}
 use Rattle.dwarf_units.proofs.EntryAdvances.{node_at_depth-moves, node_at-advances}
@@ -94,63 +94,57 @@ offsets-push before at (Entry tag children attributes) =
     sym (map-append (λ (d : Die). d.offset) (filter_map die_of before) (die ∷ []))
     ∙ ap offsets_of (sym (dies-entry before at tag children attributes))
 
--- The bits that a step sets, given the nodes before it.
-abbrev AddsNode : UnitHeader → List Declaration → EntryBitmap → EntryBitmap → WalkState → List ℕ
-    → ℕ → Type 0
-AddsNode header table bitmap marked w unit at = (node : Node × ℕ)
-    → node_at_depth header.format table w.depth (is_some w.root) unit at ≡ Ok node
-    → AddsOffsets bitmap marked (places_of at node.0)
+-- There is a root if the depth is above 0.
+pub walk-rooted : (info : List ℕ) (header : UnitHeader) (table : List Declaration)
+    (bitmap marked : EntryBitmap) (at : ℕ) (w : WalkState)
+    → WalkSoFar info header table bitmap marked at w → 0 < w.depth → is_some w.root ≡ true
+walk-rooted info header table bitmap marked at w so_far below =
+    by_root (root_in (filter_map die_of so_far.before)) refl
+  where
+    by_root : (root : Option RootEntry) → root_in (filter_map die_of so_far.before) ≡ root
+        → is_some w.root ≡ true
+    by_root (Some r) is = rw (so_far.kept, is) refl
+    by_root None is = let outside = so_far.tree.outside is in
+        absurd (omega (arith, below, ap (λ (w : WalkState). w.depth) so_far.kept, outside))
 
 pub walk-item : (info : List ℕ) (header : UnitHeader) (table : List Declaration)
     (bitmap marked after : EntryBitmap) (unit : List ℕ) (at next : ℕ) (was is : WalkState)
     → unit ≡ take header.end info → at < length unit
-    → WalkSoFar info header table bitmap marked at was → state_at header.format table was unit at
-    ≡ Ok (is, next) → AddsNode header table marked after was unit at
+    → WalkSoFar info header table bitmap marked at was
+    → Takes header.format table unit at was is marked after (Ok next)
     → WalkTurn info header table bitmap after at next is
-walk-item info header table bitmap marked after unit at next was is same within so_far read adds =
+walk-item info header table bitmap marked after unit at next was is same within so_far taken =
     let before = so_far.before in
-    let depth : ℕ = depth_after before in
-    let adds_here : AddsNode header table marked after (state_after before) unit at =
-    subst (λ (w : WalkState). AddsNode header table marked after w unit at) so_far.kept adds in
-    let here : state_at header.format table (state_after before) unit at ≡ Ok (is, next) =
-    subst (λ (w : WalkState). state_at header.format table w unit at ≡ Ok (is, next)) so_far.kept
-    read in
-    after-bind (node_at_depth header.format table depth
-    (is_some (root_in (filter_map die_of before)))
-    unit at) _ (is, next) here (WalkTurn info header table bitmap after at next is)
-    (λ node node_is last.
-    let pair : (after_node (state_after before) at node.0, node.1) ≡ (is, next) =
-    same-ok (after_node (state_after before) at node.0, node.1) (is, next) last in
-    let kept : after_node (state_after before) at node.0 ≡ is = ap (λ (p : WalkState × ℕ). p.0) pair
-    in
-    let place : node.1 ≡ next = ap (λ (p : WalkState × ℕ). p.1) pair in
-    let moved = node_at_depth-moves header.format table depth
-    (is_some (root_in (filter_map die_of before))) unit at node node_is in
+    let node = taken.0 in
+    let node_is : node_at_depth header.format table (depth_after before)
+    (is_some (root_in (filter_map die_of before))) unit at ≡ Ok (node, next) =
+    subst (λ (w : WalkState). node_at_depth header.format table w.depth (is_some w.root) unit at
+    ≡ Ok (node, next)) so_far.kept taken.1 in
+    let moved = node_at_depth-moves header.format table (depth_after before)
+    (is_some (root_in (filter_map die_of before))) unit at (node, next) node_is in
     let item : node_at header.format table (take header.end info) before at
-    ≡ Ok (Item (standing before at node.0) node.1) =
+    ≡ Ok (Item (standing before at node) next) =
     subst (λ (u : List ℕ). node_at header.format table u before at
-    ≡ Ok (Item (standing before at node.0) node.1)) same
-    (after-is header.format table unit before at (Ok node) within so_far.tree node_is) in
+    ≡ Ok (Item (standing before at node) next)) same
+    (after-is header.format table unit before at (Ok (node, next)) within so_far.tree node_is) in
     record {
-      moves = omega (arith, moved.0, place);
-      within = omega (arith, moved.1, place, ap length same);
+      moves = moved.0;
+      within = omega (arith, moved.1, ap length same);
       walk_so = record {
-        before = before ++ standing before at node.0 ∷ [];
+        before = before ++ standing before at node ∷ [];
         marked_so =
             subst (λ (places : List ℕ). AddsOffsets bitmap after places)
-            (offsets-push before at node.0)
+            (offsets-push before at node)
             (adds-more bitmap marked after (offsets_of (filter_map die_of before))
-            (places_of at node.0) so_far.marked_so (adds_here node node_is));
-        kept = sym kept ∙ state_after-push before at node.0 so_far.tree;
-        tree = tree-push before at node.0 so_far.tree;
-        read =
-            subst (λ (k : ℕ). SoFar header.end (node_at header.format table (take header.end info))
-            header.first (before ++ standing before at node.0 ∷ []) k) place
-            (so-far-item header.end (node_at header.format table (take header.end info))
-            (advances info header table) header.first before at (standing before at node.0)
-            node.1 so_far.read item);
+            (places_of at node) so_far.marked_so taken.2.1);
+        kept = subst (λ (w : WalkState). is ≡ after_node w at node) so_far.kept taken.2.0
+            ∙ state_after-push before at node so_far.tree;
+        tree = tree-push before at node so_far.tree;
+        read = so-far-item header.end (node_at header.format table (take header.end info))
+            (advances info header table) header.first before at (standing before at node) next
+            so_far.read item;
       };
-    })
+    }
 
 pub walk-end : (info : List ℕ) (header : UnitHeader) (table : List Declaration)
     (bitmap marked : EntryBitmap) (place : ℕ) (w : WalkState) → length (take header.end info)
@@ -195,7 +189,7 @@ pub walk-fault : (info : List ℕ) (header : UnitHeader) (table : List Declarati
     (bitmap marked : EntryBitmap) (unit : List ℕ) (at : ℕ) (was : WalkState) (cause : Cause)
     (fault : LoadFault) → unit ≡ take header.end info → at < length unit
     → WalkSoFar info header table bitmap marked at was
-    → Fails cause (state_at header.format table was unit at)
+    → Fails cause (node_at_depth header.format table was.depth (is_some was.root) unit at)
     → fault ≡ at_item sections.DebugInfo cause at
     → (fault ≡ memory_fault) ⊎ (in_section sections.DebugInfo (walk_of info header table)
     ≡ Err fault)
@@ -208,25 +202,15 @@ walk-fault info header table bitmap marked unit at was cause fault same within s
     before : List LocatedNode
     before = so_far.before
 
-    behind_fault : (r : Result (Node × ℕ) Cause)
-        → (◌>>=◌ {B = WalkState × ℕ} r (λ node. Ok (
-          after_node (state_after before) at node.0,
-          node.1,
-        )))
-        ≡ Err cause → r ≡ Err cause
-    behind_fault (Ok node) h = cc
-    behind_fault (Err c) h = cc
-
-    here : state_at header.format table (state_after before) unit at ≡ Err cause
-    here = subst (λ (w : WalkState). state_at header.format table w unit at ≡ Err cause) so_far.kept
-        read
+    here : node_at_depth header.format table (depth_after before)
+        (is_some (root_in (filter_map die_of before))) unit at ≡ Err cause
+    here = subst (λ (w : WalkState). node_at_depth header.format table w.depth (is_some w.root)
+        unit at ≡ Err cause) so_far.kept read
 
     faulty : node_at header.format table (take header.end info) before at ≡ Err cause
     faulty =
         subst (λ (u : List ℕ). node_at header.format table u before at ≡ Err cause) same
-        (after-is header.format table unit before at (Err cause) within so_far.tree
-        (behind_fault (node_at_depth header.format table (depth_after before)
-        (is_some (root_in (filter_map die_of before))) unit at) here))
+        (after-is header.format table unit before at (Err cause) within so_far.tree here)
 
     refused : in_section sections.DebugInfo (walk_of info header table)
         ≡ Err (record { section = sections.DebugInfo; cause = cause; at = at })

@@ -1,6 +1,6 @@
 //! A bitmap of the offsets at which entries start, with one bit for each byte of the section.
 
-ghost use Rattle.std.specs.Prelude.{◌≡◌, ℕ, [], ◌∷◌, false, IfOk, OnOk};
+ghost use Rattle.std.specs.Prelude.{◌≡◌, ℕ, [], ◌∷◌, false, IfOk, OnOk, if◌then◌else◌};
 ghost use Rattle.dwarf_walk.specs.Private.EntryBitmap.{has_entry, AddsOffsets};
 
 use std::alloc::{AllocError, Global};
@@ -23,14 +23,15 @@ impl EntryBitmap {
         Ok(EntryBitmap { words })
     }
 
-    /// Sets the bit of an offset. Fails if the offset is beyond the last word.
-    pub(crate) fn add_offset(&mut self, place: usize) -> Result<(), AllocError>
-        ensures { OnOk result (AddsOffsets self.old self.new (place ∷ [])) }
+    /// Sets the bit of an offset if an entry is there. Fails if the offset is beyond the last word.
+    pub(crate) fn add_offset(&mut self, place: usize, is_entry: bool) -> Result<(), AllocError>
+        ensures { OnOk result (AddsOffsets self.old self.new
+            (if is_entry then place ∷ [] else [])) }
     {
         if place / WORD >= self.words.len() {
             return Err(AllocError);
         }
-        self.words[place / WORD] |= 1u64 << (place % WORD);
+        self.words[place / WORD] |= u64::from(is_entry) << (place % WORD);
         Ok(())
     }
 

@@ -1,6 +1,6 @@
 //! The walk over the entries of a unit (DWARF 5, 2.3, 7.5.2 and 7.5.3).
 
-ghost use Rattle.std.specs.Prelude.{◌≡◌, ◌≤◌, ℕ, List, [], None, Ok, IsSome, IfOk, OnOk, not, take};
+ghost use Rattle.std.specs.Prelude.{◌≡◌, ◌<◌, ◌≤◌, ℕ, List, [], length, None, Ok, IsSome, IfOk, OnOk, not, take};
 ghost use Rattle.dwarf_bytes.specs.declared.fault.Section.TheVariants as sections;
 ghost use Rattle.dwarf_bytes.specs.Refusals.{Decodes, in_section};
 ghost use Rattle.std.specs.List.{filter_map};
@@ -8,9 +8,8 @@ ghost use Rattle.dwarf_units.specs.Entries.{Die, LocatedNode, depth_limit, die_o
 ghost use Rattle.dwarf_units.specs.Entries.{entries_of};
 ghost use Rattle.dwarf_walk.specs.Private.Stored.{stored_of, stored_entries};
 ghost use Rattle.dwarf_walk.specs.Private.EntryBitmap.{AddsOffsets, offsets_of};
-ghost use Rattle.dwarf_walk.specs.Private.Readers.{IsAfterEntry, AddsNode, ReadsNode, state_of};
-ghost use Rattle.dwarf_walk.specs.Private.Readers.{state_at, nodes_of, walk_of};
-ghost use Rattle.dwarf_units.specs.Private.Plans.{Fills};
+ghost use Rattle.dwarf_walk.specs.Private.Readers.{IsAfterEntry, ReadsNode, Takes, state_of};
+ghost use Rattle.dwarf_walk.specs.Private.Readers.{nodes_of, walk_of};
 
 use crate::descendants::{WalkedScope, count_descendants};
 use crate::entry_bitmap::EntryBitmap;
@@ -78,34 +77,33 @@ impl Walk {
         }
     }
 
-    /// Reads the entry or null entry at the cursor, and sets the bit of an entry in `bitmap`.
-    /// `found` is a buffer for its used attributes.
+    /// Reads the entry or null entry at an offset of a unit with a cursor and returns the offset
+    /// after it. Sets the bit of an entry in `bitmap`. `found` is a buffer for its used attributes.
+    // Not inlined: it is rare, and its code would slow down the caller.
+    #[inline(never)]
     pub(crate) fn step(
         &mut self,
         table: &UnitTable<'_>,
         bitmap: &mut EntryBitmap,
-        cursor: &mut Cursor,
+        unit: &[u8],
+        place: usize,
         found: &mut UsedAttributes,
-    ) -> Result<(), Cause>
-        ensures fills { Fills result (state_of self.new)
-            (state_at table.now.format table.now.declarations
-            (state_of self.old)) cursor.old cursor.new }
-        ensures bitmap { OnOk result (AddsNode table.now cursor.old.bytes cursor.old.place
-            (state_of self.old) bitmap.old bitmap.new) }
+    ) -> Result<usize, Cause>
+        requires { place < length unit.now }
+        ensures { Takes table.now.format table.now.declarations unit.now place
+            (state_of self.old) (state_of self.new) bitmap.old bitmap.new result }
     {
-        let offset = cursor.place();
+        let mut cursor = Cursor::new(unit);
+        cursor.seek(place)?;
         let rooted = self.root.is_some();
-        match node(table, self.depth, rooted, cursor, found)? {
-            None => self.depth = self.depth.saturating_sub(1),
-            Some(head) => {
-                bitmap.add_offset(offset)?;
-                self.keep(offset, head.tag, found)?;
-                if head.children {
-                    self.depth += 1;
-                }
-            }
-        }
-        Ok(())
+        let Some(head) = node(table, self.depth, rooted, &mut cursor, found)? else {
+            self.depth = self.depth.saturating_sub(1);
+            return Ok(cursor.place());
+        };
+        bitmap.add_offset(place, true)?;
+        self.keep(place, head.tag, found)?;
+        self.depth += u32::from(head.children);
+        Ok(cursor.place())
     }
 
     /// Stores the data of the entry at an offset, given its used attributes.
@@ -117,7 +115,7 @@ impl Walk {
         if self.root.is_none() {
             self.root = Some(RootEntry::of(offset, found));
         }
-        self.add_scope(offset, tag)
+        self.add_scope(offset, tag, false)
     }
 }
 

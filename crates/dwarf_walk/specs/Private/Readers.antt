@@ -7,7 +7,7 @@ use Rattle.dwarf_bytes.specs.declared.format.Format.{Format}
 use Rattle.dwarf_bytes.specs.Bind.{◌>>=◌}
 use Rattle.dwarf_bytes.specs.Items.{At, items_from}
 use Rattle.dwarf_bytes.specs.Position.{Position}
-use Rattle.dwarf_bytes.specs.Refusals.{Fails, Gives}
+use Rattle.dwarf_bytes.specs.Refusals.{Fails}
 use Rattle.dwarf_forms.specs.Declarations.{Declaration}
 use Rattle.dwarf_units.specs.declared.attributes.Attribute.{Attribute}
 use Rattle.dwarf_walk.specs.declared.walk.NodeHead.{NodeHead}
@@ -21,7 +21,7 @@ use Rattle.dwarf_units.specs.Entries.{node_at_depth, node_at}
 use Rattle.dwarf_walk.specs.Private.WalkedScopes.{walked_scope, walked_scopes}
 use Rattle.dwarf_walk.specs.Private.WalkedScopes.{least_after_entry, least_after}
 use Rattle.dwarf_walk.specs.Private.Stored.{root_entry, root_in}
-use Rattle.dwarf_units.specs.Private.Plans.{Table, stored_attributes}
+use Rattle.dwarf_units.specs.Private.Plans.{stored_attributes}
 use Rattle.dwarf_units.specs.Private.Used.{Used, used_among}
 use Rattle.dwarf_walk.specs.References.{or_else}
 use Rattle.dwarf_walk.specs.Private.EntryBitmap.{AddsOffsets}
@@ -128,24 +128,20 @@ abbrev pub places_of : ℕ → Node → List ℕ
 places_of at (Entry tag children attributes) = at ∷ []
 places_of at Null = []
 
--- The state after the node at an offset of a unit, and the offset after the node.
-abbrev pub state_at : Format → List Declaration → WalkState → List ℕ → ℕ
-    → Result (WalkState × ℕ) Cause
-state_at format table w unit at =
-    node_at_depth format table w.depth (is_some w.root) unit at
-    >>= λ node. Ok (after_node w at node.0, node.1)
+-- The node at an offset is added: the state is updated, and the bit of an entry is set.
+abbrev pub AddsNode : ℕ → Node → WalkState → WalkState → EntryBitmap → EntryBitmap → Type 0
+AddsNode at node old new bitmap marked =
+    (new ≡ after_node old at node) × AddsOffsets bitmap marked (places_of at node)
 
--- A call reads the node at an offset of a unit: it updates the state and returns the offset after
--- the node.
-abbrev pub Takes : Table → List ℕ → ℕ → WalkState → WalkState → Result ℕ Cause → Type 0
-Takes table unit place old new result = Gives (λ after. (new, after)) result
-    (state_at table.format table.declarations old unit place)
-
--- If the node is an entry, its offset is added to the bitmap.
-abbrev pub AddsNode : Table → List ℕ → ℕ → WalkState → EntryBitmap → EntryBitmap → Type 0
-AddsNode table unit place w old new = (node : Node × ℕ)
-    → node_at_depth table.format table.declarations w.depth (is_some w.root) unit place ≡ Ok node
-    → AddsOffsets old new (places_of place node.0)
+-- A call reads and adds the node at an offset of a unit, and returns the offset after the node. It
+-- may also fail because memory ran out.
+abbrev pub Takes : Format → List Declaration → List ℕ → ℕ → WalkState → WalkState → EntryBitmap
+    → EntryBitmap → Result ℕ Cause → Type 0
+Takes format table unit at old new bitmap marked (Ok after) = (node : Node)
+    × (node_at_depth format table old.depth (is_some old.root) unit at ≡ Ok (node, after))
+    × AddsNode at node old new bitmap marked
+Takes format table unit at old new bitmap marked (Err cause) =
+    Fails cause (node_at_depth format table old.depth (is_some old.root) unit at)
 
 -- All nodes of a unit.
 abbrev pub nodes_of : List ℕ → UnitHeader → List Declaration → Result (List LocatedNode × ℕ) At

@@ -1,12 +1,16 @@
-use Rattle.std.proofs.Common.{◌≡◌, ℕ, subst, ap, arith, length}
+use Rattle.std.proofs.Common.{subst, ap, arith, length}
 use Rattle.std.specs.Prelude.{Ok, is_some}
 use Rattle.dwarf_bytes.specs.declared.format.Format.{Format}
 use Rattle.dwarf_bytes.specs.Refusals.{Fails}
-use Rattle.dwarf_units.specs.Entries.{Node, node_at_depth}
-use Rattle.dwarf_walk.specs.Private.EntryBitmap.{AddsOffsets}
-use Rattle.dwarf_walk.specs.Private.Readers.{places_of, state_of, state_at}
-use Rattle.dwarf_walk.proofs.WalkTurns.{walk-item, walk-end, walk-bitmap, walk-fault}
+use Rattle.dwarf_units.specs.Entries.{node_at_depth}
+use Rattle.dwarf_walk.specs.Private.Readers.{Takes, state_of}
+use Rattle.dwarf_walk.proofs.WalkTurns.{walk-item, walk-end, walk-bitmap, walk-fault, walk-rooted}
 use Rattle.dwarf_walk.proofs.walk.walk_unit.Goals as goal
+
+pub read_node-requires-clause-rooted : goal.read_node-requires-clause-rooted
+read_node-requires-clause-rooted c below =
+    walk-rooted c.args.info.now c.args.header c.args.table.now.declarations c.args.bitmap.now
+    c.loop-place.bitmap c.loop-place.place (state_of c.loop-place.walk) c.loop-place.invariant below
 
 pub returns-in-Err-clause-decodes : goal.returns-in-Err-clause-decodes
 returns-in-Err-clause-decodes c =
@@ -15,8 +19,9 @@ returns-in-Err-clause-decodes c =
     (state_of c.loop-place.walk) c.in-Err.cause c.at_item.result c.unit_bytes-unit.ensures
     c.loop-place-test.true c.loop-place.invariant
     (subst (λ (f : Format). Fails c.in-Err.cause
-    (state_at f c.args.table.now.declarations (state_of c.loop-place.walk)
-    c.unit_bytes-unit.result.now c.loop-place.place)) c.requires c.in-Err.ensures.walks)
+    (node_at_depth f c.args.table.now.declarations c.loop-place.walk.depth
+    (is_some c.loop-place.walk.root) c.unit_bytes-unit.result.now c.loop-place.place))
+    c.requires c.in-Err.ensures)
     c.at_item.ensures
 
 pub loop-place-smaller : goal.loop-place-smaller
@@ -25,14 +30,9 @@ loop-place-smaller c =
     c.args.bitmap.now c.loop-place.bitmap c.read_node.new.bitmap c.unit_bytes-unit.result.now
     c.loop-place.place c.in-Ok.after (state_of c.loop-place.walk) (state_of c.read_node.new.self)
     c.unit_bytes-unit.ensures c.loop-place-test.true c.loop-place.invariant
-    (subst (λ (f : Format). state_at f c.args.table.now.declarations (state_of c.loop-place.walk)
-    c.unit_bytes-unit.result.now c.loop-place.place
-    ≡ Ok (state_of c.read_node.new.self, c.in-Ok.after)) c.requires c.in-Ok.ensures.walks)
-    (subst (λ (f : Format). (node : Node × ℕ)
-    → node_at_depth f c.args.table.now.declarations c.loop-place.walk.depth
-    (is_some c.loop-place.walk.root) c.unit_bytes-unit.result.now c.loop-place.place ≡ Ok node
-    → AddsOffsets c.loop-place.bitmap c.read_node.new.bitmap (places_of c.loop-place.place node.0))
-    c.requires c.in-Ok.ensures.bitmap) in
+    (subst (λ (f : Format). Takes f c.args.table.now.declarations c.unit_bytes-unit.result.now
+    c.loop-place.place (state_of c.loop-place.walk) (state_of c.read_node.new.self)
+    c.loop-place.bitmap c.read_node.new.bitmap (Ok c.in-Ok.after)) c.requires c.in-Ok.ensures) in
     omega (arith, turn.moves, turn.within, ap length c.unit_bytes-unit.ensures)
 
 pub loop-place-preserved : goal.loop-place-preserved
@@ -41,14 +41,9 @@ loop-place-preserved c =
     c.args.bitmap.now c.loop-place.bitmap c.read_node.new.bitmap c.unit_bytes-unit.result.now
     c.loop-place.place c.in-Ok.after (state_of c.loop-place.walk) (state_of c.read_node.new.self)
     c.unit_bytes-unit.ensures c.loop-place-test.true c.loop-place.invariant
-    (subst (λ (f : Format). state_at f c.args.table.now.declarations (state_of c.loop-place.walk)
-    c.unit_bytes-unit.result.now c.loop-place.place
-    ≡ Ok (state_of c.read_node.new.self, c.in-Ok.after)) c.requires c.in-Ok.ensures.walks)
-    (subst (λ (f : Format). (node : Node × ℕ)
-    → node_at_depth f c.args.table.now.declarations c.loop-place.walk.depth
-    (is_some c.loop-place.walk.root) c.unit_bytes-unit.result.now c.loop-place.place ≡ Ok node
-    → AddsOffsets c.loop-place.bitmap c.read_node.new.bitmap (places_of c.loop-place.place node.0))
-    c.requires c.in-Ok.ensures.bitmap) in
+    (subst (λ (f : Format). Takes f c.args.table.now.declarations c.unit_bytes-unit.result.now
+    c.loop-place.place (state_of c.loop-place.walk) (state_of c.read_node.new.self)
+    c.loop-place.bitmap c.read_node.new.bitmap (Ok c.in-Ok.after)) c.requires c.in-Ok.ensures) in
     turn.walk_so
 
 pub returns-clause-decodes : goal.returns-clause-decodes

@@ -1,30 +1,18 @@
-use Rattle.std.proofs.Common.{ℕ, refl, ap, sym}
-use Rattle.std.specs.Prelude.{Ok}
+use Rattle.std.proofs.Common.{◌∙◌, ◌+◌, ap, ℕ}
+use Rattle.dwarf_bytes.specs.Position.{Position}
 use Rattle.dwarf_walk.specs.Private.Readers.{state_of}
-use Rattle.dwarf_walk.proofs.StoredNodes.{step-stored}
+use Rattle.dwarf_walk.proofs.StoredNodes.{entry-taken}
 use Rattle.dwarf_walk.proofs.walk.Walk.step.Goals as goal
 
-pub returns-then-head-clause-fills : goal.returns-then-head-clause-fills
-returns-then-head-clause-fills c =
-    let w = state_of c.args.self.now in
-    let kept = state_of c.keep.new.self in
-    let state_after = step-stored c.args.table.now.format c.args.table.now.declarations w kept
-    c.args.cursor.now.bytes c.args.cursor.now.place c.node.new.cursor.place c.in_ok-node.field-0
-    c.in-Some.head c.node.new.found c.is_some-rooted.result c.place-offset.result
-    c.is_some-rooted.ensures c.place-offset.ensures.place c.in-Some.is c.in_ok-node.ensures.reads.0
-    c.in_ok-keep-in-Some.ensures in
-    (rw (state_after.0, c.if-head.true, state_after.1) refl, c.in_ok-node.ensures.reads.1)
-
-pub returns-else-head-clause-fills : goal.returns-else-head-clause-fills
-returns-else-head-clause-fills c =
-    let w = state_of c.args.self.now in
-    let kept = state_of c.keep.new.self in
-    let state_after = step-stored c.args.table.now.format c.args.table.now.declarations w kept
-    c.args.cursor.now.bytes c.args.cursor.now.place c.node.new.cursor.place c.in_ok-node.field-0
-    c.in-Some.head c.node.new.found c.is_some-rooted.result c.place-offset.result
-    c.is_some-rooted.ensures c.place-offset.ensures.place c.in-Some.is c.in_ok-node.ensures.reads.0
-    c.in_ok-keep-in-Some.ensures in (
-      rw (state_after.0, c.if-head.false) (ap (λ (d : ℕ). Ok
-          (record kept { depth = d }, c.node.new.cursor.place)) (sym state_after.1)),
-      c.in_ok-node.ensures.reads.1,
-    )
+pub returns : goal.returns
+returns c =
+    entry-taken c.args.table.now.format c.args.table.now.declarations (state_of c.args.self.now)
+    (state_of c.keep.new.self) c.args.unit.now c.seek.new.self.bytes c.args.place
+    c.seek.new.self.place c.node.new.cursor.place c.place-2.result _ c.in_ok-head.field-0
+    c.in-Some.head c.node.new.found c.is_some-rooted.result c.args.bitmap.now
+    c.add_offset.new.self c.is_some-rooted.ensures
+    (ap (λ (p : Position). p.bytes) c.in_ok-seek.ensures.ok
+    ∙ ap (λ (p : Position). p.bytes) c.new-cursor.ensures)
+    (ap (λ (p : Position). p.place) c.in_ok-seek.ensures.ok) c.place-2.ensures.place c.in-Some.is
+    c.in_ok-head.ensures.reads.0 c.in_ok-keep.ensures (ap (λ (n : ℕ). c.keep.new.self.depth + n) c.from.ensures)
+    c.in_ok-add_offset.ensures

@@ -1,0 +1,83 @@
+-- Nodes of a fixed size: null entries, and entries whose attributes all have a fixed size.
+use Rattle.std.specs.Prelude.{◌≡◌, ℕ, ◌+◌, min, List, [], ◌∷◌, length, true, false, ◌==◌}
+use Rattle.std.specs.Prelude.{◌||◌, nat_lt, nat_le, Option, Some, None, Ok, if◌then◌else◌}
+use Rattle.std.specs.Prelude.{option_and_then, option_map, slice_get}
+use Rattle.dwarf_bytes.specs.declared.format.Format.{Format}
+use Rattle.dwarf_forms.specs.declared.attribute.AttributeSpecification.{AttributeSpecification}
+use Rattle.dwarf_forms.specs.declared.memoized_lists.MemoizedAttribute.{MemoizedAttribute}
+use Rattle.dwarf_forms.specs.declared.shared.TheConstants.{UNSHARED}
+use Rattle.dwarf_forms.specs.Declarations.{Declaration}
+use Rattle.dwarf_forms.specs.Private.SharedTables.{AreShared, SharedDeclaration, full_declarations}
+use Rattle.dwarf_units.specs.declared.node_shape.NodeShape.{NodeShape}
+use Rattle.dwarf_units.specs.Entries.{Node, Entry, Null, declaration_of, depth_limit, node_at_depth}
+use Rattle.dwarf_units.specs.Private.Plans.{Table, fixed_len, skip_limit}
+
+-- The sum of a size and the sizes of attributes, if they are fixed and no sum exceeds 65,535.
+unfoldable pub fixed_size_from : Format → ℕ → List AttributeSpecification → Option ℕ
+fixed_size_from format n [] = Some n
+fixed_size_from format n (s ∷ ss) =
+    option_and_then (λ m. if nat_le (n + m) skip_limit
+    then fixed_size_from format (n + m) ss else None) (fixed_len format s)
+
+-- The shape of a null entry.
+abbrev pub null_shape : NodeShape
+null_shape = record { is_null = true; tag = 0; children = false; len = 1 }
+
+-- The shape of the entries of a declaration that has too few attributes to share any.
+abbrev pub shape_of : Format → Declaration → Option NodeShape
+shape_of format d = if nat_lt (length d.attributes) UNSHARED then
+    option_map (λ len. record {
+      is_null = false;
+      tag = d.tag;
+      children = d.children;
+      len = len;
+    }) (fixed_size_from format 1 d.attributes) else None
+
+-- The shape of the nodes with a code.
+abbrev pub shape_of_code : Format → List Declaration → ℕ → Option NodeShape
+shape_of_code format table code = if code == 0 then Some null_shape
+    else option_and_then (shape_of format) (declaration_of table code)
+
+-- The greatest code that is encoded in one byte.
+abbrev pub code_limit : ℕ
+code_limit = 127
+
+-- The number of codes, from 0 on, whose shapes are precomputed: the codes of one byte, up to the
+-- number of declarations.
+abbrev pub shape_count : {D : Type 0} → List D → ℕ
+shape_count declarations = min (length declarations) code_limit + 1
+
+-- The list contains the shapes of the first codes, from 0 on.
+pub record AreShapes (format : Format) (declarations : List SharedDeclaration) (count : ℕ)
+    (shapes : List (Option NodeShape)) : Type 0 where
+  pub len : length shapes ≡ count
+  pub each : (memoized : List MemoizedAttribute) → AreShared memoized declarations → (code : ℕ)
+      (shape : Option NodeShape) → slice_get shapes code ≡ Some shape
+      → shape ≡ shape_of_code format (full_declarations memoized declarations) code
+
+-- The shape of the nodes with a code, if it is precomputed.
+abbrev pub shape_at : Table → ℕ → Option NodeShape
+shape_at table code = if nat_lt code (shape_count table.declarations)
+    then shape_of_code table.format table.declarations code else None
+
+-- The shape of the node at an offset of a unit and the offset after the node, if the shape is
+-- precomputed, the node is at a depth below the root, and it is not truncated.
+unfoldable pub fixed_size_node_at : Table → ℕ → List ℕ → ℕ → Option (NodeShape × ℕ)
+fixed_size_node_at table depth unit at =
+    if (depth == 0) || nat_lt depth_limit depth then None else
+    option_and_then (λ code. option_and_then (λ shape.
+    if nat_lt (length unit) (at + shape.len) then None else Some (shape, at + shape.len))
+    (shape_at table code)) (slice_get unit at)
+
+-- The node has this shape.
+abbrev pub HasShape : NodeShape → Node → Type 0
+HasShape shape Null = shape ≡ null_shape
+HasShape shape (Entry tag children attributes) =
+    (shape.is_null ≡ false) × (shape.tag ≡ tag) × (shape.children ≡ children)
+
+-- A node of this shape is at the offset, at this depth and after the root, and ends at the returned
+-- offset.
+abbrev pub IsFixedSizeNode : Table → ℕ → List ℕ → ℕ → NodeShape × ℕ → Type 0
+IsFixedSizeNode table depth unit at found = (node : Node)
+    × (node_at_depth table.format table.declarations depth true unit at ≡ Ok (node, found.1))
+    × HasShape found.0 node
