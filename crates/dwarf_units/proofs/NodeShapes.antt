@@ -5,7 +5,8 @@ use Rattle.std.specs.Prelude.{Option, Some, None, Result, Ok, Err, nat_lt, nat_l
 use Rattle.std.specs.Prelude.{drop, find, option_and_then, option_map, slice_get}
 use Rattle.std.proofs.lemmas.Bool.{le-ltb, ltb-true, ne_eqb}
 use Rattle.std.proofs.lemmas.List.{drop_more}
-use Rattle.std.proofs.lemmas.Option.{get_or_from_slice_get, same_Some, slice_get_within}
+use Rattle.std.proofs.lemmas.Option.{get_or_from_slice_get, option_and_then_some, same_Some}
+use Rattle.std.proofs.lemmas.Option.{slice_get_within}
 use Rattle.dwarf_bytes.specs.declared.fault.Cause.{Cause}
 use Rattle.dwarf_bytes.specs.declared.fault.Cause.TheVariants as causes
 use Rattle.dwarf_bytes.specs.declared.format.Format.{Format}
@@ -21,7 +22,7 @@ use Rattle.dwarf_forms.proofs.Elements.{at-last}
 use Rattle.dwarf_units.specs.declared.attributes.Attribute.{Attribute}
 use Rattle.dwarf_units.specs.declared.node_shape.NodeShape.{NodeShape}
 use Rattle.dwarf_units.specs.Entries.{Entry, Null, attribute_at, attributes_at, declaration_of}
-use Rattle.dwarf_units.specs.Entries.{depth_limit, node_at_depth}
+use Rattle.dwarf_units.specs.Entries.{depth_limit}
 use Rattle.dwarf_units.specs.Private.NodeShapes.{AreShapes, IsFixedSizeNode, code_limit}
 use Rattle.dwarf_units.specs.Private.NodeShapes.{fixed_size_from, null_shape, shape_at, shape_count}
 use Rattle.dwarf_units.specs.Private.NodeShapes.{shape_of, shape_of_code}
@@ -149,85 +150,55 @@ one-byte bytes at code there small = uleb-again bytes at code (at + 1) (record {
   next_is = refl;
 })
 
--- The entry of a declaration, given its attributes.
-entry-there : (table : Table) (declaration : Declaration) (depth code : ℕ) (unit : List ℕ)
-    (at after : ℕ) (attributes : List Attribute) → declaration_of table.declarations code
-    ≡ Some declaration → (code == 0) ≡ false → 0 < depth → depth ≤ depth_limit
-    → uleb_at unit at ≡ Ok (code, at + 1)
-    → attributes_at table.format declaration.attributes unit (at + 1) ≡ Ok (attributes, after)
-    → node_at_depth table.format table.declarations depth true unit at
-    ≡ Ok (Entry declaration.tag declaration.children attributes, after)
-entry-there table declaration depth code unit at after attributes found some below within coded
-    read =
-    let deeper : (depth == 0) ≡ false = ne_eqb depth 0 (λ e. absurd (omega (arith, e, below))) in
-    rw (coded, some, found, deeper, le-ltb depth_limit depth within, read) refl
+test-some : {A : Type 0} (b : Bool) (o : Option A) (x : A) → cond b o None ≡ Some x
+    → (b ≡ true) × (o ≡ Some x)
+test-some true o x h = (refl, h)
+test-some false o x h = cc
+
+map-some : {A B : Type 0} (f : A → B) (o : Option A) (y : B) → option_map f o ≡ Some y
+    → (x : A) × (o ≡ Some x) × (f x ≡ y)
+map-some f None y h = cc
+map-some f (Some x) y h = (x, refl, same_Some (f x) y h)
 
 pub shape-there : (table : Table) (depth code : ℕ) (unit : List ℕ) (at : ℕ) (shape : NodeShape)
     → shape_at table code ≡ Some shape → slice_get unit at ≡ Some code → 0 < depth
     → depth ≤ depth_limit → at + shape.len ≤ length unit
     → IsFixedSizeNode table depth unit at (shape, at + shape.len)
 shape-there table depth code unit at shape is there below within fits =
-    by_count (nat_lt code (shape_count table.declarations)) refl is
+    by_code (code == 0) refl few.1
   where
+    few : (nat_lt code (shape_count table.declarations) ≡ true)
+        × (shape_of_code table.format table.declarations code ≡ Some shape)
+    few = test-some (nat_lt code (shape_count table.declarations))
+        (shape_of_code table.format table.declarations code) shape is
+
+    coded : uleb_at unit at ≡ Ok (code, at + 1)
+    coded = one-byte unit at code there
+        (omega (arith, ltb-true code (shape_count table.declarations) few.0))
+
     IsThere : NodeShape → Type 0
     IsThere s = IsFixedSizeNode table depth unit at (s, at + s.len)
 
-    by_size : (d : Declaration) → declaration_of table.declarations code ≡ Some d
-        → (code == 0) ≡ false → uleb_at unit at ≡ Ok (code, at + 1) → (size : Option ℕ)
-        → fixed_size_from table.format 1 d.attributes ≡ size
-        → option_map (λ len. (let s : NodeShape = record {
-          is_null = false;
-          tag = d.tag;
-          children = d.children;
-          len = len;
-        } in s)) size ≡ Some shape → IsThere shape
-    by_size d found some coded None sized h = cc
-    by_size d found some coded (Some len) sized h =
-        let s : NodeShape =
-        record { is_null = false; tag = d.tag; children = d.children; len = len } in
-        let same : s ≡ shape = same_Some s shape h in
-        let size : len ≡ shape.len = ap (λ (x : NodeShape). x.len) same in
-        let read = (have-size table.format 1 d.attributes len sized).1 unit at
+    by_found : (code == 0) ≡ false → (d : Declaration)
+        → declaration_of table.declarations code ≡ Some d
+        → shape_of table.format d ≡ Some shape → IsThere shape
+    by_found some d found h =
+        let short = test-some (nat_lt (length d.attributes) UNSHARED) _ shape h in
+        let sized = map-some _ (fixed_size_from table.format 1 d.attributes) shape short.1 in
+        let size : sized.0 ≡ shape.len = ap (λ (x : NodeShape). x.len) sized.2 in
+        let read = (have-size table.format 1 d.attributes sized.0 sized.1).1 unit at
         (omega (arith, size, fits)) in
-        subst IsThere same (
+        let deeper : (depth == 0) ≡ false = ne_eqb depth 0 (λ e. absurd (omega (arith, e, below)))
+        in subst IsThere sized.2 (
           Entry d.tag d.children read.0,
-          entry-there table d depth code unit at (at + len) read.0 found some below within coded
-              read.1,
+          rw (coded, some, found, deeper, le-ltb depth_limit depth within, read.1) refl,
           (refl, refl, refl),
         )
 
-    by_long : (d : Declaration) → declaration_of table.declarations code ≡ Some d
-        → (code == 0) ≡ false → uleb_at unit at ≡ Ok (code, at + 1) → (b : Bool)
-        → cond b (option_map (λ len. (let s : NodeShape = record {
-          is_null = false;
-          tag = d.tag;
-          children = d.children;
-          len = len;
-        } in s)) (fixed_size_from table.format 1 d.attributes)) None ≡ Some shape → IsThere shape
-    by_long d found some coded true h =
-        by_size d found some coded (fixed_size_from table.format 1 d.attributes) refl h
-    by_long d found some coded false h = cc
-
-    by_found : (code == 0) ≡ false → uleb_at unit at ≡ Ok (code, at + 1)
-        → (found : Option Declaration) → declaration_of table.declarations code ≡ found
-        → option_and_then (shape_of table.format) found ≡ Some shape → IsThere shape
-    by_found some coded None found h = cc
-    by_found some coded (Some d) found h =
-        by_long d found some coded (nat_lt (length d.attributes) UNSHARED) h
-
-    by_code : uleb_at unit at ≡ Ok (code, at + 1) → (b : Bool) → (code == 0) ≡ b
+    by_code : (b : Bool) → (code == 0) ≡ b
         → cond b (Some null_shape) (option_and_then (shape_of table.format)
         (declaration_of table.declarations code)) ≡ Some shape → IsThere shape
-    by_code coded true zero h =
+    by_code true zero h =
         subst IsThere (same_Some null_shape shape h) (Null, rw (coded, zero) refl, refl)
-    by_code coded false some h =
-        by_found some coded (declaration_of table.declarations code) refl h
-
-    by_count : (b : Bool) → nat_lt code (shape_count table.declarations) ≡ b
-        → cond b (shape_of_code table.format table.declarations code) None ≡ Some shape
-        → IsThere shape
-    by_count true few h =
-        let small : code ≤ code_limit =
-        omega (arith, ltb-true code (shape_count table.declarations) few) in
-        by_code (one-byte unit at code there small) (code == 0) refl h
-    by_count false few h = cc
+    by_code false some h = option_and_then_some (shape_of table.format)
+        (declaration_of table.declarations code) shape h (by_found some)
