@@ -85,7 +85,7 @@ fn later_row(rows: &[Row], has_all: bool, row: usize) -> Option<usize>
 }
 
 impl<'a> RowStarts<'a> {
-    /// Begins at the first row of an order that has `len` rows.
+    /// Begins at the first row of an order. `len` is the number of rows that are read from it.
     fn new(rows: &'a [Row], order: Vec<u32>, has_all: bool, len: usize) -> RowStarts<'a>
         requires few { length rows.now < 2 ^ 32 }
         requires len { len ≡ length (rows_in has_all rows.now order.items) }
@@ -104,8 +104,9 @@ impl<'a> RowStarts<'a> {
         }
     }
 
-    /// Returns the starts of the rows that cover addresses, in ascending order. If no sequences
-    /// overlap, only the first row of each sequence is stored.
+    /// Returns the starts of the rows that cover addresses, in ascending order. Stores only the
+    /// first row of each sequence, unless a row of one sequence starts between two rows of another.
+    /// Then it sorts all rows. The stable sort exploits that most of them are in order already.
     pub(crate) fn of(alloc: Global, rows: &'a [Row]) -> Result<RowStarts<'a>, AllocError>
         requires few { length rows.now < 2 ^ 32 }
         ensures permutation { IfOk result (λ r. IsPermutation
