@@ -5,7 +5,6 @@ pub mod DigitLaws
 pub mod DigitPlaces
 pub mod EndLaws
 pub mod EndTurns
-pub mod FlatPermutations
 pub mod MergeLaws
 pub mod MergeRests
 pub mod NextEnds
@@ -16,6 +15,7 @@ pub mod RangeCountLaws
 pub mod RangeEnds
 pub mod RowCursorLaws
 pub mod RowOrderLaws
+pub mod RowRunLaws
 pub mod RowStartLaws
 pub mod StartDigits
 pub mod StartListLaws

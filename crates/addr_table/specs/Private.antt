@@ -7,6 +7,7 @@ pub mod Merged
 pub mod OpenEnds
 pub mod Parents
 pub mod RowOrder
+pub mod RowRuns
 pub mod Scans
 pub mod Segments
 pub mod StartLists

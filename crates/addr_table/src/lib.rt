@@ -20,6 +20,7 @@ mod path;
 mod place;
 mod range_counts;
 mod row_order;
+mod row_runs;
 mod row_starts;
 mod scan;
 mod scopes;

@@ -1,7 +1,7 @@
 //! The rows that cover addresses, sequence by sequence.
 
-ghost use Rattle.std.specs.Prelude.{◌≡◌, ◌∷◌, [], ◌+◌, ◌<◌, ◌^◌, false, length, IfOk, MatchOption};
-ghost use Rattle.addr_table.specs.Private.RowOrder.{covering_from, covers_at, sequence_at, rows_in};
+ghost use Rattle.std.specs.Prelude.{◌≡◌, ◌∷◌, [], ◌+◌, ◌<◌, ◌^◌, length, IfOk, MatchOption};
+ghost use Rattle.addr_table.specs.Private.RowOrder.{covering_from, covers_at, sequence_at};
 ghost use Rattle.addr_table.specs.Private.RowOrder.{row_address};
 
 use crate::packed::narrow;
@@ -42,32 +42,16 @@ pub(crate) fn first_covering(rows: &[Row], from: usize) -> Option<usize>
     None
 }
 
-/// Returns the number of rows that cover addresses.
-pub(crate) fn count_covering(rows: &[Row]) -> usize
-    ensures { result ≡ length (covering_from 0 rows.now) }
-{
-    let mut covering = 0;
-    for number in 0..rows.len() {
-        covering += usize::from(covers(rows, number));
-    }
-    covering
-}
-
-/// Returns the first row that covers addresses of each sequence that has one.
-pub(crate) fn sequence_starts(alloc: Global, rows: &[Row]) -> Result<Vec<u32>, AllocError>
+/// Returns the rows that cover addresses, in the order of the line program.
+pub(crate) fn covering_rows(alloc: Global, rows: &[Row]) -> Result<Vec<u32>, AllocError>
     requires { length rows.now < 2 ^ 32 }
-    ensures { IfOk result
-        (λ starts. rows_in false rows.now starts.items ≡ covering_from 0 rows.now) }
+    ensures { IfOk result (λ covering. covering.items ≡ covering_from 0 rows.now) }
 {
-    let mut starts = Vec::new(alloc);
-    let mut is_first = true;
+    let mut covering = Vec::with_capacity(alloc, rows.len())?;
     for number in 0..rows.len() {
-        if is_first {
-            if let Some(row) = first_covering(rows, number) {
-                starts.push(narrow(row))?;
-            }
+        if covers(rows, number) {
+            covering.push(narrow(number))?;
         }
-        is_first = rows[number].end;
     }
-    Ok(starts)
+    Ok(covering)
 }

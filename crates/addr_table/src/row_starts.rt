@@ -1,14 +1,14 @@
 //! The starts of the addresses that rows cover.
 
-ghost use Rattle.std.specs.Prelude.{◌≡◌, ◌∷◌, [], ◌+◌, ◌<◌, ◌≤◌, ◌^◌, drop, length, map};
-ghost use Rattle.std.specs.Prelude.{slice_index, slice_index_or, IfOk, MatchOption};
+ghost use Rattle.std.specs.Prelude.{◌≡◌, ◌+◌, ◌<◌, ◌≤◌, ◌^◌, length, map};
+ghost use Rattle.std.specs.Prelude.{slice_index_or, IfOk, MatchOption};
 ghost use Rattle.std.specs.List.Sorted.{IsPermutation, IsNonDecreasingBy};
 ghost use Rattle.addr_table.specs.declared.starts.Start.{Start as Started};
-ghost use Rattle.addr_table.specs.Private.RowOrder.{ascends_from, covering_from, later_rows};
-ghost use Rattle.addr_table.specs.Private.RowOrder.{row_start, rows_in};
+ghost use Rattle.addr_table.specs.Private.RowOrder.{covering_from, row_start};
+ghost use Rattle.addr_table.specs.Private.RowRuns.{no_run, rows_in};
 
-use crate::packed::narrow;
-use crate::row_order::{address_of, count_covering, first_covering, sequence_starts};
+use crate::row_order::{address_of, covering_rows};
+use crate::row_runs::{Run, rest_of, runs_of};
 use crate::starts::Start;
 use dwarf_lines::Row;
 use std::alloc::{AllocError, Global};
@@ -18,14 +18,12 @@ use std::marker::Model;
 #[derive(Drop)]
 pub(crate) struct RowStarts<'a> {
     rows: &'a [Row],
-    /// The first covering rows of sequences, or all covering rows.
-    order: Vec<u32>,
-    /// Whether `order` has all covering rows.
-    has_all: bool,
-    /// The index in `order` of the next row, or of the first row of its sequence.
+    /// All covering rows in ascending order of address.
+    runs: Vec<Run>,
+    /// The index in `runs` of the run that the next row is in.
     index: usize,
-    /// The next row.
-    row: usize,
+    /// The rest of that run, from the next row on.
+    rest: Run,
     /// The number of starts that were taken.
     taken: usize,
     /// The number of all starts.
@@ -34,17 +32,17 @@ pub(crate) struct RowStarts<'a> {
 
 impl<'a> Model for RowStarts<'a> {
     ghost use Rattle.std.specs.Prelude.{map};
-    ghost use Rattle.addr_table.specs.Private.RowOrder.{IsNextRow, RowCursor, row_start, rows_in};
+    ghost use Rattle.addr_table.specs.Private.RowOrder.{row_start};
+    ghost use Rattle.addr_table.specs.Private.RowRuns.{IsNextRow, RowCursor, rows_in};
 
     ghost Value = { RowCursor };
 
     ghost view = { λ r. record {
-      all = map (row_start r.rows.now) (rows_in r.has_all r.rows.now r.order.items);
+      all = map (row_start r.rows.now) (rows_in r.rows.now r.runs.items);
       taken = r.taken;
     } };
 
-    ghost invariant = { λ r.
-        IsNextRow r.has_all r.rows.now r.order.items r.index r.row r.taken r.len };
+    ghost invariant = { λ r. IsNextRow r.rows.now r.runs.items r.index r.rest r.taken r.len };
 }
 
 /// Returns the start of a row. The row ends where the next row starts.
@@ -59,54 +57,38 @@ fn start_of(rows: &[Row], row: usize) -> Start
     }
 }
 
-/// Returns the row at an index of an order; 0 if there is none.
-fn row_at(order: &[u32], index: usize) -> usize
-    ensures row { result ≡ slice_index order.now index }
-    ensures small { result < 2 ^ 32 }
+/// Returns the run at an index; rows 0 to 0 if there is none.
+fn run_at(runs: &[Run], index: usize) -> Run
+    ensures { result ≡ slice_index_or runs.now index no_run }
 {
-    match order.get(index) {
-        Some(row) => *row as usize,
-        None => 0,
+    match runs.get(index) {
+        Some(run) => *run,
+        None => Run { first: 0, last: 0 },
     }
-}
-
-/// Returns the next row of the sequence of a row; `None` if the order has all rows.
-fn later_row(rows: &[Row], has_all: bool, row: usize) -> Option<usize>
-    requires few { length rows.now < 2 ^ 32 }
-    requires row { row < 2 ^ 32 }
-    ensures { MatchOption result (later_rows has_all rows.now row ≡ [])
-        (λ n. (n < 2 ^ 32)
-        × (later_rows has_all rows.now row ≡ n ∷ later_rows has_all rows.now n)) }
-{
-    if has_all {
-        return None;
-    }
-    first_covering(rows, row + 1)
 }
 
 impl<'a> RowStarts<'a> {
-    /// Begins at the first row of an order. `len` is the number of rows that are read from it.
-    fn new(rows: &'a [Row], order: Vec<u32>, has_all: bool, len: usize) -> RowStarts<'a>
+    /// Begins at the first row of runs that have `len` rows.
+    fn new(rows: &'a [Row], runs: Vec<Run>, len: usize) -> RowStarts<'a>
         requires few { length rows.now < 2 ^ 32 }
-        requires len { len ≡ length (rows_in has_all rows.now order.items) }
-        ensures all { result.all ≡ map (row_start rows.now) (rows_in has_all rows.now order.items) }
+        requires len { len ≡ length (rows_in rows.now runs.items) }
+        ensures all { result.all ≡ map (row_start rows.now) (rows_in rows.now runs.items) }
         ensures taken { result.taken ≡ 0 }
     {
-        let row = row_at(&order, 0);
+        let rest = run_at(&runs, 0);
         RowStarts {
             rows,
-            order,
-            has_all,
+            runs,
             index: 0,
-            row,
+            rest,
             taken: 0,
             len,
         }
     }
 
-    /// Returns the starts of the rows that cover addresses, in ascending order. Stores only the
-    /// first row of each sequence, unless a row of one sequence starts between two rows of another.
-    /// Then it sorts all rows. The stable sort exploits that most of them are in order already.
+    /// Returns the starts of the rows that cover addresses, in ascending order. The list of these
+    /// rows is sorted, and then replaced by its runs. The stable sort exploits that most rows are
+    /// in order already.
     pub(crate) fn of(alloc: Global, rows: &'a [Row]) -> Result<RowStarts<'a>, AllocError>
         requires few { length rows.now < 2 ^ 32 }
         ensures permutation { IfOk result (λ r. IsPermutation
@@ -114,18 +96,10 @@ impl<'a> RowStarts<'a> {
         ensures rise { IfOk result (λ r. IsNonDecreasingBy (λ (s : Started). s.at) r.all) }
         ensures first { IfOk result (λ r. r.taken ≡ 0) }
     {
-        let mut order = sequence_starts(alloc, rows)?;
-        order.sort_unstable_by_key(|row| address_of(rows, *row as usize));
-        let mut starts = RowStarts::new(rows, order, false, count_covering(rows));
-        let ascend = starts.take_ascending();
-        starts.rewind();
-        if ascend {
-            return Ok(starts);
-        }
-        let mut all = starts.take_rows(alloc)?;
-        all.sort_by_key(|row| address_of(rows, *row as usize))?;
-        let len = all.len();
-        Ok(RowStarts::new(rows, all, true, len))
+        let mut order = covering_rows(alloc, rows)?;
+        order.sort_by_key(|row| address_of(rows, *row as usize))?;
+        let runs = runs_of(alloc, rows, &order)?;
+        Ok(RowStarts::new(rows, runs, order.len()))
     }
 
     /// Returns the number of all starts.
@@ -145,7 +119,7 @@ impl<'a> RowStarts<'a> {
         if self.taken >= self.len {
             return None;
         }
-        Some(start_of(self.rows, self.row))
+        Some(start_of(self.rows, self.rest.first as usize))
     }
 
     /// Takes the next start.
@@ -154,61 +128,13 @@ impl<'a> RowStarts<'a> {
         ensures all { self.new.all ≡ self.old.all }
         ensures taken { self.new.taken ≡ self.old.taken + 1 }
     {
-        let later = later_row(self.rows, self.has_all, self.row);
+        let later = rest_of(self.rows, self.rest);
         self.taken += 1;
-        if let Some(row) = later {
-            self.row = row;
+        if let Some(rest) = later {
+            self.rest = rest;
             return;
         }
         self.index += 1;
-        self.row = row_at(&self.order, self.index);
-    }
-
-    /// Goes back to the first start.
-    fn rewind(&mut self)
-        ensures all { self.new.all ≡ self.old.all }
-        ensures taken { self.new.taken ≡ 0 }
-    {
-        self.index = 0;
-        self.row = row_at(&self.order, 0);
-        self.taken = 0;
-    }
-
-    /// Takes starts up to the first one whose address is below that of the start before it. Returns
-    /// whether all starts are in ascending order.
-    fn take_ascending(&mut self) -> bool
-        ensures all { self.new.all ≡ self.old.all }
-        ensures ascends { result ≡ ascends_from 0 (drop self.old.taken self.old.all) }
-    {
-        let mut last = 0;
-        loop {
-            match self.peek() {
-                Some(start) => {
-                    if start.at < last {
-                        return false;
-                    }
-                    last = start.at;
-                    self.advance();
-                }
-                None => return true,
-            }
-        }
-    }
-
-    /// Takes all starts. Returns their rows.
-    fn take_rows(&mut self, alloc: Global) -> Result<Vec<u32>, AllocError>
-        ensures { IfOk result (λ taken. taken.items
-            ≡ map (λ s. s.key) (drop self.old.taken self.old.all)) }
-    {
-        let mut all = Vec::with_capacity(alloc, self.len)?;
-        loop {
-            match self.peek() {
-                Some(start) => {
-                    all.push(narrow(start.key))?;
-                    self.advance();
-                }
-                None => return Ok(all),
-            }
-        }
+        self.rest = run_at(&self.runs, self.index);
     }
 }

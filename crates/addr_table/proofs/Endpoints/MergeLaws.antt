@@ -45,14 +45,14 @@ merged-all P xs ys a b =
 
 -- ---- their order
 
-abbrev pub From : ℕ → List Start → Type 0
+abbrev From : ℕ → List Start → Type 0
 From n ends = AllByRecursion (λ (e : Start). n ≤ e.at) ends
 
-abbrev pub Rise : List Start → Type 0
+abbrev Rise : List Start → Type 0
 Rise [] = Unit {0}
 Rise (e ∷ ends) = From e.at ends × Rise ends
 
-pub further : (m n : ℕ) (ends : List Start) → m ≤ n → From n ends → From m ends
+further : (m n : ℕ) (ends : List Start) → m ≤ n → From n ends → From m ends
 further m n ends le h =
     each-weaker (λ (e : Start). n ≤ e.at) (λ (e : Start). m ≤ e.at) (λ e k. omega (arith, le, k))
     ends h
@@ -65,7 +65,7 @@ rise-of (e ∷ ends) h = (
   rise-of ends (λ i j d le lt. h (suc i) (suc j) d (omega (arith, le)) (omega (arith, lt))),
 )
 
-pub from-rise : (ends : List Start) → Rise ends → IsNonDecreasingBy (λ (e : Start). e.at) ends
+from-rise : (ends : List Start) → Rise ends → IsNonDecreasingBy (λ (e : Start). e.at) ends
 from-rise [] h i j d le lt = absurd (omega (arith, lt))
 from-rise (e ∷ ends) h zero zero d le lt = omega arith
 from-rise (e ∷ ends) h zero (suc j) d le lt =

@@ -1,7 +1,6 @@
 -- The rows that cover addresses, sequence by sequence, and their starts.
-use Rattle.std.specs.Prelude.{◌≡◌, ℕ, suc, ◌+◌, ◌<◌, ◌≤◌, ◌^◌, List, [], ◌∷◌, ◌++◌, length, drop}
-use Rattle.std.specs.Prelude.{map, filter, flat_map, Bool, true, false, nat_lt, nat_le, ◌&&◌, not}
-use Rattle.std.specs.Prelude.{if◌then◌else◌, slice_index_or}
+use Rattle.std.specs.Prelude.{ℕ, suc, ◌+◌, List, [], ◌∷◌, drop, map, filter, Bool, false}
+use Rattle.std.specs.Prelude.{nat_lt, ◌&&◌, not, if◌then◌else◌, slice_index_or}
 use Rattle.dwarf_lines.specs.declared.row.Row.{Row}
 use Rattle.addr_table.specs.declared.starts.Start.{Start}
 use Rattle.addr_table.specs.Segments.{is_nonempty}
@@ -41,34 +40,3 @@ covers_at rows n =
 abbrev pub row_start : List Row → ℕ → Start
 row_start rows n =
     record { at = row_address rows n; to = row_address rows (n + 1); key = n }
-
--- An order has all covering rows, or only the first one of each sequence. These are the covering
--- rows of a sequence that follow a row in an order without being in it.
-abbrev pub later_rows : Bool → List Row → ℕ → List ℕ
-later_rows true rows n = []
-later_rows false rows n = sequence_at rows (n + 1)
-
--- the rows that are read from an order
-abbrev pub rows_in : Bool → List Row → List ℕ → List ℕ
-rows_in has_all rows order = flat_map (λ n. n ∷ later_rows has_all rows n) order
-
--- a cursor over starts, and the number of those that were taken
-pub record RowCursor : Type 0 where
-  pub all : List Start
-  pub taken : ℕ
-
--- The next row of an order after `taken` others. It is the row at an index of the order, or follows
--- that row in its sequence. No row is left if the index is the length of the order.
-pub record IsNextRow (has_all : Bool) (rows : List Row) (order : List ℕ)
-    (index row taken len : ℕ) : Type 0 where
-  pub few : length rows < 2 ^ 32
-  pub len_is : len ≡ length (rows_in has_all rows order)
-  pub small : row < 2 ^ 32
-  pub some : index < length order → drop taken (rows_in has_all rows order)
-      ≡ row ∷ (later_rows has_all rows row ++ rows_in has_all rows (drop (index + 1) order))
-  pub none : length order ≤ index → len ≤ taken
-
--- whether the addresses of starts are in ascending order from an address on
-abbrev pub ascends_from : ℕ → List Start → Bool
-ascends_from low [] = true
-ascends_from low (s ∷ starts) = nat_le low s.at && ascends_from s.at starts
