@@ -117,11 +117,14 @@ fn segments_and_scan_return_the_same_places(rt: HostRuntime) {
 
 /// Returns an object with two sequences. The first has rows at 0x1000 and 0x1004 and ends at
 /// 0x1014. The second has row 3 at `start` and ends `len` bytes after it.
-fn sequences(start: u64, len: u8) -> [u8; 725] {
+fn sequences(start: u16, len: u8) -> [u8; 725] {
     let mut object = two_sequences();
     // advance_pc 4, and a special opcode that advances the line by 2
-    object[328..331].copy_from_slice(&[0x02, 0x04, 0x14]);
-    object[339..347].copy_from_slice(&start.to_le_bytes());
+    object[328] = 0x02;
+    object[329] = 0x04;
+    object[330] = 0x14;
+    object[339] = (start % 256) as u8;
+    object[340] = (start / 256) as u8;
     object[352] = len;
     object
 }
