@@ -1,7 +1,8 @@
-use Rattle.std.proofs.Common.{◌≡◌, ◌++◌, drop}
-use Rattle.addr_table.specs.Private.RowOrder.{covering_from}
+use Rattle.std.proofs.Common.{◌≡◌, take}
+use Rattle.std.specs.Prelude.{flat_map}
+use Rattle.addr_table.specs.Private.RowOrder.{sequence_at}
 use Rattle.addr_table.proofs.row_order.covering_rows.Given as goal
 
-abbrev pub invariant-loop-number : goal.invariant-loop-number
-invariant-loop-number l =
-    l.covering.items ++ covering_from l.number (drop l.number l.rows) ≡ covering_from 0 l.rows
+abbrev pub invariant-loop-index : goal.invariant-loop-index
+invariant-loop-index l =
+    l.order.items ≡ flat_map (sequence_at l.rows) (take l.index l.starts.items)

@@ -1,5 +1,6 @@
 use Rattle.std.proofs.Common.{◌≡◌, ◌∙◌, ℕ, List, map, ap, sym, subst, rules}
 use Rattle.std.specs.List.Sorted.{IsPermutation, IsNonDecreasingBy}
+use Rattle.std.proofs.lemmas.List.Sorted.{IsPermutation-trans}
 use Rattle.std.proofs.lemmas.List.Sorted.{IsPermutation-map, IsNonDecreasingBy-from_sort_by_key}
 use Rattle.addr_table.specs.declared.starts.Start.{Start}
 use Rattle.addr_table.specs.Private.RowOrder.{covering_from, row_address, row_start}
@@ -20,8 +21,7 @@ returns-clause-permutation c =
     let start = row_start c.args.rows.now in
     let sorted = c.sort_by_key.new.self.items in
     let moved : IsPermutation (covering_from 0 c.args.rows.now) sorted =
-    subst (λ ns. IsPermutation ns sorted) c.in_ok-order.ensures
-    c.in_ok-sort_by_key.ensures.permutation in
+    IsPermutation-trans _ _ _ c.in_ok-order.ensures c.in_ok-sort_by_key.ensures.permutation in
     subst (λ ss. IsPermutation (map start (covering_from 0 c.args.rows.now)) ss)
     (sym (sorted-are at.After-new)) (IsPermutation-map start _ _ moved)
 
