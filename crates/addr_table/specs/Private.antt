@@ -1,6 +1,7 @@
 pub mod Active
 pub mod Bits
 pub mod Buckets
+pub mod CallFiles
 pub mod Decoded
 pub mod Digits
 pub mod Merged

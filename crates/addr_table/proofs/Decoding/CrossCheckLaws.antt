@@ -3,6 +3,7 @@ use Rattle.std.proofs.Common.{◌≡◌, ◌∙◌, ℕ, ◌+◌, ◌-◌, ◌<�
 use Rattle.std.proofs.Common.{get_or, drop, arith, true, false, refl, sym}
 use Rattle.std.proofs.Common.{ap, subst}
 use Rattle.std.specs.Prelude.{Option, Result, Ok, Err, slice_range}
+use Rattle.std.specs.List.{Contains}
 use Rattle.std.proofs.lemmas.List.{get_or_default, length-take, length-drop, get_or-take}
 use Rattle.std.proofs.lemmas.List.{get_or-drop}
 use Rattle.dwarf_bytes.specs.declared.fault.LoadFault.{LoadFault}
@@ -11,14 +12,15 @@ use Rattle.dwarf_bytes.specs.Items.{each}
 use Rattle.dwarf_entries.specs.declared.scope.Root.{Root}
 use Rattle.dwarf_entries.specs.declared.scope.Scope.{Scope as Kept}
 use Rattle.dwarf_walk.specs.declared.scope_kind.ScopeKind.TheVariants.{Inlined}
-use Rattle.dwarf_entries.specs.Scopes.{Scope, Own, own_of, call_file_at, stmt_list_at, Tree}
-use Rattle.dwarf_entries.specs.Order.{HasDataOf}
+use Rattle.dwarf_entries.specs.Scopes.{Scope, Own, own_of, call_file_at, Tree}
+use Rattle.dwarf_entries.specs.Order.{AreInOrder, HasDataOf}
 use Rattle.addr_table.specs.Chains.{is_kind}
 use Rattle.dwarf_lines.specs.Lines.{Lines}
-use Rattle.addr_table.specs.CrossChecks.{is_invalid_root, is_invalid_call, is_invalid_scope}
-use Rattle.addr_table.specs.CrossChecks.{check_scope}
-use Rattle.addr_table.specs.CrossChecks.{check_unit}
-use Rattle.addr_table.specs.CrossChecks.{cross_checks_of, RefusesAs}
+use Rattle.addr_table.specs.CrossChecks.{is_invalid_root, is_invalid_scope}
+use Rattle.addr_table.specs.CrossChecks.{check_scope, check_unit, cross_checks_of, files_at}
+use Rattle.addr_table.specs.CrossChecks.{RefusesAs}
+use Rattle.addr_table.specs.Private.CallFiles.{is_beyond, HaveFiles, HaveStmtListOf}
+use Rattle.addr_table.proofs.Chains.ChainLaws.{number-at}
 use Rattle.addr_table.proofs.Decoding.EachTurns.{EachSoFar, each_none, each-more, each-invalid}
 use Rattle.addr_table.proofs.Decoding.EachTurns.{each-over}
 
@@ -100,6 +102,27 @@ scopes-over lines scopes first past number h past_is =
     ∙ ap (min (past - first)) (length-drop first scopes) in
     each-over (check_scope lines) (slice_range scopes first past) (number - first) h (omega arith)
 
+-- the number of files of the line program of a scope of the unit
+pub files-there : (lines : Lines) (scopes : List Scope) (files first past number : ℕ) (d : Scope)
+    → AreInOrder scopes → OfUnit scopes first past number → HaveFiles lines scopes files first past
+    → files_at lines (get_or scopes number d).stmt_list ≡ files
+files-there lines scopes files first past number d order of have =
+    let low : first ≤ number = of.low in
+    let high : number < min past (length scopes) = of.high in
+    let lt : number < length scopes = omega arith in
+    let at = number-at 0 (length scopes) number scopes d order.numbered lt in
+    let is : (get_or scopes number d).number ≡ number = omega (arith, at.0) in
+    have (get_or scopes number d)
+    (number, lt, sym (get_or_default scopes number d (get_or scopes number d) lt))
+    (omega (arith, is)) (omega (arith, is))
+
+-- the same number for all scopes of the unit of a root
+pub files-of-root : (lines : Lines) (scopes : List Scope) (root : Root) (files : ℕ)
+    → HaveStmtListOf root scopes → files ≡ files_at lines root.stmt_list
+    → HaveFiles lines scopes files root.first root.past
+files-of-root lines scopes root files have is =
+    λ scope within low high. ap (files_at lines) (have scope within low high) ∙ sym is
+
 -- a unit
 pub unit-invalid : (lines : Lines) (scopes : List Scope) (root : Root) → is_invalid_root lines root
     ≡ true
@@ -127,6 +150,12 @@ root-there tree roots i d are lt = (
   get_or_default roots i d (get_or roots i d) lt
       ∙ ap (λ (rs : List Root). get_or rs i (get_or roots i d)) are,
 )
+
+pub root-contained : (tree : Tree) (roots : List Root) (i : ℕ) (d : Root) → roots ≡ tree.roots
+    → i < length roots → Contains tree.roots (get_or roots i d)
+root-contained tree roots i d are lt =
+    let t = root-there tree roots i d are lt in
+    (i, t.0, sym t.1)
 
 pub units-more : (lines : Lines) (tree : Tree) (roots : List Root) (i : ℕ) (d : Root) (u : Unit {0})
     → roots ≡ tree.roots
@@ -160,22 +189,18 @@ units-over lines tree roots i are h past =
 
 -- ---- the data of a scope of the program
 
-pub returned-invalid : (lines : Lines) (scopes : List Scope) (k : Kept) (s : Scope) (b : Bool)
-    → HasDataOf scopes k s
-    → b ≡ (is_kind Inlined (own_of k).kind && is_invalid_call lines
-    (call_file_at scopes (own_of k).number)
-    (stmt_list_at scopes (own_of k).number))
+pub returned-invalid : (lines : Lines) (scopes : List Scope) (k : Kept) (s : Scope) (files : ℕ)
+    (b : Bool) → HasDataOf scopes k s → files_at lines s.stmt_list ≡ files
+    → b ≡ (is_kind Inlined (own_of k).kind && is_beyond files
+    (call_file_at scopes (own_of k).number))
     → b ≡ is_invalid_scope lines s
 unfolding is_invalid_scope
-returned-invalid lines scopes k s b tells is =
+returned-invalid lines scopes k s files b tells files_are is =
     is
-    ∙ (ap (λ (o : Own). is_kind Inlined o.kind && is_invalid_call lines
-    (call_file_at scopes (own_of k).number)
-    (stmt_list_at scopes (own_of k).number)) tells.own_is
-    ∙ (ap (λ (f : Option ℕ). is_kind Inlined s.kind && is_invalid_call lines f
-    (stmt_list_at scopes (own_of k).number)) tells.call_file_is
-    ∙ ap (λ (l : Option ℕ). is_kind Inlined s.kind && is_invalid_call lines s.call_file l)
-    tells.stmt_list_is))
+    ∙ (ap (λ (o : Own). is_kind Inlined o.kind && is_beyond files
+    (call_file_at scopes (own_of k).number)) tells.own_is
+    ∙ (ap (λ (f : Option ℕ). is_kind Inlined s.kind && is_beyond files f) tells.call_file_is
+    ∙ ap (λ n. is_kind Inlined s.kind && is_beyond n s.call_file) (sym files_are)))
 
 pub returned-offset : (scopes : List Scope) (k : Kept) (s : Scope) → HasDataOf scopes k s
     → (own_of k).offset ≡ s.offset

@@ -1,7 +1,8 @@
 use Rattle.std.proofs.lemmas.Result.{err_from_is_err_and}
 use Rattle.addr_table.specs.CrossChecks.{check_unit}
 use Rattle.addr_table.proofs.Decoding.EachTurns.{each_none}
-use Rattle.addr_table.proofs.Decoding.CrossCheckLaws.{units-more, units-invalid, units-over}
+use Rattle.addr_table.proofs.Decoding.CrossCheckLaws.{root-contained, units-more, units-invalid}
+use Rattle.addr_table.proofs.Decoding.CrossCheckLaws.{units-over}
 use Rattle.addr_table.proofs.cross_checks.cross_check.Goals as goal
 
 pub loop-root-init : goal.loop-root-init
@@ -25,3 +26,10 @@ loop-root-preserved c =
 pub returns : goal.returns
 returns c = units-over c.args.lines.now c.args.scopes.now _ _ c.roots-root-items.ensures
     c.loop-root.invariant c.loop-root-test.false
+
+pub check_unit-requires : goal.check_unit-requires
+check_unit-requires c = record {
+  order = c.requires.order;
+  unit = c.requires.units _ (root-contained c.args.scopes.now _ _ _ c.roots-root-items.ensures
+      c.loop-root-test.true);
+}

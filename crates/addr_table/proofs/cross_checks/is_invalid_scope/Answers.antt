@@ -14,11 +14,10 @@ of_inlined : (kind : ScopeKind) (b c : Bool) → kind ≡ Inlined → c ≡ b
 of_inlined kind b c is same = same ∙ ap (λ k. is_kind Inlined k && b) (sym is)
 
 pub returns-in-Subprogram : goal.returns-in-Subprogram
-returns-in-Subprogram c = λ s tells. returned-invalid _ _ _ s _ tells
+returns-in-Subprogram c = λ lines s tells files. returned-invalid lines _ _ s _ _ tells files
     (of_subprogram _ _ (sym c.kind.ensures ∙ c.in-Subprogram.is))
 
 pub returns-in-Inlined : goal.returns-in-Inlined
-returns-in-Inlined c =
-    λ s tells. returned-invalid _ _ _ s _ tells
+returns-in-Inlined c = λ lines s tells files. returned-invalid lines _ _ s _ _ tells files
     (of_inlined _ _ _ (sym c.kind.ensures ∙ c.in-Inlined.is)
-    (rw (← c.call_file.ensures, ← c.stmt_list.ensures) c.is_invalid_call.ensures))
+    (rw (← c.call_file.ensures) c.is_beyond.ensures))
