@@ -2,10 +2,9 @@
 
 ghost use Rattle.std.specs.Prelude.{◌≡◌, ◌+◌, ◌<◌, ◌≤◌, ◌^◌, length, map};
 ghost use Rattle.std.specs.Prelude.{slice_index_or, IfOk, MatchOption};
-ghost use Rattle.std.specs.List.Sorted.{IsPermutation, IsNonDecreasingBy};
 ghost use Rattle.addr_table.specs.declared.starts.Start.{Start as Started};
-ghost use Rattle.addr_table.specs.Private.RowOrder.{covering_from, row_start};
-ghost use Rattle.addr_table.specs.Private.RowRuns.{no_run, rows_in};
+ghost use Rattle.addr_table.specs.Private.RowOrder.{row_start};
+ghost use Rattle.addr_table.specs.Private.RowRuns.{AreRowStarts, no_run, rows_in};
 
 use crate::row_order::{address_of, covering_rows};
 use crate::row_runs::{Run, rest_of, runs_of};
@@ -90,11 +89,8 @@ impl<'a> RowStarts<'a> {
     /// rows is sorted, and then replaced by its runs. The stable sort exploits that most rows are
     /// in order already.
     pub(crate) fn of(alloc: Global, rows: &'a [Row]) -> Result<RowStarts<'a>, AllocError>
-        requires few { length rows.now < 2 ^ 32 }
-        ensures permutation { IfOk result (λ r. IsPermutation
-            (map (row_start rows.now) (covering_from 0 rows.now)) r.all) }
-        ensures rise { IfOk result (λ r. IsNonDecreasingBy (λ (s : Started). s.at) r.all) }
-        ensures first { IfOk result (λ r. r.taken ≡ 0) }
+        requires { length rows.now < 2 ^ 32 }
+        ensures { IfOk result (AreRowStarts rows.now) }
     {
         let mut order = covering_rows(alloc, rows)?;
         order.sort_by_key(|row| address_of(rows, *row as usize))?;

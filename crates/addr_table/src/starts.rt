@@ -5,6 +5,7 @@ ghost use Rattle.dwarf_entries.specs.Scopes.{Scope as ScopeSeen, own_of};
 ghost use Rattle.dwarf_entries.specs.Order.{AreInOrder, HasDataOf};
 ghost use Rattle.addr_table.specs.Private.Sweep.{AddsStarts, AreStarts, reaches_in, scope_reaches};
 ghost use Rattle.addr_table.specs.Private.Sweep.{reaches_of};
+ghost use Rattle.addr_table.specs.Private.RowRuns.{AreRowStarts};
 ghost use Rattle.addr_table.specs.Private.Merged.{starts_in, taken_of};
 
 use crate::range_counts::count_ranges;
@@ -90,14 +91,16 @@ impl StartList {
     }
 }
 
-/// Returns a cursor over the starts of all ranges of rows and scopes.
+/// Returns a cursor over the starts of all ranges of rows and scopes, given those of the rows.
 pub(crate) fn cursor<'a>(
     alloc: Global,
-    rows: &'a [Row],
+    rows: &[Row],
+    of_rows: RowStarts<'a>,
     scopes: &Scopes,
 ) -> Result<StartCursor<'a>, AllocError>
     requires order { AreInOrder scopes.now.scopes }
     requires few { length rows.now + length scopes.now.scopes + length scopes.now.scopes < 2 ^ 32 }
+    requires rows { AreRowStarts rows.now of_rows }
     ensures starts { IfOk result
         (λ r. AreStarts (reaches_of rows.now scopes.now.scopes) (starts_in r)) }
     ensures first { IfOk result (λ r. taken_of r ≡ 0) }
@@ -105,6 +108,5 @@ pub(crate) fn cursor<'a>(
     let mut of_scopes = StartList::new(alloc, count_ranges(scopes))?;
     of_scopes.add_scopes(rows.len(), scopes)?;
     of_scopes.sort(alloc)?;
-    let of_rows = RowStarts::of(alloc, rows)?;
     Ok(StartCursor::new(of_rows, of_scopes))
 }

@@ -123,6 +123,15 @@ within bytes section len place is =
     let rest : length (drop place bytes) ≡ length bytes - place = length-drop place bytes in
     omega arith
 
+-- the rows of an object are fewer than its bytes
+pub rows-few : (bytes line : List ℕ) (found : Layout) (rows : List Row) → length bytes ≤ 2 ^ 30
+    → line ≡ take found.debug_line.len (drop found.debug_line.place bytes)
+    → length rows ≤ length line → length rows < 2 ^ 32
+rows-few bytes line found rows small line_is take_bytes =
+    let lines : length line ≤ length bytes =
+    within bytes line found.debug_line.len found.debug_line.place line_is in
+    omega arith
+
 pub decoded-few : (bytes line : List ℕ) (found : Layout) (s : Sections) (rows : List Row)
     (scopes : List Scope) → length bytes ≤ 2 ^ 30 → found ≡ layout bytes
     → line ≡ take found.debug_line.len (drop found.debug_line.place bytes)

@@ -1,10 +1,11 @@
 -- Runs of rows that cover addresses, and a cursor over the starts of their rows.
 use Rattle.std.specs.Prelude.{◌≡◌, ℕ, ◌+◌, ◌<◌, ◌≤◌, ◌^◌, List, ◌∷◌, ◌++◌, length, drop}
-use Rattle.std.specs.Prelude.{filter, flat_map, nat_le}
+use Rattle.std.specs.Prelude.{filter, flat_map, map, nat_le}
+use Rattle.std.specs.List.Sorted.{IsPermutation, IsNonDecreasingBy}
 use Rattle.dwarf_lines.specs.declared.row.Row.{Row}
 use Rattle.addr_table.specs.declared.starts.Start.{Start}
 use Rattle.addr_table.specs.declared.row_runs.Run.{Run}
-use Rattle.addr_table.specs.Private.RowOrder.{sequence_at}
+use Rattle.addr_table.specs.Private.RowOrder.{covering_from, row_start, sequence_at}
 
 abbrev pub no_run : Run
 no_run = record { first = 0; last = 0 }
@@ -34,6 +35,12 @@ IsRun rows run =
 pub record RowCursor : Type 0 where
   pub all : List Start
   pub taken : ℕ
+
+-- a cursor at the first of the starts of all rows that cover addresses, in ascending order
+pub record AreRowStarts (rows : List Row) (c : RowCursor) : Type 0 where
+  pub permutation : IsPermutation (map (row_start rows) (covering_from 0 rows)) c.all
+  pub rise : IsNonDecreasingBy (λ (s : Start). s.at) c.all
+  pub first : c.taken ≡ 0
 
 -- After the first `taken` rows of runs come the rows of `rest`, which is the rest of the run at an
 -- index, and the rows of the runs after it. No row follows if the index is the number of runs.

@@ -5,8 +5,7 @@ use Rattle.addr_table.proofs.starts.cursor.Goals as goal
 
 pub returns-clause-starts : goal.returns-clause-starts
 returns-clause-starts c =
-    let rows = rows-sorted c.args.rows.now _ c.in_ok-of_rows.ensures.permutation
-    c.in_ok-of_rows.ensures.rise in
+    let rows = rows-sorted c.args.rows.now _ c.requires.rows.permutation c.requires.rows.rise in
     let scopes = are-sorted _ _ _ _ c.in_ok-of_scopes.ensures c.in_ok-add_scopes.ensures
     c.sort.ensures.permutation c.in_ok-sort.ensures.rise in
     subst (AreStarts (reaches_of c.args.rows.now c.args.scopes.now.scopes))

@@ -15,20 +15,19 @@ sorted-are c =
     c.new.ensures.all
     ∙ ap (map (row_start c.args.rows.now)) (c.in_ok-runs.ensures ∙ c.deref.ensures.value)
 
-pub returns-clause-permutation : goal.returns-clause-permutation
-returns-clause-permutation c =
-    let at = goal.at.returns-clause-permutation c in
-    let start = row_start c.args.rows.now in
-    let sorted = c.sort_by_key.new.self.items in
-    let moved : IsPermutation (covering_from 0 c.args.rows.now) sorted =
+pub returns : goal.returns
+returns c =
+    let rows = c.args.rows.now in
+    let start = row_start rows in
+    let are = sorted-are (goal.at.returns c).After-new in
+    let moved : IsPermutation (covering_from 0 rows) c.sort_by_key.new.self.items =
     IsPermutation-trans _ _ _ c.in_ok-order.ensures c.in_ok-sort_by_key.ensures.permutation in
-    subst (λ ss. IsPermutation (map start (covering_from 0 c.args.rows.now)) ss)
-    (sym (sorted-are at.After-new)) (IsPermutation-map start _ _ moved)
-
-pub returns-clause-rise : goal.returns-clause-rise
-returns-clause-rise c =
     let Rises : List Start → Type 0 = λ starts. IsNonDecreasingBy (λ (s : Start). s.at) starts in
-    subst Rises (sym (sorted-are (goal.at.returns-clause-rise c).After-new))
-    (starts-rise c.args.rows.now _
-    (IsNonDecreasingBy-from_sort_by_key (λ (n : ℕ). row_address c.args.rows.now n) _
-    c.in_ok-sort_by_key.ensures.sorted (λ a r q k. search rules)))
+    record {
+      permutation = subst (λ ss. IsPermutation (map start (covering_from 0 rows)) ss) (sym are)
+          (IsPermutation-map start _ _ moved);
+      rise = subst Rises (sym are) (starts-rise rows _
+          (IsNonDecreasingBy-from_sort_by_key (λ (n : ℕ). row_address rows n) _
+          c.in_ok-sort_by_key.ensures.sorted (λ a r q k. search rules)));
+      first = c.new.ensures.taken;
+    }
