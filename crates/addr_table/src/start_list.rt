@@ -1,6 +1,7 @@
-//! Lists of range starts, at two thirds of the size for addresses below 2^32.
+//! Lists of range starts, at half the size for ranges below 2^32.
 
-ghost use Rattle.std.specs.Prelude.{◌≡◌, ◌<◌, ◌^◌, ◌∷◌, [], ◌++◌, length, get_or, IfOk, OnOk};
+ghost use Rattle.std.specs.Prelude.{◌≡◌, ◌<◌, ◌≤◌, ◌^◌, ◌⊎◌, ◌∷◌, [], ◌++◌, length, map, get_or};
+ghost use Rattle.std.specs.Prelude.{IfOk, OnOk, MatchOption};
 ghost use Rattle.std.specs.List.Sorted.{IsPermutation, IsNonDecreasingBy};
 ghost use Rattle.addr_table.specs.declared.starts.Start.{Start as Started};
 ghost use Rattle.addr_table.specs.Private.StartLists.{start_of_low};
@@ -11,7 +12,7 @@ use crate::starts::Start;
 use std::alloc::{AllocError, Global};
 use std::marker::Model;
 
-/// Range starts. Addresses below 2^32 come first; few objects have others.
+/// Range starts. Ranges that end below 2^32 come first; few objects have others.
 #[derive(Drop)]
 pub(crate) struct StartList {
     low: Vec<LowStart>,
@@ -19,7 +20,7 @@ pub(crate) struct StartList {
 }
 
 impl Model for StartList {
-    ghost use Rattle.std.specs.Prelude.{List, map, ◌++◌, ◌<◌, ◌≤◌, ◌^◌};
+    ghost use Rattle.std.specs.Prelude.{List, map, ◌++◌, ◌<◌, ◌^◌};
     ghost use Rattle.std.specs.List.{All};
     ghost use Rattle.addr_table.specs.declared.starts.Start.{Start};
     ghost use Rattle.addr_table.specs.declared.low_starts.LowStart.{LowStart as Low};
@@ -29,23 +30,48 @@ impl Model for StartList {
 
     ghost view = { λ e. map start_of_low e.low.items ++ e.high.items };
 
-    ghost invariant = { λ e. All (λ (l : Low). l.at < 2 ^ 32) e.low.items
-        × All (λ (h : Start). 2 ^ 32 ≤ h.at) e.high.items };
+    ghost invariant = { λ e. All (λ (l : Low). l.at < 2 ^ 32) e.low.items };
 }
 
-/// Expands a start at an address below 2^32.
+/// Expands the start of a range below 2^32.
 fn start_of_low(low: LowStart) -> Start
     ensures { result ≡ start_of_low low }
 {
     Start {
         at: u64::from(low.at),
-        to: low.to,
+        to: u64::from(low.to),
         key: low.key as usize,
     }
 }
 
+/// Packs a start; `None` if the range is not below 2^32.
+fn low_of(start: Start) -> Option<LowStart>
+    requires { start.key < 2 ^ 32 }
+    ensures { MatchOption result ((2 ^ 32 ≤ start.at) ⊎ (2 ^ 32 ≤ start.to))
+        (λ low. (start_of_low low ≡ start) × (low.at < 2 ^ 32)) }
+{
+    if start.at > u64::from(u32::MAX) || start.to > u64::from(u32::MAX) {
+        return None;
+    }
+    Some(LowStart {
+        at: narrow(start.at as usize),
+        to: narrow(start.to as usize),
+        key: narrow(start.key),
+    })
+}
+
+/// Appends expanded starts.
+fn expand(low: &[LowStart], starts: &mut Vec<Start>) -> Result<(), AllocError>
+    ensures { OnOk result (starts.new.items ≡ starts.old.items ++ map start_of_low low.now) }
+{
+    for start in low {
+        starts.push(start_of_low(*start))?;
+    }
+    Ok(())
+}
+
 impl StartList {
-    /// Creates an empty list with `capacity` for starts at addresses below 2^32.
+    /// Creates an empty list with `capacity` for ranges below 2^32.
     pub(crate) fn new(alloc: Global, capacity: usize) -> Result<StartList, AllocError>
         ensures { IfOk result (λ list. list ≡ []) }
     {
@@ -62,18 +88,14 @@ impl StartList {
         self.low.len() + self.high.len()
     }
 
-    /// Appends a start to the list for its address size.
+    /// Appends a start to the list for its range.
     pub(crate) fn push(&mut self, start: Start) -> Result<(), AllocError>
         requires key { start.key < 2 ^ 32 }
         ensures { OnOk result (IsPermutation (self.old ++ start ∷ []) self.new) }
     {
-        match u32::try_from(start.at) {
-            Ok(at) => self.low.push(LowStart {
-                at,
-                key: narrow(start.key),
-                to: start.to,
-            })?,
-            Err(_) => self.high.push(start)?,
+        match low_of(start) {
+            Some(low) => self.low.push(low)?,
+            None => self.high.push(start)?,
         }
         Ok(())
     }
@@ -89,13 +111,20 @@ impl StartList {
         self.high[index - self.low.len()]
     }
 
-    /// Sorts the starts by address.
-    pub(crate) fn sort(&mut self, alloc: Global) -> Result<(), AllocError>
-        ensures permutation { IsPermutation self.old self.new }
-        ensures rise { OnOk result (IsNonDecreasingBy (λ (e : Started). e.at) self.new) }
+    /// Sorts the starts by address. If a range is not below 2^32, all starts are expanded, because
+    /// it can start below others.
+    pub(crate) fn sorted(self, alloc: Global) -> Result<StartList, AllocError>
+        ensures permutation { IfOk result (λ list. IsPermutation self list) }
+        ensures rise { IfOk result (IsNonDecreasingBy (λ (e : Started). e.at)) }
     {
-        low_starts::sort(alloc, &mut self.low)?;
-        self.high.sort_unstable_by_key(|start| start.at);
-        Ok(())
+        let mut list = self;
+        if list.high.is_empty() {
+            low_starts::sort(alloc, &mut list.low)?;
+            return Ok(list);
+        }
+        expand(&list.low, &mut list.high)?;
+        list.low.clear();
+        list.high.sort_unstable_by_key(|start| start.at);
+        Ok(list)
     }
 }

@@ -107,6 +107,6 @@ pub(crate) fn cursor<'a>(
 {
     let mut of_scopes = StartList::new(alloc, count_ranges(scopes))?;
     of_scopes.add_scopes(rows.len(), scopes)?;
-    of_scopes.sort(alloc)?;
-    Ok(StartCursor::new(of_rows, of_scopes))
+    let sorted = of_scopes.sorted(alloc)?;
+    Ok(StartCursor::new(of_rows, sorted))
 }
