@@ -5,6 +5,7 @@ pub mod DigitLaws
 pub mod DigitPlaces
 pub mod EndLaws
 pub mod EndTurns
+pub mod FirstEnds
 pub mod FlatPermutations
 pub mod MergeLaws
 pub mod MergeRests

@@ -6,6 +6,7 @@ mod bits;
 mod buckets;
 mod cross_checks;
 mod decode;
+mod end_heap;
 mod frames;
 pub mod laws;
 mod low_starts;

@@ -1,14 +1,13 @@
 //! The ends of the ranges that contain the current address of a sweep.
 
-ghost use Rattle.std.specs.Prelude.{◌≡◌, ◌∷◌, [], ℕ, ◌^◌, ◌<◌, ◌≤◌, ◌==◌, true, OnOk, MatchOption};
-ghost use Rattle.std.specs.List.{All, list_any};
+ghost use Rattle.std.specs.Prelude.{◌≡◌, ◌∷◌, [], ℕ, ◌^◌, ◌<◌, ◌≤◌, OnOk, MatchOption};
+ghost use Rattle.std.specs.List.{All};
 ghost use Rattle.std.specs.List.Sorted.{IsPermutation};
 ghost use Rattle.addr_table.specs.declared.open_ends.End.{End as Ended};
+ghost use Rattle.addr_table.specs.Private.OpenEnds.{IsLowest};
 
-use crate::packed::narrow;
+use crate::end_heap::EndHeap;
 use std::alloc::{AllocError, Global};
-use std::cmp::Reverse;
-use std::collections::BinaryHeap;
 use std::marker::Model;
 
 /// The end (exclusive) of a range, and the key of the row or scope that has the range.
@@ -18,23 +17,24 @@ pub(crate) struct End {
     pub(crate) key: usize,
 }
 
-/// A priority queue of ends: the lowest one is removed first.
+/// Ends of ranges. One of them is outside the heap. Most rows start where another one ends, so that
+/// most ends of rows are added and taken without the heap.
 #[derive(Drop)]
 pub(crate) struct OpenEnds {
-    heap: BinaryHeap<Reverse<(u64, u32)>>,
+    first: Option<End>,
+    heap: EndHeap,
 }
 
 impl Model for OpenEnds {
-    ghost use Rattle.std.specs.Prelude.{List, map};
-    ghost use Rattle.std.specs.BinaryHeap.{heap_items};
+    ghost use Rattle.std.specs.Prelude.{List, IfSome, ◌<◌, ◌^◌};
     ghost use Rattle.addr_table.specs.declared.open_ends.End.{End};
-    ghost use Rattle.addr_table.specs.Private.OpenEnds.{end_in, IsEndHeap};
+    ghost use Rattle.addr_table.specs.Private.OpenEnds.{ends_with};
 
     ghost Value = { List End };
 
-    ghost view = { λ o. map end_in (heap_items o.heap) };
+    ghost view = { λ o. ends_with o.first o.heap };
 
-    ghost invariant = { λ o. IsEndHeap (heap_items o.heap) };
+    ghost invariant = { λ o. IfSome o.first (λ e. e.key < 2 ^ 32) };
 }
 
 impl OpenEnds {
@@ -42,28 +42,37 @@ impl OpenEnds {
         ensures { result ≡ [] }
     {
         OpenEnds {
-            heap: BinaryHeap::new(alloc),
+            first: None,
+            heap: EndHeap::new(alloc),
         }
     }
 
-    /// Adds an end.
+    /// Adds an end. The lower one of this end and the first one stays outside the heap.
     pub(crate) fn push(&mut self, end: End) -> Result<(), AllocError>
         requires { end.key < 2 ^ 32 }
         ensures { OnOk result (IsPermutation (end ∷ self.old) self.new) }
     {
-        self.heap.push(Reverse((end.at, narrow(end.key))))?;
+        let Some(first) = self.first else {
+            self.first = Some(end);
+            return Ok(());
+        };
+        if end.at > first.at {
+            self.heap.push(end)?;
+            return Ok(());
+        }
+        self.heap.push(first)?;
+        self.first = Some(end);
         Ok(())
     }
 
     /// Returns the lowest address of an end.
     pub(crate) fn lowest(&self) -> Option<u64>
-        ensures { MatchOption result (self.now ≡ []) (λ at.
-            All (λ (e : Ended). at ≤ e.at) self.now
-            × (list_any (λ e. e.at == at) self.now ≡ true)) }
+        ensures { MatchOption result (self.now ≡ []) (IsLowest self.now) }
     {
-        match self.heap.peek() {
-            Some(Reverse((at, _))) => Some(*at),
-            None => None,
+        match (self.first, self.heap.lowest()) {
+            (Some(first), Some(at)) => Some(first.at.min(at)),
+            (Some(first), None) => Some(first.at),
+            (None, at) => at,
         }
     }
 
@@ -74,11 +83,12 @@ impl OpenEnds {
             (λ key. (at : ℕ) × (at ≤ end)
             × IsPermutation self.old (record { at = at; key = key } ∷ self.new)) }
     {
-        let at = self.lowest()?;
-        if at > end {
-            return None;
+        match self.first {
+            Some(first) if first.at <= end => {
+                self.first = None;
+                Some(first.key)
+            }
+            _ => self.heap.take_up_to(end),
         }
-        let Reverse((_, key)) = self.heap.pop()?;
-        Some(key as usize)
     }
 }

@@ -1,5 +1,6 @@
--- Ends in a heap.
-use Rattle.std.specs.Prelude.{ℕ, List}
+-- Ends in a heap, and one outside it.
+use Rattle.std.specs.Prelude.{◌≡◌, ℕ, ◌≤◌, ◌==◌, true, List, ◌∷◌, Option, Some, None}
+use Rattle.std.specs.List.{All, list_any}
 use Rattle.std.specs.BinaryHeap.{IsHeap}
 use Rattle.std.specs.Ordering.{nat_cmp, ordering_then}
 use Rattle.std.specs.declared.cmp.Ordering.{Ordering}
@@ -16,3 +17,13 @@ higher_first x y = ordering_then (nat_cmp y.0.0 x.0.0) (nat_cmp y.0.1 x.0.1)
 
 abbrev pub IsEndHeap : List (Reverse (ℕ × ℕ)) → Type 0
 IsEndHeap items = IsHeap higher_first items
+
+-- the ends in a heap and the one outside it, if there is one
+abbrev pub ends_with : Option End → List End → List End
+ends_with None ends = ends
+ends_with (Some first) ends = first ∷ ends
+
+-- the lowest address of an end
+abbrev pub IsLowest : List End → ℕ → Type 0
+IsLowest ends at =
+    All (λ (e : End). at ≤ e.at) ends × (list_any (λ e. e.at == at) ends ≡ true)

@@ -1,23 +1,25 @@
-use Rattle.std.proofs.Common.{sym, subst, arith, ◌≡◌, List, true}
-use Rattle.std.specs.Prelude.{◌==◌}
-use Rattle.std.specs.List.{list_any}
-use Rattle.std.specs.BinaryHeap.{heap_items}
-use Rattle.std.proofs.lemmas.List.Sorted.{IsPermutation-map}
+use Rattle.std.proofs.Common.{◌<◌, subst, sym, arith}
+use Rattle.std.specs.Prelude.{Option, IfSome}
 use Rattle.addr_table.specs.declared.open_ends.End.{End}
-use Rattle.addr_table.specs.Private.OpenEnds.{end_in}
-use Rattle.addr_table.proofs.Endpoints.OpenEndLaws.{taken-low}
+use Rattle.addr_table.proofs.Endpoints.FirstEnds.{first-taken, heap-taken}
+use Rattle.addr_table.proofs.open_ends.OpenEnds.take_up_to.Goals.{in_default-via-in_default}
+use Rattle.addr_table.proofs.open_ends.OpenEnds.take_up_to.Goals.{in_default-via-in-Some+else-first-end}
 use Rattle.addr_table.proofs.open_ends.OpenEnds.take_up_to.Goals as goal
 
-pub returns : goal.returns
-returns c =
-    let x = c.in_ok-key.field-0 in
-    let items = heap_items c.self.inside.heap in
-    let A : List End → Type 0 = λ es. list_any (λ e. e.at == c.in_ok-at.at) es ≡ true in
+pub returns-in-Some : goal.returns-in-Some
+returns-in-Some c =
     rw (← c.self.view_is) (
-      x.0.0,
-      taken-low x items c.in_ok-at.at c.args.end
-          (c.in_ok-key.ensures.heap_order c.self.invariant).1
-          (subst A (sym c.self.view_is) c.in_ok-at.ensures.1)
-          (omega (arith, c.if-at-end.false)),
-      IsPermutation-map end_in _ _ c.in_ok-key.ensures.permutation,
+      c.in-Some.first.at,
+      omega (arith, c.if-first-end.true),
+      first-taken _ _ _ c.in-Some.is,
     )
+
+pub returns-in_default : goal.returns-in_default
+returns-in_default c =
+    let Above : Option End → Type 0 = λ o. IfSome o (λ first. c.args.end < first.at) in
+    let above : Above c.self.inside.first = elim c.in_default.branch [
+      | in_default-via-in-Some+else-first-end w ↦
+          subst Above (sym w.in-Some.is) (omega (arith, w.if-first-end.false))
+      | in_default-via-in_default w ↦ subst Above (sym w.in_default.is) tt
+    ] in
+    rw (← c.self.view_is) (heap-taken _ _ _ _ _ above c.take_up_to.ensures)

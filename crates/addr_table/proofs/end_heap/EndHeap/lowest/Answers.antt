@@ -3,7 +3,7 @@ use Rattle.std.proofs.lemmas.Bool.{cases_lt, false≢true}
 use Rattle.std.specs.BinaryHeap.{heap_items, heap_len}
 use Rattle.addr_table.specs.Private.OpenEnds.{end_in}
 use Rattle.addr_table.proofs.Endpoints.OpenEndLaws.{lowest-all, lowest-any, nothing}
-use Rattle.addr_table.proofs.open_ends.OpenEnds.lowest.Goals as goal
+use Rattle.addr_table.proofs.end_heap.EndHeap.lowest.Goals as goal
 
 pub returns-in-Some : goal.returns-in-Some
 returns-in-Some c =
