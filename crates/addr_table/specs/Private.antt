@@ -1,4 +1,5 @@
 pub mod Active
+pub mod ActiveRanges
 pub mod Bits
 pub mod Buckets
 pub mod CallFiles

@@ -2,6 +2,7 @@
 #![tactic(auto)]
 
 mod active;
+mod active_ranges;
 mod bits;
 mod buckets;
 mod cross_checks;
