@@ -2,3 +2,4 @@ pub mod WriteLemmas
 pub mod PendingLemmas
 pub mod PrintingLemmas
 pub mod PathLemmas
+mod PrintableLemmas

@@ -5,6 +5,7 @@ mod frame_text;
 mod numerals;
 mod paths;
 mod pending;
+mod printable;
 mod printing;
 
 pub use numerals::address_text;

@@ -1,44 +1,18 @@
 //! Buffered output to a sink.
 
-ghost use Rattle.std.specs.Prelude.{◌≡◌, ℕ, List, [], ◌∷◌, ◌++◌, map, flat_map, not, OnOk};
+ghost use Rattle.std.specs.Prelude.{◌≡◌, ℕ, List, [], ◌∷◌, ◌++◌, map, flat_map, OnOk};
 ghost use Rattle.std.specs.Prelude.{if◌then◌else◌};
-ghost use Rattle.std.specs.List.{list_all};
 ghost use Rattle.io_streams.specs.Streams.{Writes, failures_after};
 ghost use Rattle.answer_text.specs.Pending.{Puts};
-ghost use Rattle.answer_text.specs.Printable.{is_control, printable, text_or_unknown};
-ghost use Rattle.answer_text.specs.Printable.{borrowed_text};
+ghost use Rattle.answer_text.specs.Printable.{printable, text_or_unknown, borrowed_text};
 
+use crate::printable::{are_printable, printable};
 use arrayvec::ArrayVec;
 use io_streams::{DeviceFault, Sink};
 use std::marker::Model;
 
 /// The capacity of the buffer in bytes.
 const CAPACITY: usize = 2048;
-
-fn is_control(byte: u8) -> bool
-    ensures { result ≡ is_control byte }
-{
-    byte < 32 || byte == 127
-}
-
-/// Returns the byte, or `?` for a control character.
-fn printable(byte: u8) -> u8
-    ensures { result ≡ printable byte }
-{
-    if is_control(byte) { b'?' } else { byte }
-}
-
-/// Returns whether a string has no control characters.
-fn are_printable(text: &[u8]) -> bool
-    ensures { result ≡ list_all (λ byte. not (is_control byte)) text.now }
-{
-    let mut all = true;
-    // The loop looks at each byte, so that the compiler can take several at a time.
-    for byte in text {
-        all &= !is_control(*byte);
-    }
-    all
-}
 
 /// A buffer of bytes that are not written yet.
 #[derive(Drop)]
