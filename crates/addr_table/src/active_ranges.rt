@@ -104,6 +104,9 @@ impl ActiveRanges {
             return lower_of(None, self.row, from, to);
         }
         let first = self.set.first(from, to);
+        if from >= self.rows {
+            return first;
+        }
         self.has_rows = self.has_rows && (first.is_some() || from > 0 || to < self.rows);
         lower_of(first, self.row, from, to)
     }
