@@ -7,3 +7,4 @@ pub mod OrderLaws
 pub mod PassLaws
 pub mod RereadLaws
 pub mod UnitOrder
+pub mod ObjectLaws

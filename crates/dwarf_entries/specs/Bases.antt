@@ -1,26 +1,30 @@
--- The bases that the root of a unit defines for the whole unit: its tables and its low_pc (DWARF
--- 5, 3.1.1, 7.26 to 7.28).
+-- The units of an object, and the bases that the root of a unit defines for the whole unit: its
+-- tables and its low_pc (DWARF 5, 3.1.1, 7.26 to 7.28).
 use Rattle.std.specs.Prelude.{ℕ, ◌+◌, ◌*◌, List, [], ◌∷◌, Option, Some, None, Result, Ok, Err}
-use Rattle.std.specs.Prelude.{nat_le, ◌==◌, if◌then◌else◌}
+use Rattle.std.specs.Prelude.{nat_le, ◌==◌, if◌then◌else◌, zip}
 use Rattle.dwarf_bytes.specs.declared.constants.TheConstants.{DW_AT_ADDR_BASE, DW_AT_LOW_PC}
 use Rattle.dwarf_bytes.specs.declared.constants.TheConstants.{DW_AT_RNGLISTS_BASE}
 use Rattle.dwarf_bytes.specs.declared.constants.TheConstants.{DW_AT_STR_OFFSETS_BASE, DW_FORM_ADDR}
 use Rattle.dwarf_bytes.specs.declared.fault.Cause.{Cause}
 use Rattle.dwarf_bytes.specs.declared.fault.Cause.TheVariants as causes
+use Rattle.dwarf_bytes.specs.declared.fault.LoadFault.{LoadFault}
 use Rattle.dwarf_bytes.specs.declared.fault.ReadFault.{ReadFault}
+use Rattle.dwarf_bytes.specs.declared.fault.Section.TheVariants as names
 use Rattle.dwarf_bytes.specs.declared.format.Format.{Format}
 use Rattle.dwarf_bytes.specs.declared.tables.TableKind.{TableKind}
 use Rattle.dwarf_bytes.specs.declared.tables.TableKind.TheVariants.{StrOffsets, Addr, RngLists}
 use Rattle.dwarf_bytes.specs.Bind.{◌>>=◌}
-use Rattle.dwarf_bytes.specs.Items.{At, reading, refuse_if, with_offset}
+use Rattle.dwarf_bytes.specs.Items.{At, each, reading, refuse_if, with_offset}
 use Rattle.dwarf_bytes.specs.Numbers.{u64_at, offset_len, offset_at}
+use Rattle.dwarf_bytes.specs.Refusals.{in_section}
 use Rattle.dwarf_bytes.specs.Tables.{table_before}
 use Rattle.dwarf_units.specs.declared.unit_headers.UnitHeader.{UnitHeader}
 use Rattle.dwarf_entries.specs.declared.bases.Table.{Table}
 use Rattle.dwarf_entries.specs.declared.bases.Bases.{Bases}
 use Rattle.dwarf_walk.specs.Sections.{Sections}
 use Rattle.dwarf_units.specs.declared.attributes.AttributeValue.{AttributeValue}
-use Rattle.dwarf_units.specs.Entries.{Die, attribute}
+use Rattle.dwarf_units.specs.Units.{units_of, tables_of}
+use Rattle.dwarf_units.specs.Entries.{Die, attribute, entries_of}
 
 -- The bases of a unit without a root.
 abbrev pub no_bases : Bases
@@ -90,3 +94,12 @@ unit_of sections header [] = Ok (record { header = header; dies = []; bases = no
 unit_of sections header (root ∷ dies) = do
   bases ← with_offset root.offset (bases_at sections header.format root)
   Ok (record { header = header; dies = root ∷ dies; bases = bases })
+
+-- The units of an object. The passes over all units read headers, tables, entries and roots.
+unfoldable pub units_read : Sections → Result (List CompilationUnit) LoadFault
+units_read s = do
+  headers ← in_section names.DebugInfo (units_of s.debug_info)
+  tables ← in_section names.DebugAbbrev (tables_of s.debug_abbrev headers)
+  dies ← in_section names.DebugInfo
+      (each (λ _ p. entries_of s.debug_info p.0 p.1) (zip headers tables))
+  in_section names.DebugInfo (each (λ _ p. unit_of s p.0 p.1) (zip headers dies))

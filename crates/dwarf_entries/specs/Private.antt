@@ -5,3 +5,4 @@ pub mod Narrow
 pub mod NameCache
 pub mod Shared
 pub mod Passes
+pub mod ObjectUnits

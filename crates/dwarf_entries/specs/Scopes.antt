@@ -2,7 +2,7 @@
 -- .debug_info.
 use Rattle.std.specs.Prelude.{ℕ, ◌+◌, ◌-◌, ◌*◌, List, [], ◌∷◌, length, Option, Some, None, Result}
 use Rattle.std.specs.Prelude.{Ok, option_and_then, map, flat_map, count_by, sum_by}
-use Rattle.std.specs.Prelude.{slice_get, zip, take, drop, ◌==◌, ◌^◌, if◌then◌else◌, nat_lt}
+use Rattle.std.specs.Prelude.{slice_get, take, drop, ◌==◌, ◌^◌, if◌then◌else◌, nat_lt}
 use Rattle.std.specs.List.{find}
 use Rattle.std.specs.Option.{option_map_or, unwrap_or}
 use Rattle.dwarf_bytes.specs.declared.constants.TheConstants.{DW_AT_CALL_FILE, DW_AT_CALL_LINE}
@@ -23,12 +23,11 @@ use Rattle.dwarf_entries.specs.declared.scope.Range.{Range}
 use Rattle.dwarf_entries.specs.declared.scope.Root.{Root}
 use Rattle.dwarf_entries.specs.declared.scope.Scope.{Scope as StoredScope}
 use Rattle.dwarf_entries.specs.declared.text_offset.TextOffset.{TextOffset}
-use Rattle.dwarf_units.specs.Units.{units_of, tables_of}
-use Rattle.dwarf_units.specs.Entries.{Die, below, entries_of}
+use Rattle.dwarf_units.specs.Entries.{Die, below}
 use Rattle.dwarf_walk.specs.declared.scope_kind.ScopeKind.{ScopeKind}
 use Rattle.dwarf_walk.specs.Sections.{Sections}
 use Rattle.dwarf_walk.specs.ScopeEntries.{kind_of, is_scope, number_of}
-use Rattle.dwarf_entries.specs.Bases.{CompilationUnit, unit_of}
+use Rattle.dwarf_entries.specs.Bases.{CompilationUnit, units_read}
 use Rattle.dwarf_entries.specs.Names.{Member, names_of}
 use Rattle.dwarf_entries.specs.Ranges.{covers_of}
 
@@ -45,8 +44,8 @@ pub record Scope : Type 0 where
   pub call_file : Option ℕ
   pub call_line : Option ℕ
 
--- A string, given its section and its offset there; the greatest number of 32 bits stands for a
--- missing string.
+-- A string, given its section and its offset there. The greatest number of 32 bits means that
+-- there is no string.
 abbrev pub text_by : Section → ℕ → Option TextOffset
 text_by section offset =
     if offset == 2 ^ 32 - 1 then None else Some (record { section = section; offset = offset })
@@ -221,14 +220,10 @@ roots_from number (unit ∷ units) =
     let past = number + count_by is_scope unit.dies in
     root_of number past unit.dies (roots_from past units)
 
--- The passes over all units: headers, tables, entries, roots, scopes.
+-- The roots and scopes of an object. All units are read before the first scope.
 unfoldable pub tree_of : Sections → Result Tree LoadFault
 tree_of s = do
-  headers ← in_section names.DebugInfo (units_of s.debug_info)
-  tables ← in_section names.DebugAbbrev (tables_of s.debug_abbrev headers)
-  dies ← in_section names.DebugInfo
-      (each (λ _ p. entries_of s.debug_info p.0 p.1) (zip headers tables))
-  units ← in_section names.DebugInfo (each (λ _ p. unit_of s p.0 p.1) (zip headers dies))
+  units ← units_read s
   parsed ← in_section names.DebugInfo (each
       (λ before p. with_offset p.member.die.offset (scope_at s units before p))
       (flat_map (λ unit. sites_in unit unit.dies) units))

@@ -1,22 +1,19 @@
 -- Theorems about the result for a whole object.
 use Rattle.std.specs.Prelude.{◌≡◌, ◌≢◌, ℕ, ◌+◌, ◌<◌, ◌≤◌, ◌^◌, List, [], ◌∷◌, length, take, drop}
-use Rattle.std.specs.Prelude.{Some, Result, Ok, All, slice_get, zip}
+use Rattle.std.specs.Prelude.{Some, Ok, All, slice_get}
 use Rattle.std.specs.List.Sorted.{IsStrictlyIncreasing}
-use Rattle.dwarf_bytes.specs.declared.fault.LoadFault.{LoadFault}
 use Rattle.dwarf_bytes.specs.declared.fault.Section.{Section}
 use Rattle.dwarf_bytes.specs.declared.fault.Section.TheVariants as names
-use Rattle.dwarf_bytes.specs.Bind.{◌>>=◌}
-use Rattle.dwarf_bytes.specs.Items.{Lists, each}
-use Rattle.dwarf_bytes.specs.Refusals.{in_section}
+use Rattle.dwarf_bytes.specs.Items.{Lists}
 use Rattle.dwarf_forms.specs.Declarations.{Declaration}
 use Rattle.dwarf_units.specs.declared.unit_headers.UnitHeader.{UnitHeader}
-use Rattle.dwarf_units.specs.Units.{unit_at, units_of, tables_of}
-use Rattle.dwarf_units.specs.Entries.{LocatedNode, Die, node_at, entries_of}
+use Rattle.dwarf_units.specs.Units.{unit_at}
+use Rattle.dwarf_units.specs.Entries.{LocatedNode, Die, node_at}
 use Rattle.dwarf_entries.specs.declared.scope.Range.{Range}
 use Rattle.dwarf_entries.specs.declared.scope.Root.{Root}
 use Rattle.dwarf_entries.specs.declared.text_offset.TextOffset.{TextOffset}
 use Rattle.dwarf_walk.specs.Sections.{Sections}
-use Rattle.dwarf_entries.specs.Bases.{CompilationUnit, unit_of}
+use Rattle.dwarf_entries.specs.Bases.{CompilationUnit}
 use Rattle.dwarf_entries.specs.Scopes.{Scope}
 use Rattle.dwarf_walk.specs.ScopeEntries.{kind_of}
 
@@ -41,15 +38,6 @@ pub record IsOfUnit (root : Root) (scope : Scope) : Type 0 where
   pub stmt_list_is : scope.stmt_list ≡ root.stmt_list
   pub ends : scope.«end» ≤ root.past
   pub starts : root.offset ≤ scope.offset
-
--- The units with their entries and tables, which the scopes are read from.
-unfoldable pub units_read : Sections → Result (List CompilationUnit) LoadFault
-units_read s = do
-  headers ← in_section names.DebugInfo (units_of s.debug_info)
-  tables ← in_section names.DebugAbbrev (tables_of s.debug_abbrev headers)
-  dies ← in_section names.DebugInfo
-      (each (λ _ p. entries_of s.debug_info p.0 p.1) (zip headers tables))
-  in_section names.DebugInfo (each (λ _ p. unit_of s p.0 p.1) (zip headers dies))
 
 -- A scope is the entry at an index of the unit at an index.
 pub record IsEntry (units : List CompilationUnit) (unit place : ℕ) (scope : Scope) : Type 0 where

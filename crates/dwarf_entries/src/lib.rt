@@ -20,6 +20,7 @@ mod string_sections;
 mod text_offset;
 mod tree_laws;
 mod unit_scopes;
+mod units;
 
 pub use dwarf_walk::{ScopeKind, Sections};
 pub use scope::{Range, Root, Scope};

@@ -1,27 +1,22 @@
 //! The names of an entry, found through its references (DWARF 5, 2.13, 2.15 and 3.3.8).
 
-ghost use Rattle.std.specs.Prelude.{◌≡◌, ◌++◌, ◌∷◌, [], List, map, option_map};
+ghost use Rattle.std.specs.Prelude.{◌≡◌, ◌++◌, ◌∷◌, [], ℕ, List, Some, option_map, slice_get};
 ghost use Rattle.std.specs.Option.{option_or};
-ghost use Rattle.dwarf_walk.specs.Sections.{Sections as SectionBytes, sections_of};
-ghost use Rattle.dwarf_entries.specs.Private.StringSections.{AreStringSections};
-ghost use Rattle.dwarf_entries.specs.Bases.{CompilationUnit, optional};
-ghost use Rattle.dwarf_entries.specs.Names.{Member, chain_within, text_of};
 ghost use Rattle.dwarf_bytes.specs.Refusals.{Gives};
-ghost use Rattle.dwarf_entries.specs.Private.EntryOffsets.{AreReadIn, IsBitmapOf};
-ghost use Rattle.dwarf_walk.specs.Private.Rereading.{IsReaderOf};
+ghost use Rattle.dwarf_entries.specs.Bases.{CompilationUnit};
+ghost use Rattle.dwarf_entries.specs.Names.{Member, chain_within, first_on, name_on};
 ghost use Rattle.dwarf_entries.specs.Private.NameCache.{names_within};
-ghost use Rattle.dwarf_entries.specs.Private.Members.{AreStoredAs, IsMember, IsPlaceOf, IsRereadOf};
-ghost use Rattle.dwarf_entries.specs.Private.Members.{AreFirst, FindsFirst, str_offsets_of};
+ghost use Rattle.dwarf_entries.specs.Private.Members.{IsMember, IsPlaceOf, IsRereadOf};
+ghost use Rattle.dwarf_entries.specs.Private.Members.{IsFirst, AreFirst, FindsFirst};
 
-use crate::bases::Bases;
+use crate::bases::Table;
 use crate::names::text_of;
-use crate::references::{UnitPlace, target};
-use crate::string_sections::StringSections;
+use crate::references::UnitPlace;
 use crate::text_offset::TextOffset;
-use crate::unit_scopes::Units;
+use crate::units::Units;
 use dwarf_bytes::Cause;
 use dwarf_units::AttributeValue;
-use dwarf_walk::{EntryBitmap, EntryReader, NamedEntry, Sections, UnitEntries};
+use dwarf_walk::NamedEntry;
 
 /// The maximum number of references followed in an origin chain.
 pub(crate) const REFERENCES_LIMIT: u32 = 16;
@@ -68,110 +63,100 @@ pub(crate) struct EntryNames {
     pub(crate) linkage_name: Option<TextOffset>,
 }
 
-/// Returns the names of an entry of a unit. Each name is the first one on the origin chain of the
-/// entry, which may follow at most `remaining` references. The chain is followed to its end before
-/// the names are validated.
-// Inlined: called for each scope and each reference.
-#[inline(always)]
-pub(crate) fn chain_names(
-    of: Units<'_>,
-    reader: &mut EntryReader<'_>,
-    start: UnitEntry,
-    remaining: u32,
-) -> Result<EntryNames, Cause>
-    requires { AreStringSections (sections_of of.sections.now) of.strings.now }
-    ensures names { (us : List CompilationUnit) → AreStoredAs of.entry.units.now us
-        → IsBitmapOf of.entry.bitmap.now us → of.entry.bases.now ≡ map (λ u. u.bases) us
-        → AreReadIn (sections_of of.entry.sections.now) us
-        → IsReaderOf (sections_of of.entry.sections.now) reader.old
-        → (m : Member) → IsMember us start.unit start.entry m → Gives (λ names. names) result
-        (names_within remaining (sections_of of.entry.sections.now) us m) }
-    ensures reader { (s : SectionBytes) → IsReaderOf s reader.old → IsReaderOf s reader.new }
-{
-    let firsts = first_names(of.units, of.bitmap, reader, start, remaining)?;
-    let name = text(of.sections, of.strings, of.bases, firsts.name)?;
-    let linkage_name = text(of.sections, of.strings, of.bases, firsts.linkage_name)?;
-    Ok(EntryNames { name, linkage_name })
-}
-
-/// Returns the string of an attribute, if there is one.
-// Inlined: called for each scope and each reference.
-#[inline(always)]
-fn text(
-    sections: &Sections<'_>,
-    strings: &StringSections<'_>,
-    bases: &[Bases],
-    found: Option<UnitAttribute>,
-) -> Result<Option<TextOffset>, Cause>
-    requires { AreStringSections (sections_of sections.now) strings.now }
-    ensures { result ≡ optional (λ found. text_of (sections_of sections.now)
-        (str_offsets_of bases.now found.unit) found.value) found }
-{
-    let Some(found) = found else {
-        return Ok(None);
-    };
-    let str_offsets = bases.get(found.unit).and_then(|unit| unit.str_offsets);
-    Ok(Some(text_of(sections, strings, str_offsets, found.value)?))
-}
-
-/// Returns the first names of the origin chain of an entry, which may follow at most `remaining`
-/// references.
-// Inlined: called for each scope and each reference.
-#[inline(always)]
-fn first_names(
-    units: &[UnitEntries],
-    bitmap: &EntryBitmap,
-    reader: &mut EntryReader<'_>,
-    start: UnitEntry,
-    remaining: u32,
-) -> Result<FirstNames, Cause>
-    ensures names { (s : SectionBytes) (us : List CompilationUnit) → AreStoredAs units.now us
-        → IsBitmapOf bitmap.now us → AreReadIn s us → IsReaderOf s reader.old
-        → (m : Member) → IsMember us start.unit start.entry m
-        → FindsFirst us result (chain_within remaining us m) }
-    ensures reader { (s : SectionBytes) → IsReaderOf s reader.old → IsReaderOf s reader.new }
-{
-    let none = FirstNames {
-        name: None,
-        linkage_name: None,
-    };
-    let mut firsts = none.or(start);
-    let mut last = start;
-    let mut left = remaining;
-    while let Some(reference) = last.entry.next {
-        if left == 0 {
-            return Err(Cause::OriginDepth);
-        }
-        left -= 1;
-        let place = target(units, bitmap, last.unit, reference).ok_or(Cause::Reference)?;
-        last = reread_entry(units, bitmap, reader, place)?;
-        firsts = firsts.or(last);
+impl<'a> Units<'a> {
+    /// Returns the names of an entry of a unit. Each name is the first one on the origin chain of
+    /// the entry, which may follow at most `remaining` references. The chain is followed to its end
+    /// before the names are validated.
+    // Inlined: called for each scope and each reference.
+    #[inline(always)]
+    pub(crate) fn chain_names(
+        &mut self,
+        start: UnitEntry,
+        remaining: u32,
+    ) -> Result<EntryNames, Cause>
+        ensures names { (m : Member) → IsMember self.old.units start.unit start.entry m
+            → Gives (λ names. names) result
+            (names_within remaining self.old.sections self.old.units m) }
+        ensures same { self.new ≡ self.old }
+    {
+        let firsts = self.first_names(start, remaining)?;
+        let name = self.text(firsts.name)?;
+        let linkage_name = self.text(firsts.linkage_name)?;
+        Ok(EntryNames { name, linkage_name })
     }
-    Ok(firsts)
-}
 
-/// Re-reads the entry at a place.
-// Inlined: called for each scope and each reference.
-#[inline(always)]
-pub(crate) fn reread_entry(
-    units: &[UnitEntries],
-    bitmap: &EntryBitmap,
-    reader: &mut EntryReader<'_>,
-    place: UnitPlace,
-) -> Result<UnitEntry, Cause>
-    ensures member { (s : SectionBytes) (us : List CompilationUnit) → AreStoredAs units.now us
-        → AreReadIn s us → IsReaderOf s reader.old
-        → (m : Member) → IsPlaceOf us place m → IsRereadOf us result m }
-    ensures reader { (s : SectionBytes) → IsReaderOf s reader.old → IsReaderOf s reader.new }
-{
-    let Some(stored) = units.get(place.unit) else {
-        return Err(Cause::Reference);
-    };
-    let entry = reader.names_at(&stored.header, bitmap, place.offset)?;
-    Ok(UnitEntry {
-        unit: place.unit,
-        entry,
-    })
+    /// Returns the string of an attribute, if there is one.
+    // Inlined: called for each scope and each reference.
+    #[inline(always)]
+    fn text(&self, found: Option<UnitAttribute>) -> Result<Option<TextOffset>, Cause>
+        ensures { (name : ℕ) (path : List Member)
+            → IsFirst self.now.units found (first_on name path)
+            → result ≡ name_on name self.now.sections path }
+    {
+        let Some(found) = found else {
+            return Ok(None);
+        };
+        let str_offsets = self.str_offsets(found.unit);
+        Ok(Some(text_of(self.sections, &self.strings, str_offsets, found.value)?))
+    }
+
+    /// Returns the string offsets table of a unit, if it has one.
+    fn str_offsets(&self, unit: usize) -> Option<Table>
+        ensures { (u : CompilationUnit) → slice_get self.now.units unit ≡ Some u
+            → result ≡ u.bases.str_offsets }
+    {
+        self.bases.get(unit)?.str_offsets
+    }
+
+    /// Returns the first names of the origin chain of an entry, which may follow at most
+    /// `remaining` references.
+    // Inlined: called for each scope and each reference.
+    #[inline(always)]
+    fn first_names(&mut self, start: UnitEntry, remaining: u32) -> Result<FirstNames, Cause>
+        ensures names { (m : Member) → IsMember self.old.units start.unit start.entry m
+            → FindsFirst self.old.units result (chain_within remaining self.old.units m) }
+        ensures same { self.new ≡ self.old }
+    {
+        let none = FirstNames {
+            name: None,
+            linkage_name: None,
+        };
+        let mut firsts = none.or(start);
+        let mut last = start;
+        let mut left = remaining;
+        while let Some(reference) = last.entry.next {
+            if left == 0 {
+                return Err(Cause::OriginDepth);
+            }
+            left -= 1;
+            let Some(place) = self.target(last.unit, reference) else {
+                return Err(Cause::Reference);
+            };
+            last = self.reread_entry(place)?;
+            firsts = firsts.or(last);
+        }
+        Ok(firsts)
+    }
+
+    /// Re-reads the entry at a place.
+    // Inlined: called for each scope and each reference.
+    #[inline(always)]
+    pub(crate) fn reread_entry(&mut self, place: UnitPlace) -> Result<UnitEntry, Cause>
+        ensures member { (m : Member) → IsPlaceOf self.old.units place m
+            → IsRereadOf self.old.units result m }
+        ensures same { self.new ≡ self.old }
+    {
+        let Some(stored) = self.units.get(place.unit) else {
+            return Err(Cause::Reference);
+        };
+        let entry = self
+            .reader
+            .names_at(&stored.header, &self.bitmap, place.offset)?;
+        Ok(UnitEntry {
+            unit: place.unit,
+            entry,
+        })
+    }
 }
 
 /// Returns the attribute that was found before, or else its value in this unit.

@@ -1,28 +1,19 @@
 //! The subprograms and inlined subroutines of an object (DWARF 5, 3.3).
 
-ghost use Rattle.std.specs.Prelude.{◌≡◌, ◌<◌, ◌^◌, map, List, IfOk, slice_get, nat_lt};
+ghost use Rattle.std.specs.Prelude.{◌≡◌, map, slice_get, nat_lt};
 ghost use Rattle.std.specs.List.{find};
 ghost use Rattle.std.specs.List.Sorted.{IsNonDecreasingBy};
-ghost use Rattle.dwarf_bytes.specs.Refusals.{Decodes, Builds};
+ghost use Rattle.dwarf_bytes.specs.Refusals.{Decodes};
 ghost use Rattle.dwarf_walk.specs.Sections.{sections_of};
-ghost use Rattle.dwarf_entries.specs.Bases.{CompilationUnit};
 ghost use Rattle.dwarf_entries.specs.Scopes.{own, own_of, ranges_at, stmt_list_at, call_file_at};
-ghost use Rattle.dwarf_entries.specs.Scopes.{call_line_at, roots_from, tree_of};
-ghost use Rattle.dwarf_entries.specs.Private.StringSections.{AreStringSections};
-ghost use Rattle.dwarf_walk.specs.Private.Rereading.{IsReaderOf};
-ghost use Rattle.dwarf_entries.specs.Private.Passes.{stored_unit_of, TablesRead, tree_with};
-ghost use Rattle.dwarf_walk.specs.Private.Stored.{stored_of};
-ghost use Rattle.dwarf_entries.specs.Private.EntryOffsets.{scope_count};
+ghost use Rattle.dwarf_entries.specs.Scopes.{call_line_at, tree_of};
 
 use crate::calls::CallSite;
-use crate::passes::{all_bases, all_entries};
 use crate::scope::{Range, Root, Scope};
 use crate::scope_lists::ScopeLists;
-use crate::string_sections::StringSections;
-use crate::unit_scopes::Units;
+use crate::units::Units;
 use dwarf_bytes::LoadFault;
-use dwarf_units::{Tables, UnitHeader, units};
-use dwarf_walk::{EntryBitmap, EntryReader, Sections, UnitEntries};
+use dwarf_walk::Sections;
 use std::alloc::{AllocError, Global};
 use std::marker::Model;
 
@@ -53,40 +44,9 @@ impl Scopes {
         ensures { Decodes (λ scopes. scopes) result (tree_of (sections_of sections.now)) }
     {
         bound_places(alloc, sections)?;
-        let headers = units(alloc, sections.debug_info)?;
-        let tables = Tables::validate(alloc, sections.debug_abbrev, headers.as_slice())?;
-        let mut reader = EntryReader::new(alloc, sections, tables);
-        let strings = StringSections::of(sections);
-        Scopes::read_with(alloc, sections, &strings, headers.as_slice(), &mut reader)
-    }
-
-    /// Parses entries, roots and scopes. The abbreviation tables must be valid.
-    fn read_with(
-        alloc: Global,
-        sections: &Sections<'_>,
-        strings: &StringSections<'_>,
-        headers: &[UnitHeader],
-        reader: &mut EntryReader<'_>,
-    ) -> Result<Scopes, LoadFault>
-        requires strings { AreStringSections (sections_of sections.now) strings.now }
-        requires tables { TablesRead (sections_of sections.now) headers.now }
-        requires reader { IsReaderOf (sections_of sections.now) reader.old }
-        ensures { (read : TablesRead (sections_of sections.now) headers.now)
-            → Decodes (λ scopes. scopes) result (tree_with
-            (sections_of sections.now) headers.now read.tables) }
-    {
-        let mut bitmap = EntryBitmap::new(alloc, sections.debug_info.len())?;
-        let stored = all_entries(alloc, sections, headers, &mut reader.tables, &mut bitmap)?;
-        let bases = all_bases(alloc, sections, stored.as_slice())?;
-        let units = Units {
-            sections,
-            strings,
-            units: stored.as_slice(),
-            bitmap: &bitmap,
-            bases: bases.as_slice(),
-        };
-        let lists = units.scopes(alloc, reader)?;
-        let roots = roots(alloc, stored.as_slice())?;
+        let mut units = Units::read(alloc, sections)?;
+        let lists = units.scopes(alloc)?;
+        let roots = units.roots(alloc)?;
         Ok(Scopes { roots, lists })
     }
 
@@ -160,30 +120,4 @@ fn bound_places(alloc: Global, sections: &Sections<'_>) -> Result<(), AllocError
     }
     let _: Vec<u8> = Vec::with_capacity(alloc, usize::MAX)?;
     Ok(())
-}
-
-/// Returns the roots of the units, each with the numbers of its scopes.
-fn roots(alloc: Global, units: &[UnitEntries]) -> Result<Vec<Root>, LoadFault>
-    requires { scope_count units.now < 2 ^ 63 }
-    ensures roots { (us : List CompilationUnit)
-        → map stored_of units.now ≡ map stored_unit_of us
-        → Builds (λ roots. roots.items) result (roots_from 0 us) }
-    ensures order { IfOk result (λ roots. IsNonDecreasingBy (λ root. root.past) roots.items) }
-{
-    let mut roots = Vec::new(alloc);
-    let mut first = 0;
-    for unit in units {
-        let past = first + unit.scopes.len();
-        if let Some(root) = unit.root {
-            let root = Root {
-                offset: root.offset,
-                stmt_list: root.stmt_list,
-                first,
-                past,
-            };
-            roots.push(root)?;
-        }
-        first = past;
-    }
-    Ok(roots)
 }

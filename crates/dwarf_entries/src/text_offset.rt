@@ -14,7 +14,7 @@ pub struct TextOffset {
     pub offset: usize,
 }
 
-/// The offset that stands for a missing string.
+/// The offset that means that there is no string.
 const MISSING: u32 = u32::MAX;
 
 /// Returns the string at an offset of a section; `None` for the offset of a missing string.

@@ -2,7 +2,7 @@
 -- finds.
 use Rattle.std.proofs.Common.{◌≡◌, ℕ, zero, suc, ◌+◌, List, [], ◌∷◌, ◌++◌, refl, sym, ap, ◌∙◌}
 use Rattle.std.proofs.Common.{subst, arith, append_assoc}
-use Rattle.std.specs.Prelude.{Option, Some, None, Result, Ok, Err, slice_get, option_map, ok_or}
+use Rattle.std.specs.Prelude.{Option, Some, None, Result, Ok, Err, slice_get, option_map, ◌-◌}
 use Rattle.std.specs.Option.{option_or}
 use Rattle.dwarf_bytes.specs.declared.fault.Cause.{Cause}
 use Rattle.dwarf_bytes.specs.declared.fault.Cause.TheVariants as causes
@@ -194,29 +194,18 @@ followed-deep units remaining m left found firsts reference so_far none is =
     ∙ ap (λ (r : Result (List Member) Cause). prepend so_far.before r)
     (stopped units so_far.last reference hop))
 
-pub followed-lost : (units : List CompilationUnit) (remaining : ℕ) (m : Member) (left after : ℕ)
+pub followed-lost : (units : List CompilationUnit) (remaining : ℕ) (m : Member) (left : ℕ)
     (found : UnitEntry) (firsts : FirstNames) (reference : AttributeValue)
-    → Followed units remaining m left found firsts → after + 1 ≡ left → found.entry.next
-    ≡ Some reference
-    → (next : Option UnitPlace) (cause : Cause)
-    → (let refused : Result UnitPlace Cause = Err cause in refused ≡ ok_or next causes.Reference)
+    → Followed units remaining m left found firsts → (left ≡ 0 → ⊥) → found.entry.next
+    ≡ Some reference → (next : Option UnitPlace) → next ≡ None
     → ((u : CompilationUnit) → slice_get units found.unit ≡ Some u
-    → Finds units next (target_of units u reference)) → chain_within remaining units m ≡ Err cause
-followed-lost units remaining m left after found firsts reference so_far left_is is
-    (Some next) cause
-    refused finds = cc
-followed-lost units remaining m left after found firsts reference so_far left_is is None
-    cause refused
-    finds =
-    let lost = finds so_far.last.unit so_far.at.unit_is in
+    → Finds units next (target_of units u reference))
+    → chain_within remaining units m ≡ Err causes.Reference
+followed-lost units remaining m left found firsts reference so_far some is next none finds =
+    let lost = (rw none at finds) so_far.last.unit so_far.at.unit_is in
     let hop = next-is units found so_far.last (Some reference) so_far.at is in
-    let same : causes.Reference ≡ cause = same_err {X = UnitPlace} cause causes.Reference refused in
-    so_far.rest ∙ (followed-on units so_far.before left after so_far.last reference left_is hop
-    (Err causes.Reference) lost ∙ ap (λ (c : Cause). Err c) same)
-  where
-    same_err : {X : Type 0} (x y : Cause)
-        → (let f : Cause → Result X Cause = λ z. Err z in f x ≡ f y) → y ≡ x
-    same_err x y h = cc
+    so_far.rest ∙ followed-on units so_far.before left (left - 1) so_far.last reference
+    (omega (arith, some)) hop (Err causes.Reference) lost
 
 -- If the target of a reference cannot be re-read, memory ran out.
 pub followed-again : (units : List CompilationUnit) (remaining : ℕ) (m : Member) (left : ℕ)

@@ -8,15 +8,16 @@ use Rattle.std.proofs.Math.ListN.{get_or-map}
 use Rattle.std.proofs.lemmas.List.{length-map}
 use Rattle.std.proofs.lemmas.List.Folds.{find-append}
 use Rattle.std.proofs.lemmas.Option.{slice_get-map, slice_get-get_or, same_Some}
+use Rattle.std.proofs.lemmas.Option.{slice_get_within}
 use Rattle.std.proofs.lemmas.Bool.Decides.{nat_tests}
-use Rattle.dwarf_units.specs.declared.unit_headers.UnitHeader.{UnitHeader}
 use Rattle.dwarf_walk.specs.declared.unit_entries.UnitEntries.{UnitEntries}
 use Rattle.dwarf_units.specs.Entries.{Die}
 use Rattle.dwarf_entries.specs.Bases.{CompilationUnit}
 use Rattle.dwarf_entries.specs.Names.{Member, members_of}
-use Rattle.dwarf_entries.specs.Private.EntryOffsets.{AreInOrder}
+use Rattle.dwarf_entries.specs.Private.EntryOffsets.{AreInOrder, stored_unit_of}
 use Rattle.dwarf_units.specs.Private.Rising.{RiseWithin}
-use Rattle.dwarf_entries.specs.Private.Members.{header_of, stored_header, AreStoredAs}
+use Rattle.dwarf_walk.specs.Private.Stored.{StoredUnit, stored_of}
+use Rattle.dwarf_entries.specs.Private.Members.{AreStoredAs}
 
 -- ---- nondecreasing lists of numbers
 
@@ -141,25 +142,24 @@ map-twice f g [] = refl
 map-twice f g (x ∷ xs) = ap (λ (zs : List _). f (g x) ∷ zs) (map-twice f g xs)
 
 pub stored-length : (stored : List UnitEntries) (units : List CompilationUnit)
-    → AreStoredAs stored units
-    → length stored ≡ length units
-stored-length stored units are = sym (length-map stored stored_header)
-    ∙ (ap length are.same ∙ length-map units header_of)
+    → map stored_of stored ≡ map stored_unit_of units → length stored ≡ length units
+stored-length stored units same = sym (length-map stored stored_of)
+    ∙ (ap length same ∙ length-map units stored_unit_of)
 
 pub ends-stored : (stored : List UnitEntries) (units : List CompilationUnit)
-    → AreStoredAs stored units
+    → map stored_of stored ≡ map stored_unit_of units
     → map (λ (k : UnitEntries). k.header.end) stored ≡ map (λ (u : CompilationUnit). u.header.end)
     units
-ends-stored stored units are =
-    let end : UnitHeader → ℕ = λ h. h.end in
-    sym (map-twice end stored_header stored)
-    ∙ (ap (λ (rs : List UnitHeader). map end rs) are.same ∙ map-twice end header_of units)
+ends-stored stored units same =
+    let end : StoredUnit → ℕ = λ k. k.header.end in
+    sym (map-twice end stored_of stored)
+    ∙ (ap (λ (ks : List StoredUnit). map end ks) same ∙ map-twice end stored_unit_of units)
 
 pub ends-rise : (stored : List UnitEntries) (units : List CompilationUnit)
     → AreStoredAs stored units
     → IsNonDecreasingBy (λ (k : UnitEntries). k.header.end) stored
 ends-rise stored units are = rising-by (λ (k : UnitEntries). k.header.end) stored 0
-    (subst (λ (xs : List ℕ). RiseFrom 0 xs) (sym (ends-stored stored units are))
+    (subst (λ (xs : List ℕ). RiseFrom 0 xs) (sym (ends-stored stored units are.same))
     (units-rise 0 units are.order))
 
 within-at : (from : ℕ) (units : List CompilationUnit) → AreInOrder from units
@@ -175,6 +175,7 @@ within-at from (v ∷ units) h (suc n) u is = within-at v.header.end units h.2 n
 pub record UnitAt (units : List CompilationUnit) (n : ℕ) (k : UnitEntries) : Type 0 where
   pub unit : CompilationUnit
   pub is : slice_get units n ≡ Some unit
+  pub stored : stored_of k ≡ stored_unit_of unit
   pub header : k.header ≡ unit.header
   pub within : RiseWithin unit.header.start unit.header.end unit.dies
 
@@ -183,37 +184,45 @@ pub unit-at : (stored : List UnitEntries) (units : List CompilationUnit) → Are
     → UnitAt units n k
 unit-at stored units are n k lt is = by_found (slice_get units n) refl
   where
-    same : Some (stored_header k) ≡ option_map header_of (slice_get units n)
+    same : Some (stored_of k) ≡ option_map stored_unit_of (slice_get units n)
     same =
         let here : slice_get stored n ≡ Some k =
         slice_get-get_or stored n k lt ∙ ap (λ (x : UnitEntries). Some x) (sym (is k)) in
-        ap (λ (o : Option UnitEntries). option_map stored_header o) (sym here)
-        ∙ (sym (slice_get-map stored_header stored n)
-        ∙ (ap (λ (rs : List UnitHeader). slice_get rs n) are.same
-        ∙ slice_get-map header_of units n))
+        ap (λ (o : Option UnitEntries). option_map stored_of o) (sym here)
+        ∙ (sym (slice_get-map stored_of stored n)
+        ∙ (ap (λ (ks : List StoredUnit). slice_get ks n) are.same
+        ∙ slice_get-map stored_unit_of units n))
 
     by_found : (found : Option CompilationUnit) → slice_get units n ≡ found → UnitAt units n k
     by_found None h = absurd (never (same
-        ∙ ap (λ (o : Option CompilationUnit). option_map header_of o) h))
+        ∙ ap (λ (o : Option CompilationUnit). option_map stored_unit_of o) h))
       where
-        never : Some (stored_header k) ≡ None → ⊥
+        never : Some (stored_of k) ≡ None → ⊥
         never e = cc
     by_found (Some u) h =
-        let e : k.header ≡ u.header = same_Some k.header u.header
-        (same ∙ ap (λ (o : Option CompilationUnit). option_map header_of o) h) in
+        let e : stored_of k ≡ stored_unit_of u = same_Some (stored_of k) (stored_unit_of u)
+        (same ∙ ap (λ (o : Option CompilationUnit). option_map stored_unit_of o) h) in
         record {
           unit = u;
           is = h;
-          header = e;
+          stored = e;
+          header = ap (λ (x : StoredUnit). x.header) e;
           within = within-at 0 units are.order n u h;
         }
 
-pub start-stored : (stored : List UnitEntries) (units : List CompilationUnit)
-    → AreStoredAs stored units
-    → (n : ℕ) (k : UnitEntries) → n < length stored → ((d : UnitEntries) → k ≡ get_or stored n d)
-    → (u : CompilationUnit) → slice_get units n ≡ Some u
-    → k.header.start ≡ u.header.start
-start-stored stored units are n k lt is u at =
-    let found = unit-at stored units are n k lt is in
-    ap (λ (h : UnitHeader). h.start) found.header ∙ ap (λ (v : CompilationUnit). v.header.start)
-    (same_Some found.unit u (sym found.is ∙ at))
+-- The data at an index was stored for the unit at the same index.
+pub stored-index : (stored : List UnitEntries) (units : List CompilationUnit)
+    → map stored_of stored ≡ map stored_unit_of units
+    → (n : ℕ) (k : UnitEntries) → k ≡ get_or stored n k
+    → (u : CompilationUnit) → slice_get units n ≡ Some u → stored_of k ≡ stored_unit_of u
+stored-index stored units same n k is u found =
+    let within = slice_get_within units n u found in
+    let len = stored-length stored units same in
+    let here : slice_get stored n ≡ Some k = slice_get-get_or stored n k
+    (omega (arith, within, len)) ∙ ap (λ (x : UnitEntries). Some x) (sym is) in
+    same_Some (stored_of k) (stored_unit_of u)
+    (ap (λ (o : Option UnitEntries). option_map stored_of o) (sym here)
+    ∙ (sym (slice_get-map stored_of stored n)
+    ∙ (ap (λ (ks : List StoredUnit). slice_get ks n) same
+    ∙ (slice_get-map stored_unit_of units n
+    ∙ ap (λ (o : Option CompilationUnit). option_map stored_unit_of o) found))))

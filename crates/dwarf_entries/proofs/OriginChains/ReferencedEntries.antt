@@ -46,7 +46,7 @@ anywhere stored units are n offset le search_is u reference form number =
     let parts_of : IsPartitionPoint (λ x. x ≤ offset) (λ x. offset < x)
     (map (λ (v : CompilationUnit). v.header.end) units) n =
     subst (λ (xs : List ℕ). IsPartitionPoint (λ x. x ≤ offset) (λ x. offset < x) xs n)
-    (ends-stored stored units are) parts in
+    (ends-stored stored units are.same) parts in
     let all : member_at (members_of units) offset ≡ member_in units n offset =
     ap (λ (o : Option Member). ok_or o causes.Reference)
     (in-unit 0 units offset n are.order parts_of) in

@@ -10,10 +10,10 @@ use Rattle.std.proofs.lemmas.List.Sums.{sum_by_more_le, sum_by-take-drop, count_
 use Rattle.std.proofs.lemmas.Option.{get_or_from_slice_get, slice_get_within}
 use Rattle.dwarf_units.specs.Entries.{Die, below, IsBelow}
 use Rattle.dwarf_walk.specs.Sections.{Sections}
-use Rattle.dwarf_entries.specs.Bases.{CompilationUnit}
+use Rattle.dwarf_entries.specs.Bases.{CompilationUnit, units_read}
 use Rattle.dwarf_entries.specs.Scopes.{Scope, Tree, tree_of}
 use Rattle.dwarf_walk.specs.ScopeEntries.{is_scope}
-use Rattle.dwarf_entries.specs.TreeLaws.{IsEntry, units_read}
+use Rattle.dwarf_entries.specs.TreeLaws.{IsEntry}
 use Rattle.dwarf_entries.proofs.Results.BelowLaws.{scopes-between}
 use Rattle.dwarf_entries.proofs.Results.OffsetLaws.{scopes-rise}
 use Rattle.dwarf_entries.proofs.RootPasses.RootParts.{few-below}

@@ -8,11 +8,11 @@ use Rattle.dwarf_bytes.proofs.Numbers.Moves.{same-ok}
 use Rattle.dwarf_units.specs.Entries.{Die}
 use Rattle.dwarf_walk.specs.declared.scope_kind.ScopeKind.{ScopeKind}
 use Rattle.dwarf_walk.specs.Sections.{Sections}
-use Rattle.dwarf_entries.specs.Bases.{CompilationUnit}
+use Rattle.dwarf_entries.specs.Bases.{CompilationUnit, units_read}
 use Rattle.dwarf_entries.specs.Scopes.{Scope, Tree, ParsedScope, site_of, sites_in, roots_from}
 use Rattle.dwarf_entries.specs.Scopes.{tree_of}
 use Rattle.dwarf_walk.specs.ScopeEntries.{kind_of, is_scope}
-use Rattle.dwarf_entries.specs.TreeLaws.{IsEntry, units_read}
+use Rattle.dwarf_entries.specs.TreeLaws.{IsEntry}
 use Rattle.dwarf_entries.proofs.Results.ScopeOrder.{all_sites}
 use Rattle.dwarf_entries.proofs.Results.TreeParts.{AreParsed, IsRead, is-read}
 use Rattle.dwarf_entries.proofs.RootPasses.RootParts.{scopes_in, split}
@@ -90,18 +90,14 @@ are-entries s all (unit ∷ units) before js made =
 
 -- ---- the units that were read
 
-read-again : (s : Sections) (tree : Tree) (read : IsRead s tree) → units_read s ≡ Ok read.units
-unfolding units_read
-read-again s tree read = rw (read.headers_are, read.tables_are, read.dies_are, read.units_are) refl
-
 same-units : (s : Sections) (tree : Tree) (read : IsRead s tree) (units : List CompilationUnit)
     → units_read s ≡ Ok units → read.units ≡ units
-same-units s tree read units h = same-ok read.units units (sym (read-again s tree read) ∙ h)
+same-units s tree read units h = same-ok read.units units (sym read.units_are ∙ h)
 
 pub units-were-read : (s : Sections) (tree : Tree) → tree_of s ≡ Ok tree
     → (units : List CompilationUnit) × (units_read s ≡ Ok units) × (roots_from 0 units ≡ tree.roots)
 units-were-read s tree h = let read = is-read s tree h in
-    (read.units, read-again s tree read, read.roots_are)
+    (read.units, read.units_are, read.roots_are)
 
 pub scopes-enter : (s : Sections) (tree : Tree) (units : List CompilationUnit) (scope : Scope)
     → tree_of s ≡ Ok tree → units_read s ≡ Ok units → Contains tree.scopes scope

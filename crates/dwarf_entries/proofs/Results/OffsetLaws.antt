@@ -22,7 +22,7 @@ use Rattle.dwarf_entries.proofs.UnitPasses.OrderLaws.{HeadersInOrder, headers-in
 use Rattle.dwarf_entries.proofs.UnitPasses.UnitOrder.{unit_of-parts}
 use Rattle.dwarf_entries.proofs.Results.ScopeOrder.{all_sites}
 use Rattle.dwarf_entries.proofs.Results.TreeParts.{each-cons, each-past, read_entries, read_unit}
-use Rattle.dwarf_entries.proofs.Results.TreeParts.{AreParsed, IsRead, is-read}
+use Rattle.dwarf_entries.proofs.Results.TreeParts.{unit-parts, AreParsed, IsRead, is-read}
 
 -- ---- increasing numbers
 
@@ -100,9 +100,11 @@ list-rises s size from (header ∷ headers) (table ∷ tables) before (first ∷
 
 pub units-rise : (s : Sections) (tree : Tree) (read : IsRead s tree)
     → UnitsRise 0 (length s.debug_info) read.units
-units-rise s tree read = list-rises s (length s.debug_info) 0 read.headers read.tables [] read.dies
-    [] read.units (omega arith) (headers-in-order s.debug_info read.headers read.headers_are)
-    read.dies_are read.units_are
+units-rise s tree read =
+    let parts = unit-parts s read.units read.units_are in
+    list-rises s (length s.debug_info) 0 parts.headers parts.tables [] parts.dies [] read.units
+    (omega arith) (headers-in-order s.debug_info parts.headers parts.headers_are) parts.dies_are
+    parts.units_are
 
 -- ---- scopes
 

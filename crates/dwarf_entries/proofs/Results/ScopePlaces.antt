@@ -1,24 +1,20 @@
 -- The scopes of the sites, pass by pass.
 use Rattle.std.proofs.Common.{◌≡◌, ℕ, zero, suc, ◌+◌, ◌-◌, ◌≤◌, List, [], ◌∷◌, ◌++◌, length, map}
 use Rattle.std.proofs.Common.{refl, ap, sym, ◌∙◌, subst, arith}
-use Rattle.std.specs.Prelude.{Result, Ok, sum_by, zip}
+use Rattle.std.specs.Prelude.{Result, Ok, sum_by}
 use Rattle.std.proofs.lemmas.List.{length_push}
 use Rattle.dwarf_bytes.specs.declared.constants.TheConstants.{DW_AT_CALL_FILE, DW_AT_CALL_LINE}
 use Rattle.dwarf_bytes.specs.declared.fault.Cause.{Cause}
 use Rattle.dwarf_bytes.specs.declared.fault.LoadFault.{LoadFault}
 use Rattle.dwarf_bytes.specs.Bind.{◌>>=◌}
-use Rattle.dwarf_bytes.specs.Items.{At, with_offset, each, each_from}
+use Rattle.dwarf_bytes.specs.Items.{At, with_offset, each_from}
 use Rattle.dwarf_bytes.specs.Refusals.{in_section}
 use Rattle.dwarf_walk.specs.Sections.{Sections}
 use Rattle.dwarf_bytes.specs.declared.fault.Section.TheVariants as names
-use Rattle.dwarf_forms.specs.Declarations.{Declaration}
 use Rattle.dwarf_entries.specs.declared.origin_chains.EntryNames.{EntryNames}
-use Rattle.dwarf_units.specs.declared.unit_headers.UnitHeader.{UnitHeader}
-use Rattle.dwarf_units.specs.Units.{units_of, tables_of}
 use Rattle.dwarf_entries.specs.Names.{names_of}
 use Rattle.dwarf_entries.specs.Ranges.{Covering, covers_of}
-use Rattle.dwarf_units.specs.Entries.{Die, entries_of}
-use Rattle.dwarf_entries.specs.Bases.{CompilationUnit, unit_of}
+use Rattle.dwarf_entries.specs.Bases.{CompilationUnit, units_read}
 use Rattle.dwarf_entries.specs.Scopes.{Scope, Tree, ScopeSite, ParsedScope, scope_at, tree_of}
 use Rattle.dwarf_entries.specs.Scopes.{items_limit, stmt_list_of, roots_from}
 use Rattle.dwarf_walk.specs.ScopeEntries.{number_of}
@@ -168,30 +164,11 @@ abbrev pub from_units : Sections → List CompilationUnit → Result Tree LoadFa
 from_units s units = in_section names.DebugInfo (each_from (make s units) [] (all_sites units))
     >>= from_checked units
 
-abbrev pub from_dies : Sections → List UnitHeader → List (List Die) → Result Tree LoadFault
-from_dies s headers dies = in_section names.DebugInfo
-    (each (λ _ p. unit_of s p.0 p.1) (zip headers dies)) >>= from_units s
-
-abbrev pub from_tables : Sections → List UnitHeader → List (List Declaration)
-    → Result Tree LoadFault
-from_tables s headers tables = in_section names.DebugInfo
-    (each (λ _ p. entries_of s.debug_info p.0 p.1) (zip headers tables)) >>= from_dies s headers
-
-abbrev pub from_headers : Sections → List UnitHeader → Result Tree LoadFault
-from_headers s headers = in_section names.DebugAbbrev (tables_of s.debug_abbrev headers)
-    >>= from_tables s headers
-
 -- The theorem.
 pub scopes-in-order : (s : Sections) (tree : Tree) → tree_of s ≡ Ok tree → AreInOrder tree.scopes
 unfolding tree_of
 scopes-in-order s tree h =
-    let a = bind-ok (in_section names.DebugInfo (units_of s.debug_info)) (from_headers s) tree h in
-    let b = bind-ok (in_section names.DebugAbbrev (tables_of s.debug_abbrev a.0))
-    (from_tables s a.0) tree a.2 in
-    let c = bind-ok (in_section names.DebugInfo
-    (each (λ _ p. entries_of s.debug_info p.0 p.1) (zip a.0 b.0))) (from_dies s a.0) tree b.2 in
-    let d = bind-ok (in_section names.DebugInfo (each (λ _ p. unit_of s p.0 p.1) (zip a.0 c.0)))
-    (from_units s) tree c.2 in
+    let d = bind-ok (units_read s) (from_units s) tree h in
     let e = bind-ok (in_section names.DebugInfo (each_from (make s d.0) [] (all_sites d.0)))
     (from_checked d.0) tree d.2 in
     let at = scopes-made s d.0 [] (all_sites d.0) e.0

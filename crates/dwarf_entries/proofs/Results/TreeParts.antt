@@ -13,14 +13,13 @@ use Rattle.dwarf_units.specs.Units.{units_of, tables_of}
 use Rattle.dwarf_units.specs.Entries.{Die, entries_of}
 use Rattle.dwarf_entries.specs.declared.origin_chains.EntryNames.{EntryNames}
 use Rattle.dwarf_walk.specs.Sections.{Sections}
-use Rattle.dwarf_entries.specs.Bases.{CompilationUnit, unit_of}
+use Rattle.dwarf_entries.specs.Bases.{CompilationUnit, unit_of, units_read}
 use Rattle.dwarf_entries.specs.Names.{names_of}
 use Rattle.dwarf_entries.specs.Ranges.{Covering}
 use Rattle.dwarf_entries.specs.Scopes.{Tree, ScopeSite, ParsedScope, scope_at, tree_of, roots_from}
-use Rattle.dwarf_entries.proofs.Results.ScopeOrder.{section-ok, described-ok, all_sites}
+use Rattle.dwarf_entries.proofs.Results.ScopeOrder.{bind-ok, section-ok, described-ok, all_sites}
 use Rattle.dwarf_entries.proofs.Results.ScopePlaces.{checked_by, covering_at, make, from_checked}
-use Rattle.dwarf_entries.proofs.Results.ScopePlaces.{from_units, from_dies, from_tables}
-use Rattle.dwarf_entries.proofs.Results.ScopePlaces.{from_headers}
+use Rattle.dwarf_entries.proofs.Results.ScopePlaces.{from_units}
 
 -- ---- the results for each element of a list
 
@@ -124,15 +123,37 @@ abbrev pub read_unit : Sections → List CompilationUnit → UnitHeader × List 
     → Result CompilationUnit At
 read_unit s before p = unit_of s p.0 p.1
 
-pub record IsRead (s : Sections) (tree : Tree) : Type 0 where
+-- The parts that the units were read from.
+pub record UnitParts (s : Sections) (units : List CompilationUnit) : Type 0 where
   pub headers : List UnitHeader
   pub headers_are : units_of s.debug_info ≡ Ok headers
   pub tables : List (List Declaration)
   pub tables_are : tables_of s.debug_abbrev headers ≡ Ok tables
   pub dies : List (List Die)
   pub dies_are : each (read_entries s) (zip headers tables) ≡ Ok dies
-  pub units : List CompilationUnit
   pub units_are : each (read_unit s) (zip headers dies) ≡ Ok units
+
+pub unit-parts : (s : Sections) (units : List CompilationUnit) → units_read s ≡ Ok units
+    → UnitParts s units
+unfolding units_read
+unit-parts s units h =
+    let a = bind-ok (in_section names.DebugInfo (units_of s.debug_info)) _ units h in
+    let b = bind-ok (in_section names.DebugAbbrev (tables_of s.debug_abbrev a.0)) _ units a.2 in
+    let c = bind-ok (in_section names.DebugInfo (each (read_entries s) (zip a.0 b.0))) _ units b.2
+    in
+    record {
+      headers = a.0;
+      headers_are = section-ok names.DebugInfo (units_of s.debug_info) a.0 a.1;
+      tables = b.0;
+      tables_are = section-ok names.DebugAbbrev (tables_of s.debug_abbrev a.0) b.0 b.1;
+      dies = c.0;
+      dies_are = section-ok names.DebugInfo (each (read_entries s) (zip a.0 b.0)) c.0 c.1;
+      units_are = section-ok names.DebugInfo (each (read_unit s) (zip a.0 c.0)) units c.2;
+    }
+
+pub record IsRead (s : Sections) (tree : Tree) : Type 0 where
+  pub units : List CompilationUnit
+  pub units_are : units_read s ≡ Ok units
   pub parsed : List ParsedScope
   pub judged_are : AreParsed s units [] (all_sites units) parsed
   pub roots_are : roots_from 0 units ≡ tree.roots
@@ -141,35 +162,19 @@ pub record IsRead (s : Sections) (tree : Tree) : Type 0 where
 pub is-read : (s : Sections) (tree : Tree) → tree_of s ≡ Ok tree → IsRead s tree
 unfolding tree_of
 is-read s tree h =
-    let P : Type 0 = IsRead s tree in
-    after-bind (in_section names.DebugInfo (units_of s.debug_info)) (from_headers s) tree h P
-    (λ headers headers_are h1.
-    after-bind (in_section names.DebugAbbrev (tables_of s.debug_abbrev headers))
-    (from_tables s headers) tree h1 P (λ tables tables_are h2.
-    after-bind (in_section names.DebugInfo (each (read_entries s) (zip headers tables)))
-    (from_dies s headers) tree h2 P (λ dies dies_are h3.
-    after-bind (in_section names.DebugInfo (each (read_unit s) (zip headers dies))) (from_units s)
-    tree h3 P (λ units units_are h4.
-    after-bind (in_section names.DebugInfo (each_from (make s units) [] (all_sites units)))
-    (from_checked units) tree h4 P (λ parsed judged_are last.
+    let a = bind-ok (units_read s) (from_units s) tree h in
+    let units = a.0 in
+    let b = bind-ok (in_section names.DebugInfo (each_from (make s units) [] (all_sites units)))
+    (from_checked units) tree a.2 in
+    let parsed = b.0 in
     let same = same-ok (record { roots = roots_from 0 units; scopes = map (λ j. j.scope) parsed })
-    tree last in
+    tree b.2 in
     record {
-      headers = headers;
-      headers_are = section-ok names.DebugInfo (units_of s.debug_info) headers headers_are;
-      tables = tables;
-      tables_are = section-ok names.DebugAbbrev (tables_of s.debug_abbrev headers) tables
-          tables_are;
-      dies = dies;
-      dies_are = section-ok names.DebugInfo (each (read_entries s) (zip headers tables)) dies
-          dies_are;
       units = units;
-      units_are = section-ok names.DebugInfo (each (read_unit s) (zip headers dies)) units
-          units_are;
+      units_are = a.1;
       parsed = parsed;
       judged_are = are-parsed s units [] (all_sites units) parsed
-          (section-ok names.DebugInfo (each_from (make s units) [] (all_sites units)) parsed
-          judged_are);
+          (section-ok names.DebugInfo (each_from (make s units) [] (all_sites units)) parsed b.1);
       roots_are = ap (λ (t : Tree). t.roots) same;
       scopes_are = ap (λ (t : Tree). t.scopes) same;
-    })))))
+    }

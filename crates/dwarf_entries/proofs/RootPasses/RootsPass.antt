@@ -1,12 +1,12 @@
 -- The iterations of the loop that returns the roots.
 use Rattle.std.proofs.Common.{◌≡◌, ℕ, ◌+◌, ◌<◌, ◌≤◌, List, [], ◌∷◌, ◌++◌, length, take, drop}
 use Rattle.std.proofs.Common.{get_or, map, refl, ap, sym, ◌∙◌, subst, arith, append_assoc}
-use Rattle.std.proofs.Common.{append-nil, drop-cons, add-one}
-use Rattle.std.specs.Prelude.{Option, Some, None, All, count_by, sum_by, ◌-◌}
+use Rattle.std.proofs.Common.{append-nil}
+use Rattle.std.specs.Prelude.{Option, Some, None, All, count_by, slice_get, sum_by, ◌-◌}
 use Rattle.std.specs.List.Sorted.{IsNonDecreasingBy}
 use Rattle.std.proofs.lemmas.List.Sorted.{IsNonDecreasingBy-push}
 use Rattle.std.proofs.lemmas.List.Elements.{All-nil, All-cons, All-append, All-weaker}
-use Rattle.std.proofs.lemmas.List.{drop_all, get_or-map, length-map, take_more, take-append-drop}
+use Rattle.std.proofs.lemmas.List.{drop_all, take_more, take-append-drop}
 use Rattle.std.proofs.lemmas.List.Sums.{sum_by-append}
 use Rattle.dwarf_entries.specs.declared.scope.Root.{Root}
 use Rattle.dwarf_walk.specs.declared.unit_entries.RootEntry.{RootEntry}
@@ -16,9 +16,13 @@ use Rattle.dwarf_entries.specs.Bases.{CompilationUnit}
 use Rattle.dwarf_walk.specs.ScopeEntries.{is_scope}
 use Rattle.dwarf_entries.specs.Scopes.{root_of, roots_from}
 use Rattle.dwarf_walk.specs.Private.Stored.{StoredUnit, root_in, stored_of}
-use Rattle.dwarf_entries.specs.Private.EntryOffsets.{scope_count}
-use Rattle.dwarf_entries.specs.Private.Passes.{stored_unit_of}
-use Rattle.dwarf_entries.proofs.ScopePasses.SiteLaws.{places-counted}
+use Rattle.dwarf_entries.specs.Private.EntryOffsets.{scope_count, stored_unit_of}
+use Rattle.dwarf_entries.specs.Private.Passes.{number_of_scopes, IsFirstNumberOf}
+use Rattle.dwarf_entries.proofs.OriginChains.ReferenceLaws.{stored-index, stored-length}
+use Rattle.dwarf_entries.proofs.RootPasses.RootNumbers.{units-from}
+use Rattle.dwarf_entries.proofs.RootPasses.RootParts.{sites-count}
+use Rattle.dwarf_entries.proofs.ScopePasses.ScopesPass.{unit-there}
+use Rattle.dwarf_entries.proofs.ScopePasses.SiteLaws.{sites-stored}
 
 -- The roots of the units before the index, followed by the roots of the other units, are all
 -- roots.
@@ -26,41 +30,47 @@ abbrev pub RootsSoFar : List CompilationUnit → ℕ → ℕ → List Root → T
 RootsSoFar us index first roots = roots ++ roots_from first (drop index us) ≡ roots_from 0 us
 
 -- The specified unit at an index.
-record RootAt (us : List CompilationUnit) (index : ℕ) (unit : UnitEntries) : Type 0 where
+pub record RootAt (us : List CompilationUnit) (index : ℕ) (unit : UnitEntries) : Type 0 where
   pub u : CompilationUnit
-  pub rest : drop index us ≡ u ∷ drop (index + 1) us
+  pub found : slice_get us index ≡ Some u
   pub root_is : unit.root ≡ root_in u.dies
   pub count : length unit.scopes.items ≡ count_by is_scope u.dies
 
-root-at : (units : List UnitEntries) (us : List CompilationUnit) (index : ℕ) (unit : UnitEntries)
-    → map stored_of units ≡ map stored_unit_of us → index < length units
+pub root-at : (units : List UnitEntries) (us : List CompilationUnit) (index : ℕ)
+    (unit : UnitEntries) → map stored_of units ≡ map stored_unit_of us → index < length units
     → unit ≡ get_or units index unit → RootAt us index unit
 root-at units us index unit same within is =
-    let sizes : length units ≡ length us = sym (length-map units stored_of)
-    ∙ (ap (λ (ks : List StoredUnit). length ks) same ∙ length-map us stored_unit_of) in
-    let inside : index < length us = omega (arith, sizes, within) in
-    let d : CompilationUnit = record {
-      header = unit.header;
-      dies = [];
-      bases =
-          record { str_offsets = None; addr = None; rnglists = None; low_pc = None };
-    } in
-    let u : CompilationUnit = get_or us index d in
-    let here : stored_of unit ≡ stored_unit_of u =
-    ap stored_of is ∙ (sym (get_or-map stored_of units index unit (stored_of unit) within)
-    ∙ (ap (λ (ks : List StoredUnit). get_or ks index (stored_of unit)) same
-    ∙ get_or-map stored_unit_of us index d (stored_of unit) inside)) in
+    let sizes = stored-length units us same in
+    let u = unit-there us index (omega (arith, sizes, within)) in
+    let here = stored-index units us same index unit is u.0 u.1 in
     record {
-      u = u;
-      rest = rw (add-one, drop-cons us index d inside) refl;
+      u = u.0;
+      found = u.1;
       root_is = ap (λ (k : StoredUnit). k.root) here;
-      count = ap (λ (k : StoredUnit). length k.scopes) here ∙ places-counted u.dies;
+      count = sites-stored unit u.0 here ∙ sites-count u.0 u.0.dies;
     }
+
+-- The units up to an index have at most as many scopes as all.
+pub count-fits : (us : List CompilationUnit) (index number : ℕ) → IsFirstNumberOf us index number
+    → number ≤ number_of_scopes us
+count-fits us index number first =
+    let f : CompilationUnit → ℕ = λ u. count_by is_scope u.dies in
+    let whole : sum_by f (take index us ++ drop index us) ≡ sum_by f (take index us) +
+    sum_by f (drop index us) = sum_by-append f (take index us) (drop index us) in
+    let same : sum_by f (take index us ++ drop index us) ≡ sum_by f us =
+    ap (λ (vs : List CompilationUnit). sum_by f vs) (take-append-drop index us) in
+    omega (arith, whole, same, first)
 
 -- The scopes of a list of roots end in order, at or before a number.
 pub record EndInOrder (roots : List Root) (number : ℕ) : Type 0 where
   pub rise : IsNonDecreasingBy (λ root. root.past) roots
   pub within : All (λ root. root.past ≤ number) roots
+
+pub ends-none : (number : ℕ) → EndInOrder [] number
+ends-none number = record {
+  rise = λ i j d le lt. absurd (omega (arith, lt));
+  within = All-nil (λ (r : Root). r.past ≤ number);
+}
 
 pub ends-later : (roots : List Root) (number later : ℕ) → EndInOrder roots number → number ≤ later
     → EndInOrder roots later
@@ -93,16 +103,6 @@ count-within units index unit first first_is within is =
     let sum : sum_by f (take index units ++ unit ∷ []) ≡ sum_by f (take index units) + f unit =
     sum_by-append f (take index units) (unit ∷ []) ∙ omega arith in
     omega (arith, first_is, sum, ap (λ (us : List UnitEntries). sum_by f us) taken)
-
-pub count_fits : (units : List UnitEntries) (index : ℕ)
-    → scope_count (take index units) ≤ scope_count units
-count_fits units index =
-    let f : UnitEntries → ℕ = λ unit. length unit.scopes.items in
-    let whole : sum_by f (take index units ++ drop index units) ≡ sum_by f (take index units) +
-    sum_by f (drop index units) = sum_by-append f (take index units) (drop index units) in
-    let same : sum_by f (take index units ++ drop index units) ≡ sum_by f units =
-    ap (λ (us : List UnitEntries). sum_by f us) (take-append-drop index units) in
-    omega (arith, whole, same)
 
 -- The root of a unit, if there is one.
 abbrev pub root_list : ℕ → ℕ → Option RootEntry → List Root
@@ -139,7 +139,7 @@ roots-next units us index first unit roots same within is so_far =
     ++ roots_from (first + k) (drop (index + 1) us)) (sym here.count)) in
     append_assoc roots list (roots_from past (drop (index + 1) us))
     ∙ (ap (λ (rs : List Root). roots ++ rs) (sym described)
-    ∙ (ap (λ (vs : List CompilationUnit). roots ++ roots_from first vs) (sym here.rest)
+    ∙ (ap (λ (vs : List CompilationUnit). roots ++ roots_from first vs) (sym (units-from us here.u index here.found))
     ∙ so_far))
 
 -- An iteration, with machine integers.
@@ -161,8 +161,7 @@ pub roots-end : (units : List UnitEntries) (us : List CompilationUnit) (index fi
     (roots : List Root) → map stored_of units ≡ map stored_unit_of us → length units ≤ index
     → RootsSoFar us index first roots → roots ≡ roots_from 0 us
 roots-end units us index first roots same past so_far =
-    let sizes : length units ≡ length us = sym (length-map units stored_of)
-    ∙ (ap (λ (ks : List StoredUnit). length ks) same ∙ length-map us stored_unit_of) in
+    let sizes = stored-length units us same in
     let none : drop index us ≡ [] = drop_all index us (omega (arith, sizes, past)) in
     sym (append-nil roots) ∙ (ap (λ (vs : List CompilationUnit). roots ++ roots_from first vs)
     (sym none) ∙ so_far)

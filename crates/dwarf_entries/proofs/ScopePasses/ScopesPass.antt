@@ -1,24 +1,14 @@
 -- The iterations of the pass over the scopes of all units.
 use Rattle.std.proofs.Common.{◌≡◌, ℕ, ◌+◌, ◌<◌, ◌≤◌, ◌⊎◌, inl, inr, suc, List, [], ◌∷◌, ◌++◌}
-use Rattle.std.proofs.Common.{length, drop, get_or, refl, ap, sym, ◌∙◌, arith, length-append}
-use Rattle.std.specs.Prelude.{Result, Ok, Err, Some, None, slice_get, sum_by, count_by}
+use Rattle.std.proofs.Common.{length, drop, get_or, refl, ap, sym, ◌∙◌, subst, arith, length-append}
+use Rattle.std.specs.Prelude.{Option, Result, Ok, Err, Some, None, slice_get, sum_by, count_by}
 use Rattle.std.proofs.lemmas.List.{map-append, length-map, length-drop}
 use Rattle.std.proofs.lemmas.List.Sums.{sum_by-append}
 use Rattle.std.proofs.lemmas.Option.{slice_get_cases}
 use Rattle.dwarf_bytes.specs.declared.fault.Cause.{Cause}
 use Rattle.dwarf_bytes.specs.Items.{At, with_offset, each_from}
-use Rattle.dwarf_bytes.proofs.Numbers.Moves.{same-ok}
-use Rattle.dwarf_units.specs.declared.unit_headers.UnitHeader.{UnitHeader}
-use Rattle.dwarf_forms.specs.Tables.{declarations_of}
-use Rattle.dwarf_units.specs.Units.{declarations_limit}
-use Rattle.dwarf_walk.specs.Private.Rereading.{scope_entry_at}
-use Rattle.dwarf_entries.specs.Private.EntryOffsets.{IsReadIn}
-use Rattle.dwarf_entries.proofs.UnitPasses.RereadLaws.{bytes_in, scope-there}
 use Rattle.dwarf_bytes.proofs.Items.EachLaws.{made_front, each-next}
-use Rattle.dwarf_entries.specs.declared.bases.Bases.{Bases}
-use Rattle.dwarf_walk.specs.declared.unit_entries.UnitEntries.{UnitEntries}
 use Rattle.dwarf_walk.specs.declared.unit_entries.ScopeEntry.{ScopeEntry}
-use Rattle.dwarf_walk.specs.declared.unit_entries.ScopePlace.{ScopePlace}
 use Rattle.dwarf_entries.specs.declared.scope.Root.{Root}
 use Rattle.dwarf_entries.specs.declared.scope.ScopeFacts.{ScopeFacts}
 use Rattle.dwarf_entries.specs.declared.scope_lists.ScopeLists.{ScopeLists}
@@ -33,32 +23,21 @@ use Rattle.dwarf_walk.specs.Sections.{Sections}
 use Rattle.dwarf_entries.specs.Bases.{CompilationUnit}
 use Rattle.dwarf_entries.specs.Scopes.{scope_at, ParsedScope, ScopeSite, Scope, sites_in}
 use Rattle.dwarf_entries.specs.Scopes.{stmt_list_of, roots_from}
-use Rattle.dwarf_entries.specs.Private.Passes.{AreUnits, IsFirstNumberOf, IsScopeSite}
+use Rattle.dwarf_entries.specs.Private.Passes.{IsFirstNumberOf, IsScopeSite, IsSiteRead}
 use Rattle.dwarf_entries.specs.Private.Passes.{parse_scope, AreParsed}
-use Rattle.dwarf_walk.specs.Private.Stored.{StoredUnit, scope_entry, scope_places, stored_of}
-use Rattle.dwarf_entries.proofs.ScopePasses.ScopeLaws.{stored_in, unit_at}
+use Rattle.dwarf_walk.specs.Private.Stored.{scope_entry}
 use Rattle.dwarf_entries.proofs.ScopePasses.SiteLaws.{SiteAt}
 
--- A unit of the program is one of the specified units.
-pub unit-read : (units : List UnitEntries) (bases : List Bases) (us : List CompilationUnit)
-    (unit : ℕ) → AreUnits units bases us → unit < length units
+-- The unit at an index.
+pub unit-there : (us : List CompilationUnit) (unit : ℕ) → unit < length us
     → (u : CompilationUnit) × (slice_get us unit ≡ Some u)
-unit-read units bases us unit are within = by_case ((slice_get_cases us unit).1)
+unit-there us unit within = by_case ((slice_get_cases us unit).1)
   where
     by_case : ((x : CompilationUnit) × (unit < length us) × (slice_get us unit ≡ Some x)
         × (get_or us unit x ≡ x)) ⊎ ((length us ≤ unit) × (slice_get us unit ≡ None))
         → (u : CompilationUnit) × (slice_get us unit ≡ Some u)
     by_case (inl (x, inside, found, is)) = (x, found)
-    by_case (inr (past, none)) =
-        let sizes : length units ≡ length us = sym (length-map units stored_of)
-        ∙ (ap (λ (ks : List StoredUnit). length ks) are.same ∙ length-map us stored_in) in
-        absurd (omega (arith, sizes, within, past))
-
-pub stored-there : (units : List UnitEntries) (bases : List Bases) (us : List CompilationUnit)
-    (unit : ℕ) (u : CompilationUnit) (d : UnitEntries) → AreUnits units bases us
-    → slice_get us unit ≡ Some u → (get_or units unit d).scopes.items ≡ scope_places u.dies
-stored-there units bases us unit u d are found =
-    ap (λ (k : StoredUnit). k.scopes) ((unit_at units bases us unit u are found).entries_are d)
+    by_case (inr (past, none)) = absurd (omega (arith, within, past))
 
 -- The scopes of a unit before the index, after the scopes of the units before it.
 pub record CheckedSoFar (s : Sections) (us : List CompilationUnit) (u : CompilationUnit)
@@ -93,42 +72,23 @@ checked-count roots parsed lists left are =
     sym (scopes-length roots lists.wide.items lists.ranges.items 0 lists.scopes.items)
     ∙ (ap (λ (ss : List Scope). length ss) are.described ∙ length-map parsed (λ j. j.scope))
 
--- The facts about the scope at an index: its site, the header of its unit, and the declarations of
--- its table.
-pub record PlaceChecked (s : Sections) (u : CompilationUnit) (index : ℕ) (stored : ScopePlace)
-    (header : UnitHeader) : Type 0 where
-  pub site : SiteAt u index stored
-  pub same : header ≡ u.header
-  pub read : IsReadIn s u
-  pub table_is : declarations_of declarations_limit s.debug_abbrev header.abbreviations
-      ≡ Ok read.table
-
--- The scope can be re-read from the stored data of its unit.
-pub entry-there : (s : Sections) (u : CompilationUnit) (index : ℕ) (stored : ScopePlace)
-    (header : UnitHeader) (known : PlaceChecked s u index stored header)
-    → scope_entry_at header.format known.read.table (bytes_in s header) stored.offset
-    ≡ Ok (scope_entry known.site.place.member.die known.site.place.kind)
-entry-there s u index stored header known =
-    let p = known.site in
-    let table = known.read.table in
-    ap (λ (h : UnitHeader). scope_entry_at h.format table (bytes_in s h) stored.offset) known.same
-    ∙ (ap (λ (k : ℕ). scope_entry_at u.header.format table (bytes_in s u.header) k) p.offset_is
-    ∙ scope-there s u p.is_place.index p.place.member.die p.place.kind known.read p.is_place.there
-    p.is_place.kind_is)
+-- The site that was re-read.
+pub site-is : (u : CompilationUnit) (index : ℕ) (entry : ScopeEntry) (inside : ℕ)
+    (p : SiteAt u index) → IsSiteRead (Ok (entry, inside)) (slice_get (sites_in u u.dies) index)
+    → (entry ≡ scope_entry p.place.member.die p.place.kind) × (inside ≡ p.place.inside)
+site-is u index entry inside p read =
+    subst (λ (o : Option ScopeSite). IsSiteRead (Ok (entry, inside)) o) p.here read
 
 -- The site of a scope, after the scopes before it.
 pub is-place : (s : Sections) (us : List CompilationUnit) (u : CompilationUnit)
     (before : List ParsedScope) (numbers : ScopeNumbers) (index : ℕ) (lists : ScopeLists) (left : ℕ)
-    (stored : ScopePlace) (header : UnitHeader) (entry : ScopeEntry)
-    → (so_far : CheckedSoFar s us u before index lists left)
+    (entry : ScopeEntry) → (so_far : CheckedSoFar s us u before index lists left)
     → slice_get us numbers.unit ≡ Some u → IsFirstNumberOf us numbers.unit (length before)
-    → (known : PlaceChecked s u index stored header) → numbers.number ≡ length lists.scopes.items
-    → numbers.inside ≡ stored.inside
-    → scope_entry_at header.format known.read.table (bytes_in s header) stored.offset ≡ Ok entry
-    → IsScopeSite us numbers entry left so_far.parsed known.site.place
-is-place s us u before numbers index lists left stored header entry so_far found first known
-    number_is descendants_are again =
-    let p = known.site in
+    → (p : SiteAt u index) → numbers.number ≡ length lists.scopes.items
+    → (entry ≡ scope_entry p.place.member.die p.place.kind) × (numbers.inside ≡ p.place.inside)
+    → IsScopeSite us numbers entry left so_far.parsed p.place
+is-place s us u before numbers index lists left entry so_far found first p number_is
+    (entry_is, descendants_are) =
     let sizes = checked-count (roots_from 0 us) so_far.parsed lists left so_far.are_parsed in
     let within = site-within u index p.place (drop (index + 1) (sites_in u u.dies)) p.rest in
     let counted = so_far.counted in
@@ -138,23 +98,22 @@ is-place s us u before numbers index lists left stored header entry so_far found
           (omega (arith, number_is, sizes, counted))
           (omega (arith, number_is, sizes, counted, within))
           ∙ ap (λ (v : CompilationUnit). stmt_list_of v.dies) (sym p.is_place.unit_is);
-      entry_is = same-ok entry (scope_entry p.place.member.die p.place.kind)
-          (sym again ∙ entry-there s u index stored header known);
-      descendants_are = descendants_are ∙ p.descendants_are;
+      entry_is = entry_is;
+      descendants_are = descendants_are;
       number_is = omega (arith, number_is, sizes);
       budget_is = omega (arith, so_far.are_parsed.counted);
     }
 
 pub checked-next : (s : Sections) (us : List CompilationUnit) (u : CompilationUnit)
     (before : List ParsedScope) (index : ℕ) (lists mid new : ScopeLists) (left after : ℕ)
-    (stored : ScopePlace) (items : ℕ) (facts : ScopeFacts)
-    → (so_far : CheckedSoFar s us u before index lists left) (p : SiteAt u index stored)
+    (items : ℕ) (facts : ScopeFacts)
+    → (so_far : CheckedSoFar s us u before index lists left) (p : SiteAt u index)
     → AddsFacts (roots_from 0 us) (Ok (facts, items)) lists.ranges.items mid.ranges.items
     (scope_at s us so_far.parsed p.place)
     → mid.scopes.items ≡ lists.scopes.items → mid.wide.items ≡ lists.wide.items
     → IsPushed facts mid new → after + items ≡ left
     → CheckedSoFar s us u before (index + 1) new after
-checked-next s us u before index lists mid new left after stored items facts so_far p
+checked-next s us u before index lists mid new left after items facts so_far p
     (found, read, grown) scopes_stay wide_stays is counted =
     let parsed = so_far.parsed in
     let places = sites_in u u.dies in

@@ -2,15 +2,13 @@
 use Rattle.std.proofs.Common.{◌≡◌, ℕ, ◌+◌, ◌<◌, ◌≤◌, ◌⊎◌, inl, inr, List, [], ◌++◌, length, drop}
 use Rattle.std.proofs.Common.{refl, ap, sym, ◌∙◌, subst, arith, append_assoc, length-append}
 use Rattle.std.specs.Prelude.{Result, Ok, Err, Some, slice_get}
-use Rattle.std.proofs.lemmas.List.{drop_all, length-map}
+use Rattle.std.proofs.lemmas.List.{drop_all}
 use Rattle.dwarf_bytes.specs.declared.fault.Section.TheVariants as names
 use Rattle.dwarf_bytes.specs.declared.fault.LoadFault.{LoadFault}
 use Rattle.dwarf_bytes.specs.Bind.{◌>>=◌}
 use Rattle.dwarf_bytes.specs.Items.{At, each, each_from}
 use Rattle.dwarf_bytes.specs.Refusals.{memory_fault, in_section}
 use Rattle.dwarf_bytes.proofs.Items.EachLaws.{made_front, each-end}
-use Rattle.dwarf_entries.specs.declared.bases.Bases.{Bases}
-use Rattle.dwarf_walk.specs.declared.unit_entries.UnitEntries.{UnitEntries}
 use Rattle.dwarf_entries.specs.declared.scope.Range.{Range}
 use Rattle.dwarf_entries.specs.declared.scope.Scope.{Scope as StoredScope}
 use Rattle.dwarf_entries.specs.declared.scope_lists.ScopeLists.{ScopeLists}
@@ -21,12 +19,10 @@ use Rattle.dwarf_walk.specs.Sections.{Sections}
 use Rattle.dwarf_entries.specs.Bases.{CompilationUnit}
 use Rattle.dwarf_entries.specs.Scopes.{ParsedScope, ScopeSite, Scope, items_limit, sites_in}
 use Rattle.dwarf_entries.specs.Scopes.{roots_from, scopes_from, scopes_of}
-use Rattle.dwarf_entries.specs.Private.Passes.{AreUnits, IsFirstNumberOf, parse_scope, AreParsed}
+use Rattle.dwarf_entries.specs.Private.Passes.{IsFirstNumberOf, parse_scope, AreParsed}
 use Rattle.dwarf_entries.specs.Private.Passes.{AddsScopes, all_sites, all_scopes}
 use Rattle.dwarf_bytes.proofs.Items.EachPlaces.{each-append, each-length}
-use Rattle.dwarf_walk.specs.Private.Stored.{StoredUnit, stored_of}
-use Rattle.dwarf_entries.proofs.ScopePasses.ScopeLaws.{stored_in}
-use Rattle.dwarf_entries.proofs.ScopePasses.ScopesPass.{unit-read}
+use Rattle.dwarf_entries.proofs.ScopePasses.ScopesPass.{unit-there}
 
 -- ---- the loop over the units
 
@@ -89,16 +85,15 @@ stretch s us parsed after places more is =
     behind (Ok zs) = ap (λ (js : List ParsedScope). Ok js) (sym (append_assoc parsed after zs))
     behind (Err e) = refl
 
-pub scopes-next : (s : Sections) (units : List UnitEntries) (bases : List Bases)
-    (us : List CompilationUnit) (index : ℕ) (old lists : ScopeLists) (left after : ℕ)
-    → AreUnits units bases us → index < length units
+pub scopes-next : (s : Sections) (us : List CompilationUnit) (index : ℕ) (old lists : ScopeLists) (left after : ℕ)
+    → index < length us
     → (so_far : ScopesSoFar s us index old left)
     → ((u : CompilationUnit) (before : List ParsedScope) → slice_get us index ≡ Some u
     → IsFirstNumberOf us index (length before) → AreParsed (roots_from 0 us) before old left
     → AddsScopes (Ok tt) s us (sites_in u u.dies) before lists after)
     → ScopesSoFar s us (index + 1) lists after
-scopes-next s units bases us index old lists left after are within so_far adds =
-    let u = unit-read units bases us index are within in
+scopes-next s us index old lists left after within so_far adds =
+    let u = unit-there us index within in
     let parsed = so_far.parsed in
     let added = adds u.0 parsed u.1 so_far.first so_far.are_parsed in
     let size = length-append parsed added.0 in
@@ -116,16 +111,15 @@ scopes-next s units bases us index old lists left after are within so_far adds =
           (sym (places_from us u.0 index u.1)) ∙ so_far.read);
     }
 
-pub scopes-fault : (s : Sections) (units : List UnitEntries) (bases : List Bases)
-    (us : List CompilationUnit) (index : ℕ) (old lists : ScopeLists) (left after : ℕ)
-    (fault : LoadFault) → AreUnits units bases us → index < length units
+pub scopes-fault : (s : Sections) (us : List CompilationUnit) (index : ℕ) (old lists : ScopeLists) (left after : ℕ)
+    (fault : LoadFault) → index < length us
     → (so_far : ScopesSoFar s us index old left)
     → ((u : CompilationUnit) (before : List ParsedScope) → slice_get us index ≡ Some u
     → IsFirstNumberOf us index (length before) → AreParsed (roots_from 0 us) before old left
     → AddsScopes (Err fault) s us (sites_in u u.dies) before lists after)
     → (fault ≡ memory_fault) ⊎ (in_section names.DebugInfo (all_scopes s us) ≡ Err fault)
-scopes-fault s units bases us index old lists left after fault are within so_far adds =
-    let u = unit-read units bases us index are within in
+scopes-fault s us index old lists left after fault within so_far adds =
+    let u = unit-there us index within in
     by_fault u.0 u.1 (adds u.0 so_far.parsed u.1 so_far.first so_far.are_parsed)
   where
     parsed : List ParsedScope
@@ -161,15 +155,12 @@ scopes-fault s units bases us index old lists left after fault are within so_far
     by_fault u found (inr bad) = inr (by_read u found
         (each_from (parse_scope s us) parsed (sites_in u u.dies)) refl bad)
 
-pub scopes_end : (s : Sections) (units : List UnitEntries) (bases : List Bases)
-    (us : List CompilationUnit) (index : ℕ) (lists : ScopeLists) (left : ℕ)
-    → AreUnits units bases us → length units ≤ index → ScopesSoFar s us index lists left
+pub scopes_end : (s : Sections) (us : List CompilationUnit) (index : ℕ) (lists : ScopeLists) (left : ℕ)
+    → length us ≤ index → ScopesSoFar s us index lists left
     → in_section names.DebugInfo (all_scopes s us) ≡ Ok (scopes_of (roots_from 0 us) lists)
-scopes_end s units bases us index lists left are past so_far =
+scopes_end s us index lists left past so_far =
     let parsed = so_far.parsed in
-    let sizes : length units ≡ length us = sym (length-map units stored_of)
-    ∙ (ap (λ (ks : List StoredUnit). length ks) are.same ∙ length-map us stored_in) in
-    let none : drop index us ≡ [] = drop_all index us (omega (arith, sizes, past)) in
+    let none : drop index us ≡ [] = drop_all index us past in
     let all : each (parse_scope s us) (all_sites us) ≡ Ok parsed =
     sym so_far.read ∙ (ap (λ (vs : List CompilationUnit). made_front parsed
     (each_from (parse_scope s us) parsed (all_sites vs))) none ∙ each-end (parse_scope s us) parsed)

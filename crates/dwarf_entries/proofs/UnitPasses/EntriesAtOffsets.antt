@@ -2,13 +2,12 @@
 use Rattle.std.proofs.Common.{◌≡◌, ℕ, zero, suc, ◌<◌, ◌≤◌, ◌⊎◌, inr, List, [], ◌∷◌, length, get_or}
 use Rattle.std.proofs.Common.{Bool, true, false, cond, ◌==◌, ◌||◌, refl, sym, ap, ◌∙◌, subst, arith}
 use Rattle.std.proofs.Common.{append-nil}
-use Rattle.std.specs.Prelude.{Option, Some, None, Result, Err, IfSome, is_some, map, find}
+use Rattle.std.specs.Prelude.{Option, Some, None, Err, is_some, map, find}
 use Rattle.std.specs.Prelude.{slice_get, option_map, option_to_list, ok_or}
 use Rattle.std.proofs.lemmas.List.Folds.{find-append}
 use Rattle.std.proofs.lemmas.Option.{same_Some}
 use Rattle.std.specs.List.{list_any}
 use Rattle.std.proofs.lemmas.Bool.{eqb-true}
-use Rattle.dwarf_bytes.specs.declared.fault.Cause.{Cause}
 use Rattle.dwarf_bytes.specs.declared.fault.Cause.TheVariants as causes
 use Rattle.dwarf_units.specs.declared.unit_headers.UnitHeader.{UnitHeader}
 use Rattle.dwarf_walk.specs.declared.unit_entries.UnitEntries.{UnitEntries}
@@ -19,7 +18,7 @@ use Rattle.dwarf_entries.specs.Names.{Member, members_of, member_at}
 use Rattle.dwarf_entries.specs.Private.EntryOffsets.{AreInOrder, IsBitmapOf}
 use Rattle.dwarf_walk.specs.Private.EntryBitmap.{has_entry}
 use Rattle.dwarf_walk.specs.declared.entry_bitmap.EntryBitmap.{EntryBitmap}
-use Rattle.dwarf_entries.specs.Private.Members.{AreStoredAs, IsWithin, LeadsTo, Finds, member_in}
+use Rattle.dwarf_entries.specs.Private.Members.{AreStoredAs, IsWithin, Finds, member_in}
 use Rattle.dwarf_entries.proofs.OriginChains.ReferenceLaws.{within-le, find-map, is_at_offset}
 use Rattle.dwarf_entries.proofs.OriginChains.ReferenceLaws.{member_of, none-outside, none-before}
 use Rattle.dwarf_entries.proofs.OriginChains.ReferenceLaws.{unit-at}
@@ -132,7 +131,7 @@ within-stored stored units are n offset k lt is low high =
 abbrev pub marked_place : UnitPlace → Bool → Option UnitPlace
 marked_place place marked = cond marked (Some place) None
 
-finds-inside : (units : List CompilationUnit) → AreInOrder 0 units → (bitmap : EntryBitmap)
+pub finds-inside : (units : List CompilationUnit) → AreInOrder 0 units → (bitmap : EntryBitmap)
     → IsBitmapOf bitmap units → (place : UnitPlace) → IsWithin units place → (marked : Bool)
     → marked ≡ has_entry bitmap place.offset
     → Finds units (marked_place place marked) (member_in units place.unit place.offset)
@@ -177,32 +176,3 @@ finds-inside units order bitmap all place within marked marked_is =
                 outcome;
           },
         )
-
-pub finds-marked : (stored : List UnitEntries) (units : List CompilationUnit)
-    → AreStoredAs stored units
-    → (bitmap : EntryBitmap) → IsBitmapOf bitmap units → (place : UnitPlace) → IsWithin units place
-    → (outcome : Result Member Cause) → LeadsTo units (Some place) outcome
-    → (marked : Bool) → marked ≡ has_entry bitmap place.offset
-    → Finds units (marked_place place marked) outcome
-finds-marked stored units are bitmap all place within outcome leads marked marked_is =
-    subst (λ (r : Result Member Cause). Finds units (marked_place place marked) r) (sym leads)
-    (finds-inside units are.order bitmap all place within marked marked_is)
-
--- The same, for a place that is returned as an option.
-pub within-names_at : (units : List CompilationUnit) (names_at : Option UnitPlace)
-    (place : UnitPlace)
-    → names_at ≡ Some place → IfSome names_at (IsWithin units) → IsWithin units place
-within-names_at units names_at place is within =
-    subst (λ (o : Option UnitPlace). IfSome o (IsWithin units)) is within
-
-pub finds-names_at : (stored : List UnitEntries) (units : List CompilationUnit)
-    → AreStoredAs stored units
-    → (bitmap : EntryBitmap) → IsBitmapOf bitmap units → (names_at : Option UnitPlace)
-    (place : UnitPlace)
-    → names_at ≡ Some place → IfSome names_at (IsWithin units)
-    → (outcome : Result Member Cause) → LeadsTo units names_at outcome → (marked : Bool)
-    → marked ≡ has_entry bitmap place.offset → Finds units (marked_place place marked) outcome
-finds-names_at stored units are bitmap all names_at place is within outcome leads =
-    finds-marked stored units are bitmap all place (within-names_at units names_at place is within)
-    outcome
-    (subst (λ (o : Option UnitPlace). LeadsTo units o outcome) is leads)

@@ -21,11 +21,16 @@ use Rattle.dwarf_walk.specs.declared.unit_entries.NamedEntry.{NamedEntry}
 use Rattle.dwarf_walk.specs.declared.unit_entries.ScopeEntry.{ScopeEntry}
 use Rattle.dwarf_walk.specs.declared.scope_kind.ScopeKind.{ScopeKind}
 use Rattle.dwarf_walk.specs.Sections.{Sections}
+use Rattle.dwarf_entries.specs.declared.references.UnitPlace.{UnitPlace}
 use Rattle.dwarf_entries.specs.Bases.{CompilationUnit}
+use Rattle.dwarf_entries.specs.Names.{Member}
+use Rattle.dwarf_entries.specs.Private.Members.{IsPlaceOf}
+use Rattle.dwarf_forms.specs.Tables.{declarations_of}
+use Rattle.dwarf_units.specs.Units.{declarations_limit}
 use Rattle.dwarf_walk.specs.ScopeEntries.{kind_of}
 use Rattle.dwarf_walk.specs.Private.Stored.{named_entry, scope_entry, scope_entry_of}
 use Rattle.dwarf_walk.specs.Private.Rereading.{scope_entry_at}
-use Rattle.dwarf_entries.specs.Private.EntryOffsets.{IsReadIn}
+use Rattle.dwarf_entries.specs.Private.EntryOffsets.{IsReadIn, AreReadIn}
 use Rattle.dwarf_walk.specs.Private.Named.{entry_with, used_at, named_entry_at}
 use Rattle.dwarf_walk.proofs.StoredNodes.{value-stored, stored_die, names_at-stored}
 use Rattle.dwarf_walk.proofs.RereadLaws.{without_place, inside-is}
@@ -93,12 +98,25 @@ names_at-there s u k die read there =
     (used-there s u k die read there)
     ∙ ap (λ (e : NamedEntry). Ok e) (names_at-stored die)
 
--- The same, given the stored header of its unit.
-pub names_at-at : (s : Sections) (u : CompilationUnit) (k : ℕ) (die : Die) (header : UnitHeader)
-    (offset : ℕ) → (read : IsReadIn s u) → header ≡ u.header → die.offset ≡ offset
-    → slice_get u.dies k ≡ Some die
-    → named_entry_at header.format read.table (bytes_in s header) offset ≡ Ok (named_entry die)
-names_at-at s u k die header offset read same place there =
-    ap (λ (h : UnitHeader). named_entry_at h.format read.table (bytes_in s h) offset) same
-    ∙ (ap (λ (o : ℕ). named_entry_at u.header.format read.table (bytes_in s u.header) o) (sym place)
-    ∙ names_at-there s u k die read there)
+-- The entry at a place can be re-read with the stored header of its unit.
+pub record Reread (s : Sections) (header : UnitHeader) (offset : ℕ) (m : Member) : Type 0 where
+  pub table : List Declaration
+  pub table_is : declarations_of declarations_limit s.debug_abbrev header.abbreviations ≡ Ok table
+  pub there : named_entry_at header.format table (bytes_in s header) offset
+      ≡ Ok (named_entry m.die)
+
+pub reread : (s : Sections) (us : List CompilationUnit) (place : UnitPlace) (m : Member)
+    (header : UnitHeader) → AreReadIn s us → IsPlaceOf us place m → header ≡ m.unit.header
+    → Reread s header place.offset m
+reread s us place m header read at same =
+    let one = read place.unit m.unit at.unit_is in
+    let u = m.unit in
+    record {
+      table = one.table;
+      table_is = ap (λ (h : UnitHeader). declarations_of declarations_limit s.debug_abbrev
+          h.abbreviations) same ∙ one.table_is;
+      there = ap (λ (h : UnitHeader). named_entry_at h.format one.table (bytes_in s h)
+          place.offset) same
+          ∙ (ap (λ (o : ℕ). named_entry_at u.header.format one.table (bytes_in s u.header) o)
+          (sym at.offset_is) ∙ names_at-there s u at.index m.die one at.there);
+    }

@@ -10,6 +10,7 @@ use Rattle.dwarf_forms.specs.Tables.{declarations_of}
 use Rattle.dwarf_units.proofs.RereadLaws.{entries-again}
 use Rattle.dwarf_units.proofs.TableLaws.{table_for, table-few, table-again}
 use Rattle.dwarf_entries.specs.Private.EntryOffsets.{IsReadIn, AreReadIn, AreInOrder}
+use Rattle.dwarf_entries.specs.Private.EntryOffsets.{stored_unit_of}
 use Rattle.dwarf_bytes.proofs.Numbers.Moves.{same-ok}
 use Rattle.dwarf_units.specs.declared.unit_headers.UnitHeader.{UnitHeader}
 use Rattle.dwarf_entries.specs.declared.bases.Bases.{Bases}
@@ -19,7 +20,7 @@ use Rattle.dwarf_units.specs.Entries.{Die, entries_of}
 use Rattle.dwarf_entries.specs.Bases.{CompilationUnit, no_bases, bases_at, unit_of}
 use Rattle.dwarf_walk.specs.Private.Stored.{StoredUnit, stored_unit}
 use Rattle.dwarf_units.specs.Private.Rising.{RiseWithin}
-use Rattle.dwarf_entries.specs.Private.Passes.{stored_units, stored_unit_of, all_entries, all_units}
+use Rattle.dwarf_entries.specs.Private.Passes.{stored_units, all_entries, all_units}
 pub use Rattle.dwarf_units.proofs.EntryOrder.{entries-rise}
 use Rattle.dwarf_entries.proofs.UnitPasses.EntriesPass.{entries_for}
 use Rattle.dwarf_entries.proofs.UnitPasses.BasesPass.{unit_for}

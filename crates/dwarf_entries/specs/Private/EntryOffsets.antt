@@ -11,12 +11,17 @@ use Rattle.dwarf_walk.specs.declared.unit_entries.UnitEntries.{UnitEntries}
 use Rattle.dwarf_walk.specs.declared.entry_bitmap.EntryBitmap.{EntryBitmap}
 use Rattle.dwarf_walk.specs.Sections.{Sections}
 use Rattle.dwarf_walk.specs.Private.EntryBitmap.{has_entry, offsets_of}
+use Rattle.dwarf_walk.specs.Private.Stored.{StoredUnit, stored_unit}
 use Rattle.dwarf_entries.specs.Bases.{CompilationUnit}
 use Rattle.dwarf_entries.specs.Names.{members_of}
 
 -- The number of scopes of the units of the program.
 abbrev pub scope_count : List UnitEntries → ℕ
 scope_count units = sum_by (λ unit. length unit.scopes.items) units
+
+-- The data that is stored for a unit.
+abbrev pub stored_unit_of : CompilationUnit → StoredUnit
+stored_unit_of unit = stored_unit unit.header unit.dies
 
 -- The units are consecutive from an offset on, and contain their entries.
 abbrev pub AreInOrder : ℕ → List CompilationUnit → Type 0

@@ -1,11 +1,9 @@
 -- Entries with their units, as the program stores them, for the contracts of origin chains.
 use Rattle.std.specs.Prelude.{◌≡◌, ℕ, ◌<◌, ◌≤◌, List, Option, Some, None, Result, Ok, Err, map}
 use Rattle.std.specs.Prelude.{slice_get, option_to_list}
-use Rattle.std.specs.Option.{option_and_then}
 use Rattle.dwarf_bytes.specs.declared.constants.TheConstants.{DW_AT_LINKAGE_NAME, DW_AT_NAME}
 use Rattle.dwarf_bytes.specs.declared.fault.Cause.{Cause}
 use Rattle.dwarf_bytes.specs.declared.fault.Cause.TheVariants as causes
-use Rattle.dwarf_units.specs.declared.unit_headers.UnitHeader.{UnitHeader}
 use Rattle.dwarf_walk.specs.declared.unit_entries.NamedEntry.{NamedEntry}
 use Rattle.dwarf_walk.specs.declared.unit_entries.UnitEntries.{UnitEntries}
 use Rattle.dwarf_entries.specs.declared.origin_chains.UnitEntry.{UnitEntry}
@@ -13,24 +11,15 @@ use Rattle.dwarf_entries.specs.declared.references.UnitPlace.{UnitPlace}
 use Rattle.dwarf_entries.specs.declared.origin_chains.UnitAttribute.{UnitAttribute}
 use Rattle.dwarf_entries.specs.declared.origin_chains.FirstNames.{FirstNames}
 use Rattle.dwarf_units.specs.declared.attributes.AttributeValue.{AttributeValue}
-use Rattle.dwarf_entries.specs.declared.bases.Table.{Table}
-use Rattle.dwarf_entries.specs.declared.bases.Bases.{Bases}
 use Rattle.dwarf_entries.specs.Bases.{CompilationUnit}
 use Rattle.dwarf_entries.specs.Names.{Member, members_of, member_at, first_on}
 use Rattle.dwarf_bytes.specs.Refusals.{Fails}
-use Rattle.dwarf_walk.specs.Private.Stored.{named_entry}
-use Rattle.dwarf_entries.specs.Private.EntryOffsets.{AreInOrder}
-
-abbrev pub header_of : CompilationUnit → UnitHeader
-header_of unit = unit.header
-
--- The header of a unit of the program.
-abbrev pub stored_header : UnitEntries → UnitHeader
-stored_header unit = unit.header
+use Rattle.dwarf_walk.specs.Private.Stored.{named_entry, stored_of}
+use Rattle.dwarf_entries.specs.Private.EntryOffsets.{AreInOrder, stored_unit_of}
 
 -- The stored units are these units, which are in order.
 pub record AreStoredAs (stored : List UnitEntries) (units : List CompilationUnit) : Type 0 where
-  pub same : map stored_header stored ≡ map header_of units
+  pub same : map stored_of stored ≡ map stored_unit_of units
   pub order : AreInOrder 0 units
 
 -- The entry, in the unit at an index, is the stored form of the member.
@@ -97,7 +86,3 @@ abbrev pub FindsFirst : List CompilationUnit → Result FirstNames Cause
 FindsFirst units (Ok stored) outcome =
     (path : List Member) × (outcome ≡ Ok path) × AreFirst units stored path
 FindsFirst units (Err cause) outcome = Fails cause outcome
-
--- The string offsets table of the unit at an index.
-abbrev pub str_offsets_of : List Bases → ℕ → Option Table
-str_offsets_of bases number = option_and_then (λ b. b.str_offsets) (slice_get bases number)

@@ -12,7 +12,6 @@ use Rattle.dwarf_forms.specs.Declarations.{Declaration}
 use Rattle.dwarf_units.specs.declared.unit_headers.UnitHeader.{UnitHeader}
 use Rattle.dwarf_entries.specs.declared.bases.Bases.{Bases}
 use Rattle.dwarf_walk.specs.declared.unit_entries.RootEntry.{RootEntry}
-use Rattle.dwarf_walk.specs.declared.unit_entries.UnitEntries.{UnitEntries}
 use Rattle.dwarf_entries.specs.declared.scope.Root.{Root}
 use Rattle.dwarf_entries.specs.declared.scope.ScopeFacts.{ScopeFacts}
 use Rattle.dwarf_entries.specs.declared.scope_lists.ScopeLists.{ScopeLists}
@@ -21,14 +20,12 @@ use Rattle.dwarf_entries.specs.declared.unit_scopes.ScopeNumbers.{ScopeNumbers}
 use Rattle.dwarf_walk.specs.Sections.{Sections}
 use Rattle.dwarf_units.specs.Entries.{Die, entries_of}
 use Rattle.dwarf_entries.specs.Bases.{CompilationUnit, no_bases, bases_by, unit_of}
-use Rattle.dwarf_entries.specs.Scopes.{Tree, ParsedScope, ScopeSite, Scope, items_limit, sites_in}
+use Rattle.dwarf_entries.specs.Scopes.{ParsedScope, ScopeSite, Scope, items_limit, sites_in}
 use Rattle.dwarf_entries.specs.Scopes.{roots_from, stmt_list_by_number, scopes_of, scope_at}
 use Rattle.dwarf_entries.specs.Scopes.{stmt_list_of}
 use Rattle.dwarf_walk.specs.declared.unit_entries.ScopeEntry.{ScopeEntry}
 use Rattle.dwarf_walk.specs.ScopeEntries.{is_scope}
-use Rattle.dwarf_units.specs.Units.{units_of, tables_of}
-use Rattle.dwarf_walk.specs.Private.Stored.{StoredUnit, scope_entry, stored_unit, stored_of}
-use Rattle.dwarf_entries.specs.Private.EntryOffsets.{AreInOrder}
+use Rattle.dwarf_walk.specs.Private.Stored.{StoredUnit, scope_entry, stored_unit}
 use Rattle.dwarf_entries.specs.Private.Shared.{AreConsecutive}
 
 -- The entries of each unit.
@@ -63,17 +60,6 @@ bases_of unit = unit.bases
 -- The bases that all roots define.
 abbrev pub all_bases : Sections → List UnitHeader → List (List Die) → Result (List Bases) At
 all_bases s headers dies = all_units s headers dies >>= λ units. Ok (map bases_of units)
-
--- The data that is stored for a unit.
-abbrev pub stored_unit_of : CompilationUnit → StoredUnit
-stored_unit_of unit = stored_unit unit.header unit.dies
-
--- The units of the program and their bases correspond to these units, which are in order.
-pub record AreUnits (units : List UnitEntries) (bases : List Bases) (us : List CompilationUnit)
-    : Type 0 where
-  pub same : map stored_of units ≡ map stored_unit_of us
-  pub order : AreInOrder 0 us
-  pub bases_are : bases ≡ map bases_of us
 
 -- The number of scopes of some units.
 abbrev pub number_of_scopes : List CompilationUnit → ℕ
@@ -140,23 +126,9 @@ abbrev pub all_scopes : Sections → List CompilationUnit → Result (List Scope
 all_scopes s us = each (parse_scope s us) (all_sites us)
     >>= λ parsed. Ok (map (λ j. j.scope) parsed)
 
--- The tables of the units are valid.
-pub record TablesRead (s : Sections) (headers : List UnitHeader) : Type 0 where
-  pub tables : List (List Declaration)
-  pub units_are : units_of s.debug_info ≡ Ok headers
-  pub tables_are : tables_of s.debug_abbrev headers ≡ Ok tables
-
--- The roots and scopes of the units, given their entries.
-abbrev pub tree_of_units : Sections → List CompilationUnit → Result Tree LoadFault
-tree_of_units s us =
-    in_section names.DebugInfo (each (parse_scope s us) (all_sites us))
-    >>= λ parsed. Ok (record { roots = roots_from 0 us; scopes = map (λ j. j.scope) parsed })
-
-abbrev pub tree_of_dies : Sections → List UnitHeader → List (List Die) → Result Tree LoadFault
-tree_of_dies s headers dies =
-    in_section names.DebugInfo (all_units s headers dies) >>= tree_of_units s
-
-abbrev pub tree_with : Sections → List UnitHeader → List (List Declaration) → Result Tree LoadFault
-tree_with s headers tables =
-    in_section names.DebugInfo (all_entries s.debug_info headers tables)
-    >>= tree_of_dies s headers
+-- The call re-reads a site: its entry and the number of scopes below it. It may also fail because
+-- memory ran out.
+abbrev pub IsSiteRead : Result (ScopeEntry × ℕ) LoadFault → Option ScopeSite → Type 0
+IsSiteRead (Ok read) None = ⊥
+IsSiteRead (Ok read) (Some p) = (read.0 ≡ scope_entry p.member.die p.kind) × (read.1 ≡ p.inside)
+IsSiteRead (Err fault) site = fault ≡ memory_fault

@@ -1,0 +1,15 @@
+use Rattle.std.proofs.Common.{subst, sym}
+use Rattle.std.specs.Prelude.{Result}
+use Rattle.dwarf_bytes.specs.declared.fault.Cause.{Cause}
+use Rattle.dwarf_bytes.specs.Refusals.{Gives}
+use Rattle.dwarf_entries.specs.declared.origin_chains.EntryNames.{EntryNames}
+use Rattle.dwarf_entries.proofs.OriginChains.CacheLaws.{names-by-reference}
+use Rattle.dwarf_entries.proofs.units.Units.names.Goals as goal
+
+pub returns-in-Some-clause-names : goal.returns-in-Some-clause-names
+returns-in-Some-clause-names c m at =
+    subst (λ (r : Result EntryNames Cause). Gives (λ (names : EntryNames). names)
+    c.target_names.result r)
+    (sym (names-by-reference c.args.self.now.sections c.args.self.now.units c.args.start.unit
+    c.args.start.entry m c.in-Some.reference at c.in-Some.ensures.some))
+    (c.target_names.ensures.names m.unit at.unit_is)

@@ -1,0 +1,42 @@
+use Rattle.std.proofs.Common.{inl, inr, sym, ◌∙◌}
+use Rattle.std.proofs.lemmas.Result.{err_from_is_err_and}
+use Rattle.dwarf_entries.proofs.OriginChains.CacheLaws.{cache-more, packed-cache, packed-nowhere}
+use Rattle.dwarf_entries.proofs.UnitPasses.ObjectLaws.{seen, with-cache}
+use Rattle.dwarf_entries.proofs.units.Units.target_names.Goals as goal
+
+pub returns-in-Some-get-clause-names : goal.returns-in-Some-get-clause-names
+returns-in-Some-get-clause-names c u is =
+    let object = c.args.self.now in
+    let are = seen c.self.invariant c.self.view_is in
+    packed-cache object.sections object.units u c.args.reference c.in-Some.place
+    c.in-Some-get.names c.self.inside.cache are.cache_is c.in-Some-get.ensures.some
+    (c.in-Some.ensures.leads u is)
+
+pub returns-then-not-has_entry-clause-names : goal.returns-then-not-has_entry-clause-names
+returns-then-not-has_entry-clause-names c u is =
+    let missing = rw c.if-not-has_entry.true at c.has_entry.ensures c.in-Some.ensures.within in
+    inr (packed-nowhere c.args.self.now.sections c.args.self.now.units u c.args.reference
+    (c.in-Some.ensures.leads u is ∙ missing))
+
+pub returns-in_err-next-clause-names : goal.returns-in_err-next-clause-names
+returns-in_err-next-clause-names c u is =
+    let p = err_from_is_err_and c.from_residual.result c.from_residual.ensures.1 in
+    let there = rw c.if-not-has_entry.false at c.has_entry.ensures c.in-Some.ensures.within in
+    rw (p.1, p.2) (inl (c.in_err-next.ensures.member there.0 there.2))
+
+pub invariant_of-self : goal.invariant_of-self
+invariant_of-self c =
+    let same = c.self-2.view_is ∙ (c.in_ok-names.ensures.same ∙ c.in_ok-next.ensures.same) in
+    with-cache _ c.self-2.invariant same (λ slot packed is.
+    (seen c.self-2.invariant same).cache_is slot packed (sym (c.in_err-put.ensures.err slot) ∙ is))
+
+pub invariant_of-self-2 : goal.invariant_of-self-2
+invariant_of-self-2 c =
+    let object = c.args.self.now in
+    let same = c.self-2.view_is ∙ (c.in_ok-names.ensures.same ∙ c.in_ok-next.ensures.same) in
+    let there = rw c.if-not-has_entry.false at c.has_entry.ensures c.in-Some.ensures.within in
+    let at = c.in_ok-next.ensures.member there.0 there.2 in
+    with-cache _ c.self-2.invariant same (cache-more object.sections object.units
+    c.self-2.inside.cache c.put.new.self c.in-Some.place c.in_ok-names.names
+    (seen c.self-2.invariant same).cache_is c.in_ok-put.ensures.ok there.0 there.1
+    ((rw c.in_ok-next.ensures.same at c.in_ok-names.ensures.names) there.0 at))

@@ -1,0 +1,44 @@
+-- The units of an object, and what the program stores for them.
+use Rattle.std.specs.Prelude.{◌≡◌, List, [], map, Result, Ok, Err}
+use Rattle.dwarf_walk.specs.declared.entry_bitmap.EntryBitmap.{EntryBitmap}
+use Rattle.dwarf_walk.specs.declared.entry_reader.EntryReader.{EntryReader}
+use Rattle.dwarf_walk.specs.declared.unit_entries.UnitEntries.{UnitEntries}
+use Rattle.dwarf_walk.specs.Sections.{Sections}
+use Rattle.dwarf_walk.specs.Private.Rereading.{IsReaderOf}
+use Rattle.dwarf_entries.specs.declared.bases.Bases.{Bases}
+use Rattle.dwarf_entries.specs.declared.name_cache.NameCache.{NameCache}
+use Rattle.dwarf_entries.specs.declared.string_sections.StringSections.{StringSections}
+use Rattle.dwarf_bytes.specs.declared.fault.LoadFault.{LoadFault}
+use Rattle.dwarf_entries.specs.Bases.{CompilationUnit, units_read}
+use Rattle.dwarf_entries.specs.Private.EntryOffsets.{IsBitmapOf, AreReadIn}
+use Rattle.dwarf_entries.specs.Private.Members.{AreStoredAs}
+use Rattle.dwarf_entries.specs.Private.NameCache.{IsCacheOf}
+use Rattle.dwarf_entries.specs.Private.Passes.{bases_of}
+use Rattle.dwarf_entries.specs.Private.StringSections.{AreStringSections}
+
+-- The sections of an object, and its units.
+pub record ObjectUnits : Type 0 where
+  pub sections : Sections
+  pub units : List CompilationUnit
+
+-- The units that were read, or none after a fault.
+abbrev pub units_or_none : Result (List CompilationUnit) LoadFault → List CompilationUnit
+units_or_none (Ok units) = units
+units_or_none (Err fault) = []
+
+-- The units of an object with these sections.
+abbrev pub units_of_object : Sections → ObjectUnits
+units_of_object s = record { sections = s; units = units_or_none (units_read s) }
+
+-- What the program stores for the units of an object: their entries, the bitmap of all entries and
+-- the bases, the string sections, a reader of entries, and a cache of names.
+pub record AreUnitsOf (object : ObjectUnits) (stored : List UnitEntries) (bitmap : EntryBitmap)
+    (bases : List Bases) (strings : StringSections) (reader : EntryReader) (cache : NameCache)
+    : Type 0 where
+  pub stored_are : AreStoredAs stored object.units
+  pub bitmap_is : IsBitmapOf bitmap object.units
+  pub bases_are : bases ≡ map bases_of object.units
+  pub read_in : AreReadIn object.sections object.units
+  pub strings_are : AreStringSections object.sections strings
+  pub reader_is : IsReaderOf object.sections reader
+  pub cache_is : IsCacheOf object.sections object.units cache
