@@ -50,7 +50,8 @@ impl<'a> Units<'a> {
     /// all units before the next one starts. A fault is reported at its unit, declaration or
     /// entry, as an offset relative to the start of its section.
     pub(crate) fn read(alloc: Global, sections: &'a Sections<'a>) -> Result<Units<'a>, LoadFault>
-        ensures units { Decodes (λ read. read.units) result (units_read (sections_of sections.now)) }
+        ensures units { Decodes (λ read. read.units) result
+            (units_read (sections_of sections.now)) }
         ensures sections { IfOk result (λ read. read.sections ≡ sections_of sections.now) }
     {
         let headers = units(alloc, sections.debug_info)?;

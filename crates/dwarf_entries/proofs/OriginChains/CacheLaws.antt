@@ -1,6 +1,6 @@
 -- The names of reference targets: the contents of the cache, and the names of an origin chain that
 -- uses it.
-use Rattle.std.proofs.Common.{◌≡◌, ℕ, suc, inl, inr, List, ◌∷◌, Bool, true, false, ◌==◌, ◌&&◌, refl}
+use Rattle.std.proofs.Common.{◌≡◌, ℕ, suc, List, ◌∷◌, Bool, true, false, ◌==◌, ◌&&◌, refl}
 use Rattle.std.proofs.Common.{sym, ap, ◌∙◌, subst, arith}
 use Rattle.std.specs.Prelude.{Option, Some, None, Result, Ok, Err, option_map, if◌then◌else◌}
 use Rattle.std.proofs.lemmas.Option.{same_Some}
@@ -8,7 +8,6 @@ use Rattle.dwarf_bytes.specs.declared.constants.TheConstants.{DW_AT_LINKAGE_NAME
 use Rattle.dwarf_bytes.specs.declared.fault.Cause.{Cause}
 use Rattle.dwarf_bytes.specs.declared.fault.Cause.TheVariants as causes
 use Rattle.dwarf_bytes.specs.Bind.{◌>>=◌}
-use Rattle.dwarf_bytes.specs.Refusals.{Fails}
 use Rattle.dwarf_units.specs.declared.attributes.AttributeValue.{AttributeValue}
 use Rattle.dwarf_units.specs.Entries.{attribute}
 use Rattle.dwarf_walk.specs.declared.unit_entries.NamedEntry.{NamedEntry}
@@ -132,15 +131,3 @@ pub packed-nowhere : (s : Sections) (units : List CompilationUnit) (u : Compilat
     (reference : AttributeValue) → target_of units u reference ≡ Err causes.Reference
     → target_names s units u reference ≡ Err causes.Reference
 packed-nowhere s units u reference lost = ap (names_from s units) lost
-
-pub packed-names : (s : Sections) (units : List CompilationUnit) (u : CompilationUnit)
-    (reference : AttributeValue) (m : Member) (names : EntryNames) → target_of units u reference
-    ≡ Ok m → second_names s units m ≡ Ok names → target_names s units u reference ≡ Ok names
-packed-names s units u reference m names target is = ap (names_from s units) target ∙ is
-
-pub packed-fails : (s : Sections) (units : List CompilationUnit) (u : CompilationUnit)
-    (reference : AttributeValue) (m : Member) (cause : Cause) → target_of units u reference ≡ Ok m
-    → Fails cause (second_names s units m) → Fails cause (target_names s units u reference)
-packed-fails s units u reference m cause target (inl memory) = inl memory
-packed-fails s units u reference m cause target (inr bad) =
-    inr (ap (names_from s units) target ∙ bad)

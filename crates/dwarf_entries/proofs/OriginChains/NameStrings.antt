@@ -30,8 +30,8 @@ use Rattle.dwarf_entries.specs.Names.{Member, path_of, text_in, text_of, first_o
 use Rattle.dwarf_entries.specs.Names.{names_of}
 use Rattle.dwarf_entries.specs.Scopes.{Scope, Tree, ScopeSite, ParsedScope, tree_of}
 use Rattle.dwarf_entries.specs.TreeLaws.{section_bytes, IsTextAt, IsTextOf}
-use Rattle.dwarf_entries.proofs.Results.ScopeOrder.{all_sites}
 use Rattle.dwarf_entries.proofs.Results.TreeParts.{AreParsed, is-read}
+use Rattle.dwarf_entries.specs.Private.Passes.{all_sites}
 
 -- ---- a string that is found in a section
 

@@ -38,18 +38,6 @@ pub record ListSoFar (budget : ℕ) (sections : Sections) (bases : Bases) (lists
   pub ranges_are : ranges ≡ known ++ flat_map ranges_in before
   pub read : SoFar (length lists) (list_entry_at budget sections bases lists) first before place
 
-pub list-none : (budget : ℕ) (sections : Sections) (bases : Bases) (lists : List ℕ) (first : ℕ)
-    (known : List Range) → ListSoFar budget sections bases lists first first 0 bases.low_pc known
-    known
-list-none budget sections bases lists first known =
-    record {
-      before = [];
-      counted = refl;
-      base_is = refl;
-      ranges_are = sym (append-nil known);
-      read = so-far-none (length lists) (list_entry_at budget sections bases lists) first;
-    }
-
 -- The base after one more entry.
 abbrev pub next_base : RangeListEntry → Option ℕ → Option ℕ
 next_base (Base new) base = Some new

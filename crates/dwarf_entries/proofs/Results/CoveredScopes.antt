@@ -24,10 +24,10 @@ use Rattle.dwarf_entries.specs.Ranges.{Covering, ranges_in, base_after, list_ent
 use Rattle.dwarf_entries.specs.Ranges.{list_at, high_of, pair_range, pair_at, covers_by, covers_of}
 use Rattle.dwarf_entries.specs.Scopes.{Scope, Tree, ScopeSite, ParsedScope, items_limit, tree_of}
 use Rattle.dwarf_entries.specs.TreeLaws.{IsValidRange}
-use Rattle.dwarf_entries.proofs.Results.ScopeOrder.{all_sites}
 use Rattle.dwarf_entries.proofs.Results.TreeParts.{AreParsed, is-read}
 use Rattle.dwarf_entries.proofs.RangeLists.CoveringLaws.{AllHold, MayHold, none-holds, from-holds}
 use Rattle.dwarf_entries.proofs.RangeLists.CoveringLaws.{list-covers}
+use Rattle.dwarf_entries.specs.Private.Passes.{all_sites}
 
 -- ---- the ranges of an entry, within a budget of items
 

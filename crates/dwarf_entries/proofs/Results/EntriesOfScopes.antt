@@ -13,10 +13,10 @@ use Rattle.dwarf_entries.specs.Scopes.{Scope, Tree, ParsedScope, site_of, sites_
 use Rattle.dwarf_entries.specs.Scopes.{tree_of}
 use Rattle.dwarf_walk.specs.ScopeEntries.{kind_of, is_scope}
 use Rattle.dwarf_entries.specs.TreeLaws.{IsEntry}
-use Rattle.dwarf_entries.proofs.Results.ScopeOrder.{all_sites}
 use Rattle.dwarf_entries.proofs.Results.TreeParts.{AreParsed, IsRead, is-read}
 use Rattle.dwarf_entries.proofs.RootPasses.RootParts.{scopes_in, split}
 use Rattle.dwarf_entries.proofs.Results.EntryScopes.{HasScopeOf, counted, described-of}
+use Rattle.dwarf_entries.specs.Private.Passes.{all_sites}
 
 -- ---- the entry of a scope
 

@@ -11,10 +11,10 @@ use Rattle.dwarf_walk.specs.Sections.{Sections}
 use Rattle.dwarf_entries.specs.Bases.{CompilationUnit}
 use Rattle.dwarf_entries.specs.Scopes.{Scope, ParsedScope, site_of, sites_in}
 use Rattle.dwarf_walk.specs.ScopeEntries.{kind_of, is_scope}
-use Rattle.dwarf_entries.proofs.Results.ScopeOrder.{all_sites}
 use Rattle.dwarf_entries.proofs.Results.TreeParts.{AreParsed}
 use Rattle.dwarf_entries.proofs.RootPasses.RootParts.{scopes_in, count-none, count-one, sites-count}
 use Rattle.dwarf_entries.proofs.RootPasses.RootParts.{parsed-length, split}
+use Rattle.dwarf_entries.specs.Private.Passes.{all_sites}
 
 pub same-some : {X : Type 0} (x y : X) → Some x ≡ Some y → x ≡ y
 same-some x y h = cc

@@ -20,9 +20,12 @@ use Rattle.dwarf_walk.specs.ScopeEntries.{kind_of, is_scope}
 use Rattle.dwarf_entries.specs.TreeLaws.{RiseBelow}
 use Rattle.dwarf_entries.proofs.UnitPasses.OrderLaws.{HeadersInOrder, headers-in-order}
 use Rattle.dwarf_entries.proofs.UnitPasses.UnitOrder.{unit_of-parts}
-use Rattle.dwarf_entries.proofs.Results.ScopeOrder.{all_sites}
-use Rattle.dwarf_entries.proofs.Results.TreeParts.{each-cons, each-past, read_entries, read_unit}
+use Rattle.dwarf_entries.proofs.Results.TreeParts.{each-cons, each-past}
 use Rattle.dwarf_entries.proofs.Results.TreeParts.{unit-parts, AreParsed, IsRead, is-read}
+use Rattle.dwarf_entries.specs.Private.Passes.{all_sites}
+use Rattle.dwarf_entries.proofs.UnitPasses.EntriesPass.{entries_for}
+use Rattle.dwarf_entries.proofs.UnitPasses.BasesPass.{unit_for}
+use Rattle.dwarf_entries.proofs.OriginChains.ReferenceLaws.{within-le}
 
 -- ---- increasing numbers
 
@@ -75,20 +78,20 @@ within-from low from end (die ∷ dies) le h = let first = h.0 in (omega (arith,
 list-rises : (s : Sections) (size from : ℕ) (headers : List UnitHeader)
     (tables : List (List Declaration)) (before dies : List (List Die))
     (front units : List CompilationUnit) → from ≤ size → HeadersInOrder from size headers
-    → each_from (read_entries s) before (zip headers tables) ≡ Ok dies
-    → each_from (read_unit s) front (zip headers dies) ≡ Ok units → UnitsRise from size units
+    → each_from (entries_for s.debug_info) before (zip headers tables) ≡ Ok dies
+    → each_from (unit_for s) front (zip headers dies) ≡ Ok units → UnitsRise from size units
 list-rises s size from headers tables before dies front [] le order read made = le
 list-rises s size from [] tables before dies front (unit ∷ units) le order read made =
-    absurd (each-past (read_unit s) front unit units made)
+    absurd (each-past (unit_for s) front unit units made)
 list-rises s size from (header ∷ headers) tables before [] front (unit ∷ units) le order read
-    made = absurd (each-past (read_unit s) front unit units made)
+    made = absurd (each-past (unit_for s) front unit units made)
 list-rises s size from (header ∷ headers) [] before (first ∷ dies) front (unit ∷ units) le order
-    read made = absurd (each-past (read_entries s) before first dies read)
+    read made = absurd (each-past (entries_for s.debug_info) before first dies read)
 list-rises s size from (header ∷ headers) (table ∷ tables) before (first ∷ dies) front
     (unit ∷ units) le order read made =
-    let entries = each-cons (read_entries s) before (header, table) (zip headers tables) first dies
+    let entries = each-cons (entries_for s.debug_info) before (header, table) (zip headers tables) first dies
     read in
-    let here = each-cons (read_unit s) front (header, first) (zip headers dies) unit units made in
+    let here = each-cons (unit_for s) front (header, first) (zip headers dies) unit units made in
     let parts = unit_of-parts s header first unit here.0 in
     let rise = within-from from header.start header.end first order.0
     (entries-rise s.debug_info header table first entries.0 order.1 order.2) in (
@@ -173,11 +176,6 @@ scopes-rise s tree h =
 abbrev root_offsets : List Root → List ℕ
 root_offsets rs = map (λ (root : Root). root.offset) rs
 
-within-fits : (from end : ℕ) (dies : List Die) → RiseWithin from end dies → from ≤ end
-within-fits from end [] h = h
-within-fits from end (die ∷ dies) h = let first = h.0 in let rest =
-    within-fits (suc die.offset) end dies h.1 in omega (arith, first, rest)
-
 roots-from-rise : (number from size : ℕ) (units : List CompilationUnit) → UnitsRise from size units
     → Rise from size (root_offsets (roots_from number units))
 roots-from-rise number from size [] h = h
@@ -193,7 +191,7 @@ roots-from-rise number from size (unit ∷ units) h =
     by_root past (root ∷ dies) rise rest = (
       rise.0,
       rise-from (suc root.offset) h.0 size (root_offsets (roots_from past units))
-          (within-fits (suc root.offset) h.0 dies rise.1) rest,
+          (within-le (suc root.offset) h.0 dies rise.1) rest,
     )
 
 pub roots-rise : (s : Sections) (tree : Tree) → tree_of s ≡ Ok tree

@@ -2,22 +2,21 @@
 -- inside another one also ends inside it.
 use Rattle.std.proofs.Common.{◌≡◌, ℕ, zero, suc, ◌+◌, ◌<◌, ◌≤◌, List, [], ◌∷◌, ◌++◌, length}
 use Rattle.std.proofs.Common.{map, Bool, true, false, cond, refl, ap, sym, ◌∙◌, subst, arith}
-use Rattle.std.specs.Prelude.{Option, Some, None, Result, Ok, Err, nat_lt, is_some, flat_map}
+use Rattle.std.specs.Prelude.{Option, Some, None, Result, Ok, Err, nat_lt, is_some}
 use Rattle.std.specs.Prelude.{count_by}
 use Rattle.std.specs.List.{take_while}
 use Rattle.std.proofs.lemmas.Bool.{cond-true, cond-false}
 use Rattle.std.proofs.lemmas.Bool.Decides.{nat_tests}
 use Rattle.std.proofs.lemmas.List.Sums.{sum_by-cons, take_while-cons}
 use Rattle.dwarf_bytes.specs.declared.fault.Cause.{Cause}
-use Rattle.dwarf_bytes.specs.declared.fault.Section.{Section}
 use Rattle.dwarf_bytes.specs.Bind.{◌>>=◌}
-use Rattle.dwarf_bytes.specs.Items.{At, with_offset}
-use Rattle.dwarf_bytes.specs.Refusals.{in_section}
+use Rattle.dwarf_bytes.specs.Items.{with_offset}
 use Rattle.dwarf_walk.specs.declared.scope_kind.ScopeKind.{ScopeKind}
 use Rattle.dwarf_units.specs.Entries.{Die}
 use Rattle.dwarf_entries.specs.Bases.{CompilationUnit}
 use Rattle.dwarf_entries.specs.Scopes.{ScopeSite, site_of, sites_in}
 use Rattle.dwarf_walk.specs.ScopeEntries.{kind_of, is_scope}
+use Rattle.dwarf_entries.specs.Private.Passes.{all_sites}
 
 -- ---- the steps of a read
 
@@ -26,18 +25,10 @@ pub bind-ok : {A B E : Type 0} (r : Result A E) (f : A → Result B E) (y : B) �
 bind-ok (Ok x) f y h = (x, refl, h)
 bind-ok (Err e) f y h = cc
 
-pub section-ok : {X : Type 0} (section : Section) (r : Result X At) (x : X)
-    → in_section section r ≡ Ok x → r ≡ Ok x
-section-ok section (Ok y) x h = cc
-section-ok section (Err e) x h = cc
-
 pub described-ok : {X : Type 0} (at : ℕ) (r : Result X Cause) (x : X) → with_offset at r ≡ Ok x
     → r ≡ Ok x
 described-ok at (Ok y) x h = cc
 described-ok at (Err e) x h = cc
-
-pub ok-same : {X E : Type 0} (r : Result X E) (x y : X) → r ≡ Ok x → r ≡ Ok y → x ≡ y
-ok-same r x y a b = cc
 
 -- ---- the number of scopes below each scope
 
@@ -145,9 +136,6 @@ sites-fit unit (d ∷ dies) = cases (kind_of d.tag) (sites-fit unit dies)
         → Fits (descendants (site_of unit d dies kind (sites_in unit dies)))
     cases None rest = rest
     cases (Some kind) rest = (sites-inner unit d.depth dies, rest)
-
-abbrev pub all_sites : List CompilationUnit → List ScopeSite
-all_sites units = flat_map (λ unit. sites_in unit unit.dies) units
 
 pub all-fit : (units : List CompilationUnit) → Fits (descendants (all_sites units))
 all-fit [] = tt

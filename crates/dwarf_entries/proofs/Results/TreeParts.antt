@@ -10,16 +10,22 @@ use Rattle.dwarf_bytes.proofs.Numbers.Moves.{same-ok}
 use Rattle.dwarf_forms.specs.Declarations.{Declaration}
 use Rattle.dwarf_units.specs.declared.unit_headers.UnitHeader.{UnitHeader}
 use Rattle.dwarf_units.specs.Units.{units_of, tables_of}
-use Rattle.dwarf_units.specs.Entries.{Die, entries_of}
+use Rattle.dwarf_units.specs.Entries.{Die}
 use Rattle.dwarf_entries.specs.declared.origin_chains.EntryNames.{EntryNames}
 use Rattle.dwarf_walk.specs.Sections.{Sections}
-use Rattle.dwarf_entries.specs.Bases.{CompilationUnit, unit_of, units_read}
+use Rattle.dwarf_entries.specs.Bases.{CompilationUnit, units_read}
 use Rattle.dwarf_entries.specs.Names.{names_of}
 use Rattle.dwarf_entries.specs.Ranges.{Covering}
 use Rattle.dwarf_entries.specs.Scopes.{Tree, ScopeSite, ParsedScope, scope_at, tree_of, roots_from}
-use Rattle.dwarf_entries.proofs.Results.ScopeOrder.{bind-ok, section-ok, described-ok, all_sites}
-use Rattle.dwarf_entries.proofs.Results.ScopePlaces.{checked_by, covering_at, make, from_checked}
-use Rattle.dwarf_entries.proofs.Results.ScopePlaces.{from_units}
+use Rattle.dwarf_entries.proofs.Results.ScopeOrder.{bind-ok, described-ok}
+use Rattle.dwarf_entries.proofs.Results.ScopePlaces.{made_of, from_units}
+use Rattle.dwarf_entries.specs.Private.Passes.{parse_scope}
+use Rattle.dwarf_entries.specs.Private.Passes.{all_sites}
+use Rattle.dwarf_entries.proofs.UnitPasses.EntriesPass.{entries_for}
+use Rattle.dwarf_entries.proofs.UnitPasses.BasesPass.{unit_for}
+use Rattle.dwarf_units.proofs.TableLaws.{in_section-ok}
+use Rattle.dwarf_entries.proofs.ScopePasses.ScopeLaws.{scope_of_place}
+use Rattle.dwarf_entries.proofs.ScopePasses.ScopeLaws.{covers_there}
 
 -- ---- the results for each element of a list
 
@@ -65,27 +71,27 @@ pub record IsChecked (sections : Sections) (units : List CompilationUnit)
   pub found : EntryNames
   pub found_are : names_of sections units p.member ≡ Ok found
   pub covering : Covering
-  pub covering_is : covering_at sections before p ≡ Ok covering
-  pub is : checked_by before p found covering ≡ j
+  pub covering_is : covers_there sections before p ≡ Ok covering
+  pub is : scope_of_place before p found covering ≡ j
 
 is-parsed : (sections : Sections) (units : List CompilationUnit) (before : List ParsedScope)
-    (p : ScopeSite) (j : ParsedScope) → make sections units before p ≡ Ok j
+    (p : ScopeSite) (j : ParsedScope) → parse_scope sections units before p ≡ Ok j
     → IsChecked sections units before p j
 is-parsed sections units before p j h =
     let P : Type 0 = IsChecked sections units before p j in
     after-bind (names_of sections units p.member)
-    (λ found. covering_at sections before p
-    >>= λ covering. Ok (checked_by before p found covering)) j
+    (λ found. covers_there sections before p
+    >>= λ covering. Ok (scope_of_place before p found covering)) j
     (described-ok p.member.die.offset (scope_at sections units before p) j h) P
     (λ found found_are h1.
-    after-bind (covering_at sections before p) (λ covering. Ok (checked_by before p found covering))
+    after-bind (covers_there sections before p) (λ covering. Ok (scope_of_place before p found covering))
     j h1 P (λ covering covering_is last.
     record {
       found = found;
       found_are = found_are;
       covering = covering;
       covering_is = covering_is;
-      is = same-ok (checked_by before p found covering) j last;
+      is = same-ok (scope_of_place before p found covering) j last;
     }))
 
 abbrev pub AreParsed : Sections → List CompilationUnit → List ParsedScope → List ScopeSite
@@ -98,30 +104,22 @@ AreParsed sections units before (p ∷ ps) (j ∷ js) = IsChecked sections units
     × AreParsed sections units (before ++ j ∷ []) ps js
 
 are-parsed : (sections : Sections) (units : List CompilationUnit) (before : List ParsedScope)
-    (ps : List ScopeSite) (js : List ParsedScope) → each_from (make sections units) before ps
+    (ps : List ScopeSite) (js : List ParsedScope) → each_from (parse_scope sections units) before ps
     ≡ Ok js
     → AreParsed sections units before ps js
 are-parsed sections units before [] [] h = tt
 are-parsed sections units before [] (j ∷ js) h =
-    absurd (each-past (make sections units) before j js h)
+    absurd (each-past (parse_scope sections units) before j js h)
 are-parsed sections units before (p ∷ ps) [] h =
-    absurd (each-none (make sections units) before p ps h)
+    absurd (each-none (parse_scope sections units) before p ps h)
 are-parsed sections units before (p ∷ ps) (j ∷ js) h =
-    let parts = each-cons (make sections units) before p ps j js h in (
+    let parts = each-cons (parse_scope sections units) before p ps j js h in (
       is-parsed sections units before p j parts.0,
       are-parsed sections units (before ++ j ∷ []) ps js
           parts.1,
     )
 
 -- ---- the parts that the result was read from
-
-abbrev pub read_entries : Sections → List (List Die) → UnitHeader × List Declaration
-    → Result (List Die) At
-read_entries s before p = entries_of s.debug_info p.0 p.1
-
-abbrev pub read_unit : Sections → List CompilationUnit → UnitHeader × List Die
-    → Result CompilationUnit At
-read_unit s before p = unit_of s p.0 p.1
 
 -- The parts that the units were read from.
 pub record UnitParts (s : Sections) (units : List CompilationUnit) : Type 0 where
@@ -130,8 +128,8 @@ pub record UnitParts (s : Sections) (units : List CompilationUnit) : Type 0 wher
   pub tables : List (List Declaration)
   pub tables_are : tables_of s.debug_abbrev headers ≡ Ok tables
   pub dies : List (List Die)
-  pub dies_are : each (read_entries s) (zip headers tables) ≡ Ok dies
-  pub units_are : each (read_unit s) (zip headers dies) ≡ Ok units
+  pub dies_are : each (entries_for s.debug_info) (zip headers tables) ≡ Ok dies
+  pub units_are : each (unit_for s) (zip headers dies) ≡ Ok units
 
 pub unit-parts : (s : Sections) (units : List CompilationUnit) → units_read s ≡ Ok units
     → UnitParts s units
@@ -139,16 +137,16 @@ unfolding units_read
 unit-parts s units h =
     let a = bind-ok (in_section names.DebugInfo (units_of s.debug_info)) _ units h in
     let b = bind-ok (in_section names.DebugAbbrev (tables_of s.debug_abbrev a.0)) _ units a.2 in
-    let c = bind-ok (in_section names.DebugInfo (each (read_entries s) (zip a.0 b.0))) _ units b.2
+    let c = bind-ok (in_section names.DebugInfo (each (entries_for s.debug_info) (zip a.0 b.0))) _ units b.2
     in
     record {
       headers = a.0;
-      headers_are = section-ok names.DebugInfo (units_of s.debug_info) a.0 a.1;
+      headers_are = in_section-ok names.DebugInfo (units_of s.debug_info) a.0 a.1;
       tables = b.0;
-      tables_are = section-ok names.DebugAbbrev (tables_of s.debug_abbrev a.0) b.0 b.1;
+      tables_are = in_section-ok names.DebugAbbrev (tables_of s.debug_abbrev a.0) b.0 b.1;
       dies = c.0;
-      dies_are = section-ok names.DebugInfo (each (read_entries s) (zip a.0 b.0)) c.0 c.1;
-      units_are = section-ok names.DebugInfo (each (read_unit s) (zip a.0 c.0)) units c.2;
+      dies_are = in_section-ok names.DebugInfo (each (entries_for s.debug_info) (zip a.0 b.0)) c.0 c.1;
+      units_are = in_section-ok names.DebugInfo (each (unit_for s) (zip a.0 c.0)) units c.2;
     }
 
 pub record IsRead (s : Sections) (tree : Tree) : Type 0 where
@@ -164,8 +162,8 @@ unfolding tree_of
 is-read s tree h =
     let a = bind-ok (units_read s) (from_units s) tree h in
     let units = a.0 in
-    let b = bind-ok (in_section names.DebugInfo (each_from (make s units) [] (all_sites units)))
-    (from_checked units) tree a.2 in
+    let b = bind-ok (in_section names.DebugInfo (each_from (parse_scope s units) [] (all_sites units)))
+    (made_of units) tree a.2 in
     let parsed = b.0 in
     let same = same-ok (record { roots = roots_from 0 units; scopes = map (λ j. j.scope) parsed })
     tree b.2 in
@@ -174,7 +172,7 @@ is-read s tree h =
       units_are = a.1;
       parsed = parsed;
       judged_are = are-parsed s units [] (all_sites units) parsed
-          (section-ok names.DebugInfo (each_from (make s units) [] (all_sites units)) parsed b.1);
+          (in_section-ok names.DebugInfo (each_from (parse_scope s units) [] (all_sites units)) parsed b.1);
       roots_are = ap (λ (t : Tree). t.roots) same;
       scopes_are = ap (λ (t : Tree). t.scopes) same;
     }

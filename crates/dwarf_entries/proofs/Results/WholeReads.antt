@@ -13,18 +13,12 @@ use Rattle.dwarf_bytes.proofs.Items.EachPlaces.{each-length}
 use Rattle.dwarf_walk.specs.ScopeEntries.{is_scope}
 use Rattle.dwarf_walk.specs.Sections.{Sections}
 use Rattle.dwarf_entries.specs.Bases.{CompilationUnit, units_read}
-use Rattle.dwarf_entries.specs.Scopes.{Tree, Scope, ParsedScope, sites_in, roots_from, tree_of}
+use Rattle.dwarf_entries.specs.Scopes.{Scope, ParsedScope, sites_in, roots_from, tree_of}
 use Rattle.dwarf_entries.specs.Private.Passes.{parse_scope, all_sites, all_scopes}
 use Rattle.dwarf_entries.specs.Private.Passes.{number_of_scopes}
 use Rattle.dwarf_entries.proofs.Results.ReadLaws.{bound, fails, first_fault}
 use Rattle.dwarf_entries.proofs.RootPasses.RootParts.{sites-count}
-
-abbrev made_of : List CompilationUnit → List ParsedScope → Result Tree LoadFault
-made_of us parsed = Ok (record { roots = roots_from 0 us; scopes = map (λ j. j.scope) parsed })
-
-abbrev from_units : Sections → List CompilationUnit → Result Tree LoadFault
-from_units s us =
-    in_section names.DebugInfo (each (parse_scope s us) (all_sites us)) >>= made_of us
+use Rattle.dwarf_entries.proofs.Results.ScopePlaces.{made_of, from_units}
 
 pub tree-fault : (s : Sections) (fault : LoadFault)
     → (fault ≡ memory_fault) ⊎ (units_read s ≡ Err fault)
@@ -35,7 +29,8 @@ tree-fault s fault bad = fails (from_units s) (units_read s) fault bad
 pub after-units : (s : Sections) (us : List CompilationUnit) → units_read s ≡ Ok us
     → tree_of s ≡ from_units s us
 unfolding tree_of
-after-units s us read = ap (λ (r : Result (List CompilationUnit) LoadFault). r >>= from_units s) read
+after-units s us read =
+    ap (λ (r : Result (List CompilationUnit) LoadFault). r >>= from_units s) read
 
 pub scopes-pass-fault : (s : Sections) (us : List CompilationUnit) (fault : LoadFault)
     → units_read s ≡ Ok us
@@ -53,7 +48,8 @@ tree-read s us scopes read scopes_are =
     let parts = bound (λ parsed. map (λ j. j.scope) parsed)
     (each (parse_scope s us) (all_sites us)) scopes scopes_are in
     after-units s us read
-    ∙ (ap (λ (r : Result (List ParsedScope) At). in_section names.DebugInfo r >>= made_of us) parts.1
+    ∙ (ap (λ (r : Result (List ParsedScope) At). in_section names.DebugInfo r >>= made_of us)
+    parts.1
     ∙ ap (λ (ss : List Scope). Ok (record { roots = roots_from 0 us; scopes = ss })) (sym parts.2))
 
 -- The units have as many scopes as the result.

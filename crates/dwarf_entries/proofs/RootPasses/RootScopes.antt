@@ -14,11 +14,11 @@ use Rattle.dwarf_entries.specs.Scopes.{Scope, Tree, ParsedScope, sites_in, stmt_
 use Rattle.dwarf_entries.specs.Scopes.{roots_from, tree_of}
 use Rattle.dwarf_walk.specs.ScopeEntries.{is_scope, number_of}
 use Rattle.dwarf_entries.specs.TreeLaws.{ArePartsFrom, IsOfUnit}
-use Rattle.dwarf_entries.proofs.Results.ScopeOrder.{all_sites}
 use Rattle.dwarf_entries.proofs.Results.TreeParts.{AreParsed, is-read}
 use Rattle.dwarf_entries.proofs.Results.OffsetLaws.{UnitsRise, units-rise}
 use Rattle.dwarf_entries.proofs.RootPasses.RootParts.{scopes_in, sites-count, parsed-length, split}
 use Rattle.dwarf_entries.proofs.RootPasses.RootParts.{Between, numbers-between, of-unit}
+use Rattle.dwarf_entries.specs.Private.Passes.{all_sites}
 
 -- ---- the roots
 

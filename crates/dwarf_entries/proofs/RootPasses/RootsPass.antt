@@ -139,7 +139,8 @@ roots-next units us index first unit roots same within is so_far =
     ++ roots_from (first + k) (drop (index + 1) us)) (sym here.count)) in
     append_assoc roots list (roots_from past (drop (index + 1) us))
     ∙ (ap (λ (rs : List Root). roots ++ rs) (sym described)
-    ∙ (ap (λ (vs : List CompilationUnit). roots ++ roots_from first vs) (sym (units-from us here.u index here.found))
+    ∙ (ap (λ (vs : List CompilationUnit). roots ++ roots_from first vs)
+    (sym (units-from us here.u index here.found))
     ∙ so_far))
 
 -- An iteration, with machine integers.

@@ -82,11 +82,12 @@ bases-there bases us are unit u found d = get_or_from_slice_get bases unit u.bas
     ∙ ap (λ (o : Option CompilationUnit). option_map bases_of o) found))
 
 -- The ranges of the entry of a site, from the stored data.
-abbrev covers_there : Sections → List ParsedScope → ScopeSite → Result Covering Cause
+abbrev pub covers_there : Sections → List ParsedScope → ScopeSite → Result Covering Cause
 covers_there s before p = covers_of (items_limit - sum_by (λ s. s.items) before) s
     p.member.unit.bases p.member.die
 
-covers-is : (s : Sections) (us : List CompilationUnit) (before : List ParsedScope) (p : ScopeSite) (numbers : ScopeNumbers)
+covers-is : (s : Sections) (us : List CompilationUnit) (before : List ParsedScope)
+    (p : ScopeSite) (numbers : ScopeNumbers)
     (budget : ℕ) (entry : ScopeEntry) (bases : Bases) → bases ≡ p.member.unit.bases
     → IsScopeSite us numbers entry budget before p
     → covers_there s before p ≡ covers_by budget s bases entry.low_pc
@@ -106,7 +107,8 @@ after-names s us before p names read =
     >>= λ covering. Ok (scope_of_place before p names covering)) read
 
 -- The scope fails if its ranges cannot be read.
-pub covers-fault : (s : Sections) (us : List CompilationUnit) (before : List ParsedScope) (p : ScopeSite) (numbers : ScopeNumbers)
+pub covers-fault : (s : Sections) (us : List CompilationUnit) (before : List ParsedScope)
+    (p : ScopeSite) (numbers : ScopeNumbers)
     (budget : ℕ) (entry : ScopeEntry) (names : EntryNames) (cause : Cause) (bases : Bases)
     → bases ≡ p.member.unit.bases → IsScopeSite us numbers entry budget before p
     → (IsMember us numbers.unit entry.entry p.member → names_of s us p.member ≡ Ok names)
@@ -128,7 +130,8 @@ covers-fault s us before p numbers budget entry names cause bases are place read
     (covers-is s us before p numbers budget entry bases are place ∙ bad))
 
 -- The data of the scope.
-pub scope-is : (s : Sections) (us : List CompilationUnit) (before : List ParsedScope) (p : ScopeSite) (numbers : ScopeNumbers)
+pub scope-is : (s : Sections) (us : List CompilationUnit) (before : List ParsedScope)
+    (p : ScopeSite) (numbers : ScopeNumbers)
     (budget : ℕ) (entry : ScopeEntry) (names : EntryNames) (items : ℕ) (old new : List Range)
     (bases : Bases) → bases ≡ p.member.unit.bases → IsScopeSite us numbers entry budget before p
     → (IsMember us numbers.unit entry.entry p.member → names_of s us p.member ≡ Ok names)

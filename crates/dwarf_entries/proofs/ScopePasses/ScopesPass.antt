@@ -49,12 +49,6 @@ pub record CheckedSoFar (s : Sections) (us : List CompilationUnit) (u : Compilat
       (drop index (sites_in u u.dies)))
       ≡ made_front before (each_from (parse_scope s us) before (sites_in u u.dies))
 
-pub checked-none : (s : Sections) (us : List CompilationUnit) (u : CompilationUnit)
-    (before : List ParsedScope) (lists : ScopeLists) (left : ℕ)
-    → AreParsed (roots_from 0 us) before lists left → CheckedSoFar s us u before 0 lists left
-checked-none s us u before lists left are =
-    record { parsed = before; are_parsed = are; counted = omega arith; read = refl }
-
 -- A site has an index below the number of scopes of its unit.
 site-within : (u : CompilationUnit) (index : ℕ) (p : ScopeSite) (ps : List ScopeSite)
     → drop index (sites_in u u.dies) ≡ p ∷ ps → index < count_by is_scope u.dies

@@ -1,10 +1,9 @@
 -- The scope sites of a unit, from the data stored for it.
 use Rattle.std.proofs.Common.{◌≡◌, ℕ, zero, suc, ◌+◌, ◌<◌, List, [], ◌∷◌, length, drop, get_or, map}
-use Rattle.std.proofs.Common.{cond, refl, ap, ◌∙◌, arith, drop-cons, add-one}
-use Rattle.std.specs.Prelude.{Option, Some, None, Ok, is_some, count_by, sum_by, slice_get}
+use Rattle.std.proofs.Common.{refl, ap, ◌∙◌, arith, drop-cons, add-one}
+use Rattle.std.specs.Prelude.{Option, Some, None, Ok, count_by, slice_get}
 use Rattle.std.proofs.lemmas.List.{get_or-map, length-map}
 use Rattle.std.proofs.lemmas.Option.{slice_get-get_or}
-use Rattle.std.proofs.lemmas.List.Sums.{sum_by-cons}
 use Rattle.dwarf_walk.specs.declared.scope_kind.ScopeKind.TheVariants.{Subprogram}
 use Rattle.dwarf_walk.specs.declared.scope_kind.ScopeKind.{ScopeKind}
 use Rattle.dwarf_walk.specs.declared.unit_entries.ScopePlace.{ScopePlace}
@@ -49,28 +48,6 @@ pub sites-stored : (k : UnitEntries) (u : CompilationUnit) → stored_of k ≡ s
 sites-stored k u same = ap (λ (x : StoredUnit). length x.scopes) same
     ∙ (ap (λ (ps : List ScopePlace). length ps) (places-are u u.dies)
     ∙ length-map (sites_in u u.dies) place_in)
-
--- There are as many stored elements as scopes.
-pub places-counted : (dies : List Die) → length (scope_places dies) ≡ count_by is_scope dies
-places-counted [] = refl
-places-counted (die ∷ rest) = by_kind (kind_of die.tag) refl (places-counted rest)
-  where
-    f : Die → ℕ
-    f d = cond (is_scope d) 1 0
-
-    by_kind : (kind : Option ScopeKind) → kind_of die.tag ≡ kind
-        → length (scope_places rest) ≡ count_by is_scope rest
-        → length (scope_place die rest kind (scope_places rest)) ≡ count_by is_scope (die ∷ rest)
-    by_kind kind is later = by_count kind
-        (sum_by-cons f die rest ∙ ap (λ (k : Option ScopeKind). cond (is_some k) 1 0 + sum_by f
-        rest) is)
-      where
-        by_count : (kind : Option ScopeKind) → count_by is_scope (die ∷ rest)
-            ≡ cond (is_some kind) 1 0 + sum_by f rest
-            → length (scope_place die rest kind (scope_places rest))
-            ≡ count_by is_scope (die ∷ rest)
-        by_count None counted = omega (arith, counted, later)
-        by_count (Some k) counted = omega (arith, counted, later)
 
 -- A site of a unit is a scope among its entries.
 pub record IsPlaceIn (u : CompilationUnit) (dies : List Die) (p : ScopeSite) : Type 0 where

@@ -1,6 +1,6 @@
 -- The pass over the scopes of all units.
 use Rattle.std.proofs.Common.{◌≡◌, ℕ, ◌+◌, ◌<◌, ◌≤◌, ◌⊎◌, inl, inr, List, [], ◌++◌, length, drop}
-use Rattle.std.proofs.Common.{refl, ap, sym, ◌∙◌, subst, arith, append_assoc, length-append}
+use Rattle.std.proofs.Common.{refl, ap, sym, ◌∙◌, arith, append_assoc, length-append}
 use Rattle.std.specs.Prelude.{Result, Ok, Err, Some, slice_get}
 use Rattle.std.proofs.lemmas.List.{drop_all}
 use Rattle.dwarf_bytes.specs.declared.fault.Section.TheVariants as names
@@ -9,16 +9,13 @@ use Rattle.dwarf_bytes.specs.Bind.{◌>>=◌}
 use Rattle.dwarf_bytes.specs.Items.{At, each, each_from}
 use Rattle.dwarf_bytes.specs.Refusals.{memory_fault, in_section}
 use Rattle.dwarf_bytes.proofs.Items.EachLaws.{made_front, each-end}
-use Rattle.dwarf_entries.specs.declared.scope.Range.{Range}
-use Rattle.dwarf_entries.specs.declared.scope.Scope.{Scope as StoredScope}
 use Rattle.dwarf_entries.specs.declared.scope_lists.ScopeLists.{ScopeLists}
-use Rattle.dwarf_entries.specs.Private.Shared.{AreConsecutive}
 use Rattle.dwarf_entries.proofs.RootPasses.RootNumbers.{units-from, first-next}
 use Rattle.dwarf_entries.proofs.RootPasses.RootParts.{sites-count}
 use Rattle.dwarf_walk.specs.Sections.{Sections}
 use Rattle.dwarf_entries.specs.Bases.{CompilationUnit}
-use Rattle.dwarf_entries.specs.Scopes.{ParsedScope, ScopeSite, Scope, items_limit, sites_in}
-use Rattle.dwarf_entries.specs.Scopes.{roots_from, scopes_from, scopes_of}
+use Rattle.dwarf_entries.specs.Scopes.{ParsedScope, ScopeSite, Scope, sites_in}
+use Rattle.dwarf_entries.specs.Scopes.{roots_from, scopes_of}
 use Rattle.dwarf_entries.specs.Private.Passes.{IsFirstNumberOf, parse_scope, AreParsed}
 use Rattle.dwarf_entries.specs.Private.Passes.{AddsScopes, all_sites, all_scopes}
 use Rattle.dwarf_bytes.proofs.Items.EachPlaces.{each-append, each-length}
@@ -34,31 +31,6 @@ pub record ScopesSoFar (s : Sections) (us : List CompilationUnit) (index : ℕ)
   pub first : IsFirstNumberOf us index (length parsed)
   pub read : made_front parsed (each_from (parse_scope s us) parsed (all_sites (drop index us)))
       ≡ each (parse_scope s us) (all_sites us)
-
-pub scopes_none : (s : Sections) (us : List CompilationUnit) (lists : ScopeLists)
-    → lists.scopes.items ≡ [] → lists.ranges.items ≡ [] → ScopesSoFar s us 0 lists items_limit
-scopes_none s us lists scopes_are ranges_are =
-    record {
-      parsed = [];
-      are_parsed = none;
-      first = refl;
-      read =
-          no-front (each (parse_scope s us) (all_sites us));
-    }
-  where
-    none : AreParsed (roots_from 0 us) [] lists items_limit
-    none = record {
-      described = ap (λ (ss : List StoredScope). scopes_from (roots_from 0 us) lists.wide.items
-          lists.ranges.items 0 ss) scopes_are;
-      in_list = subst (λ (ss : List StoredScope). AreConsecutive (length lists.wide.items) 0
-          (length lists.ranges.items) ss) (sym scopes_are)
-          (ap (λ (rs : List Range). length rs) (sym ranges_are));
-      counted = refl;
-    }
-
-    no-front : (r : Result (List ParsedScope) At) → made_front [] r ≡ r
-    no-front (Ok x) = refl
-    no-front (Err e) = refl
 
 -- The sites from a unit on are its own sites and the sites of the units after it.
 places_from : (us : List CompilationUnit) (u : CompilationUnit) (index : ℕ)
@@ -85,7 +57,8 @@ stretch s us parsed after places more is =
     behind (Ok zs) = ap (λ (js : List ParsedScope). Ok js) (sym (append_assoc parsed after zs))
     behind (Err e) = refl
 
-pub scopes-next : (s : Sections) (us : List CompilationUnit) (index : ℕ) (old lists : ScopeLists) (left after : ℕ)
+pub scopes-next : (s : Sections) (us : List CompilationUnit) (index : ℕ)
+    (old lists : ScopeLists) (left after : ℕ)
     → index < length us
     → (so_far : ScopesSoFar s us index old left)
     → ((u : CompilationUnit) (before : List ParsedScope) → slice_get us index ≡ Some u
@@ -111,7 +84,8 @@ scopes-next s us index old lists left after within so_far adds =
           (sym (places_from us u.0 index u.1)) ∙ so_far.read);
     }
 
-pub scopes-fault : (s : Sections) (us : List CompilationUnit) (index : ℕ) (old lists : ScopeLists) (left after : ℕ)
+pub scopes-fault : (s : Sections) (us : List CompilationUnit) (index : ℕ)
+    (old lists : ScopeLists) (left after : ℕ)
     (fault : LoadFault) → index < length us
     → (so_far : ScopesSoFar s us index old left)
     → ((u : CompilationUnit) (before : List ParsedScope) → slice_get us index ≡ Some u
@@ -155,7 +129,8 @@ scopes-fault s us index old lists left after fault within so_far adds =
     by_fault u found (inr bad) = inr (by_read u found
         (each_from (parse_scope s us) parsed (sites_in u u.dies)) refl bad)
 
-pub scopes_end : (s : Sections) (us : List CompilationUnit) (index : ℕ) (lists : ScopeLists) (left : ℕ)
+pub scopes_end : (s : Sections) (us : List CompilationUnit) (index : ℕ) (lists : ScopeLists)
+    (left : ℕ)
     → length us ≤ index → ScopesSoFar s us index lists left
     → in_section names.DebugInfo (all_scopes s us) ≡ Ok (scopes_of (roots_from 0 us) lists)
 scopes_end s us index lists left past so_far =

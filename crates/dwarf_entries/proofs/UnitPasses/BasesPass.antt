@@ -19,6 +19,7 @@ use Rattle.dwarf_walk.specs.Private.Stored.{StoredUnit, root_in, stored_unit, st
 use Rattle.dwarf_entries.specs.Private.Passes.{stored_units, bases_in, all_units, bases_of}
 use Rattle.dwarf_entries.specs.Private.Passes.{all_bases}
 use Rattle.dwarf_units.proofs.TableLaws.{in_section-ok}
+use Rattle.dwarf_entries.proofs.UnitPasses.EntriesPass.{no-front}
 
 abbrev pub unit_for : Sections → List CompilationUnit → UnitHeader × List Die
     → Result CompilationUnit At
@@ -42,10 +43,6 @@ pub record BasesSoFar (s : Sections) (headers : List UnitHeader) (dies : List (L
   pub bases_are : all ≡ map bases_of made
   pub read : made_front made (each_from (unit_for s) made (drop index (zip headers dies)))
       ≡ all_units s headers dies
-
-no-front : {Y : Type 0} (r : Result (List Y) At) → made_front [] r ≡ r
-no-front (Ok x) = refl
-no-front (Err e) = refl
 
 pub bases-none : (s : Sections) (headers : List UnitHeader) (dies : List (List Die))
     → BasesSoFar s headers dies 0 []

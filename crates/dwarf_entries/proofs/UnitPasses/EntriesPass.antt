@@ -39,7 +39,7 @@ pub record EntriesSoFar (info : List ℕ) (headers : List UnitHeader)
   pub read : made_front made (each_from (entries_for info) made (drop index (zip headers tables)))
       ≡ all_entries info headers tables
 
-no-front : {Y : Type 0} (r : Result (List Y) At) → made_front [] r ≡ r
+pub no-front : {Y : Type 0} (r : Result (List Y) At) → made_front [] r ≡ r
 no-front (Ok x) = refl
 no-front (Err e) = refl
 
@@ -79,6 +79,35 @@ offsets-more (first ∷ made) dies = append_assoc (offsets_of first) (all_offset
     (offsets_of dies) ∙ ap (λ (places : List ℕ). offsets_of first ++ places)
     (offsets-more made dies)
 
+-- The header and the table of a unit.
+pub pair-at : (section : List ℕ) (headers : List UnitHeader) (tables : List (List Declaration))
+    (index : ℕ) (d : UnitHeader) (table : List Declaration)
+    → tables_of section headers ≡ Ok tables → index < length headers
+    → in_section names.DebugAbbrev (declarations_of declarations_limit section
+    (get_or headers index d).abbreviations) ≡ Ok table
+    → drop index (zip headers tables) ≡ (get_or headers index d, table)
+    ∷ drop (index + 1) (zip headers tables)
+unfolding tables_of
+pair-at section headers tables index d table all within read =
+    let header = get_or headers index d in
+    let same : get_or tables index [] ≡ table =
+    same_list (sym (table_is section headers tables index d all within)
+    ∙ in_section-ok names.DebugAbbrev (declarations_of declarations_limit section
+    header.abbreviations) table read) in
+    let sizes : length tables ≡ length headers =
+    each-length (table_for section) [] headers tables all in
+    let inside : index < length tables = omega (arith, sizes, within) in
+    let pair : get_or (zip headers tables) index (d, []) ≡ (header, get_or tables index []) =
+    get_or-zip headers tables index (d, []) within inside in
+    let zipped : index < length (zip headers tables) =
+    subst (λ (n : ℕ). index < n) (sym (length-zip headers tables))
+    (omega (arith, within, inside)) in
+    rw (add-one, drop-cons (zip headers tables) index (d, []) zipped, pair, same) refl
+  where
+    same_list : {x y : List Declaration}
+        → (let f : List Declaration → Result (List Declaration) At = λ z. Ok z in f x ≡ f y) → x ≡ y
+    same_list h = cc
+
 pub entries-next : (info section : List ℕ) (headers : List UnitHeader)
     (tables : List (List Declaration)) (bitmap marked after : EntryBitmap) (index : ℕ)
     (stored : List StoredUnit) (d : UnitHeader) (table : List Declaration) (unit : StoredUnit)
@@ -90,42 +119,21 @@ pub entries-next : (info section : List ℕ) (headers : List UnitHeader)
     → ((dies : List Die) → entries_of info (get_or headers index d) table ≡ Ok dies
     → AddsOffsets marked after (offsets_of dies))
     → EntriesSoFar info headers tables bitmap after (index + 1) (stored ++ unit ∷ [])
-unfolding tables_of
 entries-next info section headers tables bitmap marked after index stored d table unit so_far all
     within table_read unit_read adds =
-    let header = get_or headers index d in
-    let read = table_is section headers tables index d all within in
-    let same : get_or tables index [] ≡ table =
-    same_ok_list (sym read ∙ in_section-ok names.DebugAbbrev
-    (declarations_of declarations_limit section header.abbreviations) table table_read) in
-    by_dies (entries_of info header table) refl
-    (in_section-ok names.DebugInfo (stored_entries info header table) unit unit_read) same
+    by_dies (entries_of info (get_or headers index d) table) refl
+    (in_section-ok names.DebugInfo (stored_entries info (get_or headers index d) table) unit
+    unit_read) (pair-at section headers tables index d table all within table_read)
   where
-    same_ok_list : {x y : List Declaration}
-        → (let f : List Declaration → Result (List Declaration) At = λ z. Ok z in f x ≡ f y) → x ≡ y
-    same_ok_list h = cc
-
     by_dies : (r : Result (List Die) At) → entries_of info (get_or headers index d) table ≡ r
         → (r >>= λ dies. Ok (stored_unit (get_or headers index d) dies)) ≡ Ok unit
-        → get_or tables index [] ≡ table
+        → drop index (zip headers tables) ≡ (get_or headers index d, table)
+        ∷ drop (index + 1) (zip headers tables)
         → EntriesSoFar info headers tables bitmap after (index + 1) (stored ++ unit ∷ [])
-    by_dies (Err e) is h same = cc
-    by_dies (Ok dies) is h same =
+    by_dies (Err e) is h rest = cc
+    by_dies (Ok dies) is h rest =
         let made = so_far.made in
         let header = get_or headers index d in
-        let here : entries_for info made (header, get_or tables index []) ≡ Ok dies =
-        ap (λ (t : List Declaration). entries_of info header t) same ∙ is in
-        let sizes : length tables ≡ length headers =
-        each-length (table_for section) [] headers tables all in
-        let inside : index < length tables = omega (arith, sizes, within) in
-        let pair : get_or (zip headers tables) index (d, []) ≡ (header, get_or tables index []) =
-        get_or-zip headers tables index (d, []) within inside in
-        let zipped : index < length (zip headers tables) =
-        subst (λ (n : ℕ). index < n) (sym (length-zip headers tables))
-        (omega (arith, within, inside)) in
-        let rest : drop index (zip headers tables) ≡ (header, get_or tables index [])
-        ∷ drop (index + 1) (zip headers tables) =
-        rw (add-one, drop-cons (zip headers tables) index (d, []) zipped, pair) refl in
         let more : stored_units headers (made ++ dies ∷ []) ≡ stored_units headers made
         ++ stored_unit header dies ∷ [] =
         subst (λ (k : ℕ). stored_units headers (made ++ dies ∷ []) ≡ stored_units headers made
@@ -140,8 +148,8 @@ entries-next info section headers tables bitmap marked after index stored d tabl
           stored_are = ap (λ (us : List StoredUnit). us ++ unit ∷ []) so_far.stored_are
               ∙ (ap (λ (u : StoredUnit). stored_units headers made ++ u ∷ []) (sym (same_unit h))
               ∙ sym more);
-          read = sym (each-next (entries_for info) made (header, get_or tables index [])
-              (drop (index + 1) (zip headers tables)) dies here)
+          read = sym (each-next (entries_for info) made (header, table)
+              (drop (index + 1) (zip headers tables)) dies is)
               ∙ (ap (λ (ps : List (UnitHeader × List Declaration)). made_front made
               (each_from (entries_for info) made ps)) (sym rest) ∙ so_far.read);
         }
