@@ -1,131 +1,136 @@
--- The number of range items that are read for a scope is within the budget.
-use Rattle.std.proofs.Common.{◌≡◌, ℕ, zero, suc, ◌+◌, ◌-◌, ◌<◌, ◌≤◌, List, [], ◌∷◌, ◌++◌, length}
-use Rattle.std.proofs.Common.{refl, ap, arith, length-append, false}
-use Rattle.std.specs.Prelude.{Result, Ok, Err, Option, Some, None, nat_le, ◌==◌, flat_map}
-use Rattle.std.proofs.lemmas.Bool.{leb-false}
+-- The ranges of an entry are nonempty, and the number of items that they are read from is within
+-- the budget.
+use Rattle.std.proofs.Common.{◌≡◌, ℕ, ◌+◌, ◌≤◌, List, [], ◌∷◌, ◌++◌, length, subst}
+use Rattle.std.proofs.Common.{arith, length-append}
+use Rattle.std.specs.Prelude.{Option, Some, None, Result, Ok, Err, ◌==◌, option_to_list}
+use Rattle.std.specs.Prelude.{flat_map}
+use Rattle.std.proofs.lemmas.List.Elements.{All-append}
+use Rattle.dwarf_bytes.specs.declared.constants.TheConstants.{DW_AT_HIGH_PC, DW_AT_LOW_PC}
+use Rattle.dwarf_bytes.specs.declared.constants.TheConstants.{DW_AT_RANGES}
 use Rattle.dwarf_bytes.specs.declared.fault.Cause.{Cause}
 use Rattle.dwarf_bytes.specs.declared.fault.Cause.TheVariants as causes
-use Rattle.dwarf_bytes.specs.Items.{At, Next, Item, End, Lists, reading, refuse_if, without_offset}
-use Rattle.dwarf_bytes.specs.Items.{items_from}
-use Rattle.dwarf_bytes.specs.Numbers.{u8_at}
+use Rattle.dwarf_bytes.specs.Items.{At, Next, Lists, without_offset, items_from}
 use Rattle.dwarf_bytes.proofs.Numbers.Advance.{after-bind, after-test}
 use Rattle.dwarf_bytes.proofs.Items.ItemLaws.{Lists-within}
-use Rattle.dwarf_entries.specs.declared.range_entries.RangeListKind.{RangeListKind}
+use Rattle.dwarf_bytes.proofs.Numbers.Moves.{same-ok}
+use Rattle.dwarf_entries.specs.declared.scope.Range.{Range}
+use Rattle.dwarf_entries.specs.declared.bases.Bases.{Bases}
 use Rattle.dwarf_entries.specs.declared.range_entries.RangeListEntry.{RangeListEntry}
 use Rattle.dwarf_units.specs.declared.attributes.AttributeValue.{AttributeValue}
-use Rattle.dwarf_bytes.specs.Bind.{◌>>=◌}
-use Rattle.dwarf_entries.specs.declared.bases.Bases.{Bases}
+use Rattle.dwarf_units.specs.Entries.{Die, attribute}
 use Rattle.dwarf_walk.specs.Sections.{Sections}
-use Rattle.dwarf_entries.specs.Ranges.{Covering, kind_of, base_after, ranges_in, entry_at}
-use Rattle.dwarf_entries.specs.Ranges.{list_entry_at, list_place, list_at, pair_range, covers_by}
-use Rattle.dwarf_entries.specs.declared.scope.Range.{Range}
+use Rattle.dwarf_entries.specs.Bases.{address_of}
+use Rattle.dwarf_entries.specs.Ranges.{Covering, ranges_in, base_after, list_entry_at, list_place}
+use Rattle.dwarf_entries.specs.Ranges.{list_at, high_of, pair_range, pair_at, covers_by, covers_of}
+use Rattle.dwarf_entries.specs.TreeLaws.{IsValidRange}
+use Rattle.dwarf_entries.proofs.RangeLists.CoveringLaws.{AllHold, MayHold, none-holds, from-holds}
+use Rattle.dwarf_entries.proofs.RangeLists.CoveringLaws.{list-covers}
 use Rattle.dwarf_entries.specs.Private.Shared.{AddsRanges}
 
--- ---- the number of items that are read for a scope is within the budget
+pub record Fits (budget : ℕ) (covering : Covering) : Type 0 where
+  pub hold : AllHold covering.ranges
+  pub counted : length covering.ranges ≤ covering.items
+  pub within : covering.items ≤ budget
 
-list-count : (budget : ℕ) (s : Sections) (bases : Bases) (lists : List ℕ)
-    (before : List RangeListEntry) (at : ℕ) (xs : List RangeListEntry) (after : ℕ)
-    → Lists (list_entry_at budget s bases lists) before at xs after → length before ≤ budget
-    → length before + length xs ≤ budget
-list-count budget s bases lists before at [] after h fits = omega (arith, fits)
-list-count budget s bases lists before at (x ∷ xs) after (mid, here, rest) fits =
-    let one = listed-budget budget s bases lists before at x mid here in
-    let next = list-count budget s bases lists (before ++ x ∷ []) mid xs after rest
-    (omega (arith, one, length-append before (x ∷ []))) in
-    omega (arith, next, length-append before (x ∷ []))
-  where
-    listed-budget : (budget : ℕ) (s : Sections) (bases : Bases) (lists : List ℕ)
-        (before : List RangeListEntry) (at : ℕ) (x : RangeListEntry) (mid : ℕ)
-        → list_entry_at budget s bases lists before at ≡ Ok (Item x mid) → length before < budget
-    listed-budget budget s bases lists before at x mid h =
-        let P : Type 0 = length before < budget in
-        after-bind (reading (u8_at lists at)) _ (Item x mid) h P (λ number _ h1.
-        after-bind (kind_of number.0) _ (Item x mid) h1 P (λ kind _ h2. by_kind number kind h2))
-      where
-        by_kind : (number : ℕ × ℕ) (kind : Option RangeListKind)
-            → (elim kind as (λ _. Result (Next RangeListEntry) Cause) [
-              | None ↦ Ok (End number.1)
-              | Some kind ↦ (refuse_if (nat_le budget (length before)) causes.TooMany
-                  >>= λ _. entry_at s bases (base_after bases.low_pc before) kind lists number.1
-                  >>= λ entry. Ok (Item entry.0 entry.1))
-            ]) ≡ Ok (Item x mid) → length before < budget
-        by_kind number None h = cc
-        by_kind number (Some kind) h =
-            after-test (nat_le budget (length before)) causes.TooMany _ (Item x mid) h
-            (length before < budget) (λ few _. leb-false budget (length before) few)
+lists-hold : (budget : ℕ) (sections : Sections) (bases : Bases) (lists : List ℕ)
+    (before : List RangeListEntry) (at : ℕ) (entries : List RangeListEntry) (after : ℕ)
+    → Lists (list_entry_at budget sections bases lists) before at entries after → length before
+    ≤ budget
+    → AllHold (flat_map ranges_in entries) × (length (flat_map ranges_in entries) ≤ length entries)
+    × (length before + length entries ≤ budget)
+lists-hold budget sections bases lists before at [] after h le =
+    (none-holds, omega arith, omega (arith, le))
+lists-hold budget sections bases lists before at (entry ∷ entries) after h le =
+    let here = list-covers budget sections bases (length before) (base_after bases.low_pc before)
+    lists at entry h.0 h.1 in
+    let size = length-append before (entry ∷ []) in
+    let rest = lists-hold budget sections bases lists (before ++ entry ∷ []) h.0 entries after h.2
+    (omega (arith, size, here.1)) in
+    let both = length-append (ranges_in entry) (flat_map ranges_in entries) in (
+      All-append IsValidRange (ranges_in entry) (flat_map ranges_in entries) here.0.0 rest.0,
+      omega (arith, both, here.0.1, rest.1),
+      omega (arith, size, rest.2),
+    )
 
-list-budget : (budget : ℕ) (s : Sections) (bases : Bases) (place : ℕ) (c : Covering)
-    → list_at budget s bases place ≡ Ok c → c.items ≤ budget
+without_offset-ok : {X : Type 0} (r : Result X At) (x : X) → without_offset r ≡ Ok x → r ≡ Ok x
+without_offset-ok (Ok y) x h = cc
+without_offset-ok (Err e) x h = cc
+
+list-fits : (budget : ℕ) (sections : Sections) (bases : Bases) (place : ℕ) (covering : Covering)
+    → list_at budget sections bases place ≡ Ok covering → Fits budget covering
 unfolding list_at
-list-budget budget s bases place c h =
-    let lists = s.debug_rnglists in
-    by_read (items_from (length lists) (list_entry_at budget s bases lists) [] place) refl h
-  where
-    same_covering : {x y : Covering} → (let f : Covering → Result Covering Cause = λ c. Ok c in
-        f x ≡ f y) → x ≡ y
-    same_covering h = cc
+list-fits budget sections bases place covering h =
+    let step : List RangeListEntry → ℕ → Result (Next RangeListEntry) Cause =
+    list_entry_at budget sections bases sections.debug_rnglists in
+    after-bind (without_offset (items_from (length sections.debug_rnglists) step [] place)) _
+    covering h
+    (Fits budget covering) (λ all all_are last.
+    let listed = Lists-within _ step [] place all.0 all.1
+    (without_offset-ok (items_from (length sections.debug_rnglists) step [] place) all all_are) in
+    let hold = lists-hold budget sections bases sections.debug_rnglists [] place all.0 all.1 listed
+    (omega arith) in
+    subst (Fits budget) (same-ok (record {
+      ranges = flat_map ranges_in all.0;
+      items = length all.0;
+    })
+    covering last) (record { hold = hold.0; counted = hold.1; within = omega (arith, hold.2) }))
 
-    by_read : (r : Result (List RangeListEntry × ℕ) At)
-        → items_from (length s.debug_rnglists) (list_entry_at budget s bases s.debug_rnglists) []
-        place
-        ≡ r
-        → (without_offset r >>= λ all. (let f : Covering → Result Covering Cause = λ c. Ok c in
-        f (record { ranges = flat_map ranges_in all.0; items = length all.0 }))) ≡ Ok c
-        → c.items ≤ budget
-    by_read (Err e) is h = cc
-    by_read (Ok all) is h =
-        let listed = Lists-within (suc (length s.debug_rnglists - place))
-        (list_entry_at budget s bases s.debug_rnglists) [] place all.0 all.1 is in
-        let count = list-count budget s bases s.debug_rnglists [] place all.0 all.1 listed
-        (omega arith) in
-        let same : length all.0 ≡ c.items = ap (λ (c : Covering). c.items) (same_covering h) in
-        omega (arith, count, same)
-
-pub covers-budget : (budget : ℕ) (s : Sections) (bases : Bases)
-    (low high ranges : Option AttributeValue) (c : Covering)
-    → covers_by budget s bases low high ranges ≡ Ok c → c.items ≤ budget
-covers-budget budget s bases None None (Some ranges) c h =
-    after-bind (list_place s bases ranges) _ c h (c.items ≤ budget)
-    (λ place _ h1. list-budget budget s bases place c h1)
-covers-budget budget s bases (Some low) None (Some ranges) c h = cc
-covers-budget budget s bases (Some low) (Some high) (Some ranges) c h = cc
-covers-budget budget s bases None (Some high) (Some ranges) c h = cc
-covers-budget budget s bases None (Some high) None c h = cc
-covers-budget budget s bases (Some low) (Some high) None c h =
-    after-test (budget == 0) causes.TooMany _ c h (c.items ≤ budget) (λ some h1.
-    after-bind (pair_range s bases low high) _ c h1 (c.items ≤ budget) (λ range _ last.
-    let same : 1 ≡ c.items = ap (λ (c : Covering). c.items) (same_covering last) in
-    omega (arith, same, nonzero budget some)))
+pair-fits : (budget : ℕ) (sections : Sections) (bases : Bases) (low high : AttributeValue)
+    (covering : Covering) → pair_at budget sections bases low high ≡ Ok covering
+    → Fits budget covering
+pair-fits budget sections bases low high covering h =
+    after-test (budget == 0) causes.TooMany _ covering h (Fits budget covering) (λ some h1.
+    after-bind (pair_range sections bases low high) _ covering h1 (Fits budget covering)
+    (λ range range_is last.
+    let lt : 1 ≤ budget = grind arith in
+    subst (Fits budget) (same-ok (record { ranges = option_to_list range; items = 1 })
+    covering last)
+    (record { hold = range-holds range range_is; counted = at-most range; within = lt })))
   where
-    same_covering : {x y : Covering} → (let f : Covering → Result Covering Cause = λ c. Ok c in
-        f x ≡ f y) → x ≡ y
-    same_covering h = cc
+    range-holds : (range : Option Range) → pair_range sections bases low high ≡ Ok range
+        → MayHold range
+    range-holds range h =
+        after-bind (address_of sections bases.addr low) _ range h (MayHold range) (λ start _ h1.
+        after-bind (high_of sections bases start high) _ range h1 (MayHold range) (λ end _ last.
+        from-holds (start, end) range last))
 
-    nonzero : (budget : ℕ) → (budget == 0) ≡ false → 0 < budget
-    nonzero zero h = cc
-    nonzero (suc n) h = omega arith
-covers-budget budget s bases (Some low) None None c h = none h
-  where
-    none : (let f : Covering → Result Covering Cause = λ c. Ok c in
-        f (record { ranges = []; items = 0 }) ≡ f c) → c.items ≤ budget
-    none h = omega (arith, ap (λ (c : Covering). c.items) (same h))
-      where
-        same : {x y : Covering} → (let f : Covering → Result Covering Cause = λ c. Ok c in
-            f x ≡ f y) → x ≡ y
-        same h = cc
-covers-budget budget s bases None None None c h = none h
-  where
-    none : (let f : Covering → Result Covering Cause = λ c. Ok c in
-        f (record { ranges = []; items = 0 }) ≡ f c) → c.items ≤ budget
-    none h = omega (arith, ap (λ (c : Covering). c.items) (same h))
-      where
-        same : {x y : Covering} → (let f : Covering → Result Covering Cause = λ c. Ok c in
-            f x ≡ f y) → x ≡ y
-        same h = cc
+    at-most : (range : Option Range) → length (option_to_list range) ≤ 1
+    at-most None = omega arith
+    at-most (Some range) = omega arith
 
--- The same, for the number that the call returns.
+none-fits : (budget : ℕ) (covering : Covering)
+    → (let f : Covering → Result Covering Cause = λ z. Ok z in f (record { ranges = []; items = 0 })
+    ≡ f covering) → Fits budget covering
+none-fits budget covering h = subst (Fits budget)
+    (same-ok (record { ranges = []; items = 0 }) covering h)
+    (record { hold = none-holds; counted = omega arith; within = omega arith })
+
+by-fits : (budget : ℕ) (sections : Sections) (bases : Bases)
+    (low high ranges : Option AttributeValue)
+    (covering : Covering) → covers_by budget sections bases low high ranges ≡ Ok covering
+    → Fits budget covering
+by-fits budget sections bases None None (Some ranges) covering h =
+    after-bind (list_place sections bases ranges) (list_at budget sections bases) covering h
+    (Fits budget covering) (λ place _ last. list-fits budget sections bases place covering last)
+by-fits budget sections bases None (Some high) (Some ranges) covering h = cc
+by-fits budget sections bases (Some low) None (Some ranges) covering h = cc
+by-fits budget sections bases (Some low) (Some high) (Some ranges) covering h = cc
+by-fits budget sections bases None (Some high) None covering h = cc
+by-fits budget sections bases (Some low) (Some high) None covering h =
+    pair-fits budget sections bases low high covering h
+by-fits budget sections bases None None None covering h = none-fits budget covering h
+by-fits budget sections bases (Some low) None None covering h = none-fits budget covering h
+
+pub covers-fits : (budget : ℕ) (sections : Sections) (bases : Bases) (die : Die) (covering : Covering)
+    → covers_of budget sections bases die ≡ Ok covering → Fits budget covering
+unfolding covers_of
+covers-fits budget sections bases die covering h =
+    by-fits budget sections bases (attribute die DW_AT_LOW_PC) (attribute die DW_AT_HIGH_PC)
+    (attribute die DW_AT_RANGES) covering h
+
+-- The number of items that a call returns is within the budget.
 pub budget-left : (budget items : ℕ) (s : Sections) (bases : Bases)
     (low high ranges : Option AttributeValue) (old new : List Range)
     → AddsRanges (Ok items) old new (covers_by budget s bases low high ranges) → items ≤ budget
 budget-left budget items s bases low high ranges old new (found, read, grown) =
-    covers-budget budget s bases low high ranges (record { ranges = found; items = items }) read
+    (by-fits budget s bases low high ranges (record { ranges = found; items = items }) read).within

@@ -17,8 +17,9 @@ use Rattle.dwarf_entries.specs.TreeLaws.{IsEntry}
 use Rattle.dwarf_entries.proofs.Results.BelowLaws.{scopes-between}
 use Rattle.dwarf_entries.proofs.Results.OffsetLaws.{scopes-rise}
 use Rattle.dwarf_entries.proofs.RootPasses.RootParts.{few-below}
-use Rattle.dwarf_entries.proofs.Results.EntryScopes.{same-some, HasDataOfEntry, counted}
+use Rattle.dwarf_entries.proofs.Results.EntryScopes.{same-some, HasDataOfEntry}
 use Rattle.dwarf_entries.proofs.Results.EntriesOfScopes.{entry-described}
+use Rattle.dwarf_entries.specs.Private.Passes.{number_of_scopes}
 
 -- Two scopes with the same offset are the same scope.
 same-scope : (scopes : List Scope) (a b : Scope)
@@ -55,7 +56,7 @@ same-scope scopes a b rise a_in b_in same =
 -- An entry with its number and its end.
 record HasPlace (units : List CompilationUnit) (i p : ℕ) (scope : Scope)
     (at : IsEntry units i p scope) : Type 0 where
-  pub number_is : scope.number ≡ counted (take i units) + count_by is_scope (take p at.of.dies)
+  pub number_is : scope.number ≡ number_of_scopes (take i units) + count_by is_scope (take p at.of.dies)
   pub end_is : scope.«end» ≡ scope.number + 1 + count_by is_scope
       (below at.die (drop (p + 1) at.of.dies))
 
@@ -70,7 +71,7 @@ place-of-entry s tree units i p scope h units_are inside at =
     let same : described.0 ≡ scope = same-scope tree.scopes described.0 scope
     (scopes-rise s tree h).0 described.1
     inside (described.2.offset_is ∙ sym at.offset_is) in
-    let number : ℕ = counted (take i units) + count_by is_scope (take p at.of.dies) in
+    let number : ℕ = number_of_scopes (take i units) + count_by is_scope (take p at.of.dies) in
     let tells : HasDataOfEntry number scope.kind at.die (drop (suc p) at.of.dies) scope =
     subst (λ (x : Scope). HasDataOfEntry number scope.kind at.die (drop (suc p) at.of.dies) x) same
     described.2 in
@@ -84,7 +85,7 @@ place-of-entry s tree units i p scope h units_are inside at =
 -- A scope ends before the scopes of any later unit.
 before-later : (units : List CompilationUnit) (i p j : ℕ) (scope : Scope)
     (at : IsEntry units i p scope) → HasPlace units i p scope at → i < j
-    → (scope.number < counted (take j units)) × (scope.«end» ≤ counted (take j units))
+    → (scope.number < number_of_scopes (take j units)) × (scope.«end» ≤ number_of_scopes (take j units))
 before-later units i p j scope at here lt =
     let dies : List Die = at.of.dies in
     let tests : Die → ℕ = λ x. cond (is_scope x) 1 0 in
@@ -102,11 +103,11 @@ before-later units i p j scope at here lt =
     let size = length-take j units in
     let sum = sum_by_more_le (λ (unit : CompilationUnit). count_by is_scope unit.dies)
     (take j units) i at.of (omega (arith, size, lt, unit_within)) in
-    let front : counted (take i (take j units)) ≡ counted (take i units) =
-    ap counted (take-take i j units (omega (arith, lt))) in
+    let front : number_of_scopes (take i (take j units)) ≡ number_of_scopes (take i units) =
+    ap number_of_scopes (take-take i j units (omega (arith, lt))) in
     let here_count : count_by is_scope (get_or (take j units) i at.of).dies
     ≡ count_by is_scope dies = ap (λ (u : CompilationUnit). count_by is_scope u.dies) of_is in
-    let total : counted (take i units) + count_by is_scope dies ≤ counted (take j units) =
+    let total : number_of_scopes (take i units) + count_by is_scope dies ≤ number_of_scopes (take j units) =
     omega (arith, sum, front, here_count) in
     let last : count_by is_scope (take p dies) + 1 + count_by is_scope (drop (p + 1) dies)
     ≡ count_by is_scope dies = omega (arith, more, whole) in (
@@ -140,8 +141,8 @@ below-ends s tree units outer inner i j p q h units_are outer_in inner_in outer_
         let count_is : count_by is_scope (take q inner_at.of.dies)
         ≡ count_by is_scope (take q outer_at.of.dies) =
         ap (λ (u : CompilationUnit). count_by is_scope (take q u.dies)) of_is in
-        let base_is : counted (take j units) ≡ counted (take i units) =
-        ap (λ (k : ℕ). counted (take k units)) (sym same) in
+        let base_is : number_of_scopes (take j units) ≡ number_of_scopes (take i units) =
+        ap (λ (k : ℕ). number_of_scopes (take k units)) (sym same) in
         let between = scopes-between outer_at.of.dies p q outer_at.die inner_at.die outer_at.die_is
         die_is (ap is_some outer_at.kind_is) (ap is_some inner_at.kind_is) in (
           λ below. let counts = between.0 below.1 in (

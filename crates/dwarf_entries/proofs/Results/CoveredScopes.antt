@@ -1,138 +1,19 @@
 -- The ranges of scopes, and the limit on range items.
 use Rattle.std.proofs.Common.{◌≡◌, ℕ, ◌+◌, ◌-◌, ◌≤◌, List, [], ◌∷◌, ◌++◌, length, map, ap, subst}
-use Rattle.std.proofs.Common.{arith, length-append}
-use Rattle.std.specs.Prelude.{Option, Some, None, Result, Ok, Err, All, ◌==◌, option_to_list}
-use Rattle.std.specs.Prelude.{flat_map, sum_by}
-use Rattle.std.proofs.lemmas.List.Elements.{All-nil, All-cons, All-append}
+use Rattle.std.proofs.Common.{arith}
+use Rattle.std.specs.Prelude.{Ok, All}
+use Rattle.std.specs.Prelude.{sum_by}
+use Rattle.std.proofs.lemmas.List.Elements.{All-nil, All-cons}
 use Rattle.std.proofs.lemmas.List.Sums.{sum_by-cons, sum_by-append}
-use Rattle.dwarf_bytes.specs.declared.constants.TheConstants.{DW_AT_HIGH_PC, DW_AT_LOW_PC}
-use Rattle.dwarf_bytes.specs.declared.constants.TheConstants.{DW_AT_RANGES}
-use Rattle.dwarf_bytes.specs.declared.fault.Cause.{Cause}
-use Rattle.dwarf_bytes.specs.declared.fault.Cause.TheVariants as causes
-use Rattle.dwarf_bytes.specs.Items.{At, Next, Lists, without_offset, items_from}
-use Rattle.dwarf_bytes.proofs.Numbers.Advance.{after-bind, after-test}
-use Rattle.dwarf_bytes.proofs.Items.ItemLaws.{Lists-within}
-use Rattle.dwarf_bytes.proofs.Numbers.Moves.{same-ok}
 use Rattle.dwarf_entries.specs.declared.scope.Range.{Range}
-use Rattle.dwarf_entries.specs.declared.bases.Bases.{Bases}
-use Rattle.dwarf_entries.specs.declared.range_entries.RangeListEntry.{RangeListEntry}
-use Rattle.dwarf_units.specs.declared.attributes.AttributeValue.{AttributeValue}
-use Rattle.dwarf_units.specs.Entries.{Die, attribute}
 use Rattle.dwarf_walk.specs.Sections.{Sections}
-use Rattle.dwarf_entries.specs.Bases.{CompilationUnit, address_of}
-use Rattle.dwarf_entries.specs.Ranges.{Covering, ranges_in, base_after, list_entry_at, list_place}
-use Rattle.dwarf_entries.specs.Ranges.{list_at, high_of, pair_range, pair_at, covers_by, covers_of}
+use Rattle.dwarf_entries.specs.Bases.{CompilationUnit}
 use Rattle.dwarf_entries.specs.Scopes.{Scope, Tree, ScopeSite, ParsedScope, items_limit, tree_of}
 use Rattle.dwarf_entries.specs.TreeLaws.{IsValidRange}
 use Rattle.dwarf_entries.proofs.Results.TreeParts.{AreParsed, is-read}
-use Rattle.dwarf_entries.proofs.RangeLists.CoveringLaws.{AllHold, MayHold, none-holds, from-holds}
-use Rattle.dwarf_entries.proofs.RangeLists.CoveringLaws.{list-covers}
+use Rattle.dwarf_entries.proofs.RangeLists.CoveringLaws.{AllHold}
 use Rattle.dwarf_entries.specs.Private.Passes.{all_sites}
-
--- ---- the ranges of an entry, within a budget of items
-
-record Fits (budget : ℕ) (covering : Covering) : Type 0 where
-  pub hold : AllHold covering.ranges
-  pub counted : length covering.ranges ≤ covering.items
-  pub within : covering.items ≤ budget
-
-lists-hold : (budget : ℕ) (sections : Sections) (bases : Bases) (lists : List ℕ)
-    (before : List RangeListEntry) (at : ℕ) (entries : List RangeListEntry) (after : ℕ)
-    → Lists (list_entry_at budget sections bases lists) before at entries after → length before
-    ≤ budget
-    → AllHold (flat_map ranges_in entries) × (length (flat_map ranges_in entries) ≤ length entries)
-    × (length before + length entries ≤ budget)
-lists-hold budget sections bases lists before at [] after h le =
-    (none-holds, omega arith, omega (arith, le))
-lists-hold budget sections bases lists before at (entry ∷ entries) after h le =
-    let here = list-covers budget sections bases (length before) (base_after bases.low_pc before)
-    lists at entry h.0 h.1 in
-    let size = length-append before (entry ∷ []) in
-    let rest = lists-hold budget sections bases lists (before ++ entry ∷ []) h.0 entries after h.2
-    (omega (arith, size, here.1)) in
-    let both = length-append (ranges_in entry) (flat_map ranges_in entries) in (
-      All-append IsValidRange (ranges_in entry) (flat_map ranges_in entries) here.0.0 rest.0,
-      omega (arith, both, here.0.1, rest.1),
-      omega (arith, size, rest.2),
-    )
-
-without_offset-ok : {X : Type 0} (r : Result X At) (x : X) → without_offset r ≡ Ok x → r ≡ Ok x
-without_offset-ok (Ok y) x h = cc
-without_offset-ok (Err e) x h = cc
-
-list-fits : (budget : ℕ) (sections : Sections) (bases : Bases) (place : ℕ) (covering : Covering)
-    → list_at budget sections bases place ≡ Ok covering → Fits budget covering
-unfolding list_at
-list-fits budget sections bases place covering h =
-    let step : List RangeListEntry → ℕ → Result (Next RangeListEntry) Cause =
-    list_entry_at budget sections bases sections.debug_rnglists in
-    after-bind (without_offset (items_from (length sections.debug_rnglists) step [] place)) _
-    covering h
-    (Fits budget covering) (λ all all_are last.
-    let listed = Lists-within _ step [] place all.0 all.1
-    (without_offset-ok (items_from (length sections.debug_rnglists) step [] place) all all_are) in
-    let hold = lists-hold budget sections bases sections.debug_rnglists [] place all.0 all.1 listed
-    (omega arith) in
-    subst (Fits budget) (same-ok (record {
-      ranges = flat_map ranges_in all.0;
-      items = length all.0;
-    })
-    covering last) (record { hold = hold.0; counted = hold.1; within = omega (arith, hold.2) }))
-
-pair-fits : (budget : ℕ) (sections : Sections) (bases : Bases) (low high : AttributeValue)
-    (covering : Covering) → pair_at budget sections bases low high ≡ Ok covering
-    → Fits budget covering
-pair-fits budget sections bases low high covering h =
-    after-test (budget == 0) causes.TooMany _ covering h (Fits budget covering) (λ some h1.
-    after-bind (pair_range sections bases low high) _ covering h1 (Fits budget covering)
-    (λ range range_is last.
-    let lt : 1 ≤ budget = grind arith in
-    subst (Fits budget) (same-ok (record { ranges = option_to_list range; items = 1 })
-    covering last)
-    (record { hold = range-holds range range_is; counted = at-most range; within = lt })))
-  where
-    range-holds : (range : Option Range) → pair_range sections bases low high ≡ Ok range
-        → MayHold range
-    range-holds range h =
-        after-bind (address_of sections bases.addr low) _ range h (MayHold range) (λ start _ h1.
-        after-bind (high_of sections bases start high) _ range h1 (MayHold range) (λ end _ last.
-        from-holds (start, end) range last))
-
-    at-most : (range : Option Range) → length (option_to_list range) ≤ 1
-    at-most None = omega arith
-    at-most (Some range) = omega arith
-
-none-fits : (budget : ℕ) (covering : Covering)
-    → (let f : Covering → Result Covering Cause = λ z. Ok z in f (record { ranges = []; items = 0 })
-    ≡ f covering) → Fits budget covering
-none-fits budget covering h = subst (Fits budget)
-    (same-ok (record { ranges = []; items = 0 }) covering h)
-    (record { hold = none-holds; counted = omega arith; within = omega arith })
-
-by-fits : (budget : ℕ) (sections : Sections) (bases : Bases)
-    (low high ranges : Option AttributeValue)
-    (covering : Covering) → covers_by budget sections bases low high ranges ≡ Ok covering
-    → Fits budget covering
-by-fits budget sections bases None None (Some ranges) covering h =
-    after-bind (list_place sections bases ranges) (list_at budget sections bases) covering h
-    (Fits budget covering) (λ place _ last. list-fits budget sections bases place covering last)
-by-fits budget sections bases None (Some high) (Some ranges) covering h = cc
-by-fits budget sections bases (Some low) None (Some ranges) covering h = cc
-by-fits budget sections bases (Some low) (Some high) (Some ranges) covering h = cc
-by-fits budget sections bases None (Some high) None covering h = cc
-by-fits budget sections bases (Some low) (Some high) None covering h =
-    pair-fits budget sections bases low high covering h
-by-fits budget sections bases None None None covering h = none-fits budget covering h
-by-fits budget sections bases (Some low) None None covering h = none-fits budget covering h
-
-covers-fits : (budget : ℕ) (sections : Sections) (bases : Bases) (die : Die) (covering : Covering)
-    → covers_of budget sections bases die ≡ Ok covering → Fits budget covering
-unfolding covers_of
-covers-fits budget sections bases die covering h =
-    by-fits budget sections bases (attribute die DW_AT_LOW_PC) (attribute die DW_AT_HIGH_PC)
-    (attribute die DW_AT_RANGES) covering h
-
--- ---- the scopes
+use Rattle.dwarf_entries.proofs.RangeLists.ScopeBudget.{covers-fits}
 
 abbrev items_in : List ParsedScope → ℕ
 items_in js = sum_by (λ j. j.items) js

@@ -15,8 +15,9 @@ use Rattle.dwarf_walk.specs.ScopeEntries.{kind_of, is_scope}
 use Rattle.dwarf_entries.specs.TreeLaws.{IsEntry}
 use Rattle.dwarf_entries.proofs.Results.TreeParts.{AreParsed, IsRead, is-read}
 use Rattle.dwarf_entries.proofs.RootPasses.RootParts.{scopes_in, split}
-use Rattle.dwarf_entries.proofs.Results.EntryScopes.{HasScopeOf, counted, described-of}
+use Rattle.dwarf_entries.proofs.Results.EntryScopes.{HasScopeOf, described-of}
 use Rattle.dwarf_entries.specs.Private.Passes.{all_sites}
+use Rattle.dwarf_entries.specs.Private.Passes.{number_of_scopes}
 
 -- ---- the entry of a scope
 
@@ -116,7 +117,7 @@ pub entry-described : (s : Sections) (tree : Tree) (units : List CompilationUnit
     → units_read s ≡ Ok units → (i place : ℕ) (unit : CompilationUnit) (die : Die)
     (kind : ScopeKind) → slice_get units i ≡ Some unit → slice_get unit.dies place ≡ Some die
     → kind_of die.tag ≡ Some kind → HasScopeOf tree.scopes kind die (drop (suc place) unit.dies)
-    (counted (take i units) + count_by is_scope (take place unit.dies))
+    (number_of_scopes (take i units) + count_by is_scope (take place unit.dies))
 entry-described s tree units h units_are i place unit die kind is die_is scope =
     let read = is-read s tree h in
     let same = same-units s tree read units units_are in
@@ -127,7 +128,7 @@ entry-described s tree units h units_are i place unit die kind is die_is scope =
     is die_is
     scope in
     subst (λ (ss : List Scope). HasScopeOf ss kind die (drop (suc place) unit.dies)
-    (counted (take i units) + count_by is_scope (take place unit.dies))) read.scopes_are
+    (number_of_scopes (take i units) + count_by is_scope (take place unit.dies))) read.scopes_are
     (subst (HasScopeOf (scopes_in read.parsed) kind die (drop (suc place) unit.dies)) (omega arith)
     described)
 

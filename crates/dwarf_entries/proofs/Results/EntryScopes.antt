@@ -1,7 +1,7 @@
 -- Each scope is an entry of a unit and has the data of that entry.
 use Rattle.std.proofs.Common.{◌≡◌, ℕ, zero, suc, ◌+◌, List, [], ◌∷◌, ◌++◌, length, take, drop, refl}
 use Rattle.std.proofs.Common.{ap, sym, ◌∙◌, subst, arith, length-append}
-use Rattle.std.specs.Prelude.{Option, Some, None, Contains, slice_get, count_by, sum_by}
+use Rattle.std.specs.Prelude.{Option, Some, None, Contains, slice_get, count_by}
 use Rattle.std.proofs.lemmas.List.{map-append}
 use Rattle.std.proofs.lemmas.List.Elements.{Contains-append_left, Contains-append_right}
 use Rattle.std.proofs.lemmas.List.Sums.{sum_by-cons}
@@ -15,6 +15,7 @@ use Rattle.dwarf_entries.proofs.Results.TreeParts.{AreParsed}
 use Rattle.dwarf_entries.proofs.RootPasses.RootParts.{scopes_in, count-none, count-one, sites-count}
 use Rattle.dwarf_entries.proofs.RootPasses.RootParts.{parsed-length, split}
 use Rattle.dwarf_entries.specs.Private.Passes.{all_sites}
+use Rattle.dwarf_entries.specs.Private.Passes.{number_of_scopes}
 
 pub same-some : {X : Type 0} (x y : X) → Some x ≡ Some y → x ≡ y
 same-some x y h = cc
@@ -93,16 +94,12 @@ described-in s all unit (d ∷ dies) before js made place die kind is scope =
         (omega (arith, count, size))
         (later.0, Contains-append_right (j.scope ∷ []) (scopes_in js) later.0 later.1, later.2)
 
--- The number of scopes of the units.
-abbrev pub counted : List CompilationUnit → ℕ
-counted units = sum_by (λ unit. count_by is_scope unit.dies) units
-
 pub described-of : (s : Sections) (all units : List CompilationUnit) (before js : List ParsedScope)
     → AreParsed s all before (all_sites units) js
     → (i place : ℕ) (unit : CompilationUnit) (die : Die) (kind : ScopeKind)
     → slice_get units i ≡ Some unit → slice_get unit.dies place ≡ Some die
     → kind_of die.tag ≡ Some kind → HasScopeOf (scopes_in js) kind die (drop (suc place) unit.dies)
-    (length before + counted (take i units) + count_by is_scope (take place unit.dies))
+    (length before + number_of_scopes (take i units) + count_by is_scope (take place unit.dies))
 described-of s all [] before js made i place unit die kind is die_is scope = cc
 described-of s all (first ∷ units) before js made zero place unit die kind is die_is scope =
     let same : first ≡ unit = same-some first unit is in

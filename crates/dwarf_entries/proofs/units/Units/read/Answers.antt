@@ -1,5 +1,6 @@
 use Rattle.std.proofs.lemmas.Result.{err_from_is_err_and}
 use Rattle.dwarf_walk.specs.Sections.{sections_of}
+use Rattle.dwarf_entries.specs.Private.ObjectUnits.{ObjectUnits}
 use Rattle.dwarf_entries.proofs.OriginChains.CacheLaws.{cache-none}
 use Rattle.dwarf_entries.proofs.Results.ReadLaws.{headers-fault, tables-fault, tables-read}
 use Rattle.dwarf_entries.proofs.Results.ReadLaws.{entries-fault, entries-read, bases-fault}
@@ -63,7 +64,8 @@ invariant_of-result c =
     let read = units-read s headers tables units bases entries
     ((rw c.as_slice-2.ensures.value at c.in_ok-bases.ensures) headers entries.dies
     entries.stored_are) in
-    seen (record {
+    let object : ObjectUnits = record { sections = s; units = read.us } in
+    seen {v = object} (record {
       stored_are = read.stored_are;
       bitmap_is = all-marked s headers tables units bases entries read c.in_ok-bitmap.bitmap
           c.all_entries.new.bitmap c.in_ok-bitmap.ensures
