@@ -1,4 +1,3 @@
-pub mod CacheLaws
 pub mod ChainLaws
 pub mod ChainStrings
 pub mod NameStrings

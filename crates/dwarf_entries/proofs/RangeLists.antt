@@ -1,4 +1,3 @@
-pub mod BaseInForce
 pub mod BaseLaws
 pub mod CoveringLaws
 pub mod RangeLaws

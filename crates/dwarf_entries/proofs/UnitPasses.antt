@@ -4,7 +4,6 @@ pub mod EntriesAtOffsets
 pub mod EntriesFaults
 pub mod EntriesPass
 pub mod OrderLaws
-pub mod PassLaws
 pub mod RereadLaws
 pub mod UnitOrder
 pub mod ObjectLaws

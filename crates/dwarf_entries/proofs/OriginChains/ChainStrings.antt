@@ -1,6 +1,8 @@
--- The strings of the first names of an origin chain.
-use Rattle.std.proofs.Common.{◌≡◌, inl, inr, ℕ, List, refl, ap, sym}
-use Rattle.std.specs.Prelude.{Option, Result, Ok, Err}
+-- The names of an entry: the strings of the first names of its origin chain, and the cache of the
+-- names of reference targets.
+use Rattle.std.proofs.Common.{◌≡◌, inl, inr, ℕ, List, refl, ap, sym, suc, ◌∷◌, Bool, true, false}
+use Rattle.std.proofs.Common.{◌==◌, ◌&&◌, ◌∙◌, subst, arith}
+use Rattle.std.specs.Prelude.{Option, Result, Ok, Err, Some, None, option_map, if◌then◌else◌}
 use Rattle.dwarf_bytes.specs.declared.constants.TheConstants.{DW_AT_LINKAGE_NAME, DW_AT_NAME}
 use Rattle.dwarf_bytes.specs.declared.fault.Cause.{Cause}
 use Rattle.dwarf_bytes.specs.Bind.{◌>>=◌}
@@ -9,10 +11,22 @@ use Rattle.dwarf_entries.specs.declared.text_offset.TextOffset.{TextOffset}
 use Rattle.dwarf_entries.specs.declared.origin_chains.FirstNames.{FirstNames}
 use Rattle.dwarf_entries.specs.declared.origin_chains.EntryNames.{EntryNames}
 use Rattle.dwarf_walk.specs.Sections.{Sections}
-use Rattle.dwarf_entries.specs.Bases.{CompilationUnit}
-use Rattle.dwarf_entries.specs.Names.{Member, chain_within, name_on}
-use Rattle.dwarf_entries.specs.Private.NameCache.{names_within}
-use Rattle.dwarf_entries.specs.Private.Members.{AreFirst, FindsFirst}
+use Rattle.dwarf_entries.specs.Bases.{CompilationUnit, optional}
+use Rattle.dwarf_entries.specs.Names.{Member, chain_within, name_on, target_of, first_on, text_of}
+use Rattle.dwarf_entries.specs.Names.{names_of, references_limit}
+use Rattle.dwarf_entries.specs.Private.NameCache.{names_within, CachedNames, slot_of, slot_at}
+use Rattle.dwarf_entries.specs.Private.NameCache.{second_names, target_names, IsCacheOf}
+use Rattle.dwarf_entries.specs.Private.Members.{AreFirst, FindsFirst, IsMember, LeadsTo, member_in}
+use Rattle.std.proofs.lemmas.Option.{same_Some}
+use Rattle.dwarf_units.specs.declared.attributes.AttributeValue.{AttributeValue}
+use Rattle.dwarf_units.specs.Entries.{attribute}
+use Rattle.dwarf_walk.specs.declared.unit_entries.NamedEntry.{NamedEntry}
+use Rattle.dwarf_entries.specs.declared.name_cache.NameCache.{NameCache}
+use Rattle.dwarf_entries.specs.declared.references.UnitPlace.{UnitPlace}
+use Rattle.dwarf_walk.specs.References.{or_else, next_of}
+use Rattle.dwarf_entries.specs.Private.Narrow.{are_narrow}
+use Rattle.dwarf_entries.proofs.OriginChains.ChainLaws.{in_front, stepped}
+use Rattle.dwarf_bytes.specs.declared.fault.Cause.TheVariants as causes
 
 -- ---- the strings
 
@@ -48,3 +62,111 @@ path-fails s units remaining m cause (inl memory) = inl memory
 path-fails s units remaining m cause (inr bad) =
     inr (ap (λ (p : Result (List Member) Cause). p
     >>= λ path. both_names (name_on DW_AT_NAME s path) (name_on DW_AT_LINKAGE_NAME s path)) bad)
+
+-- ---- the cache
+
+-- ---- the cached names
+
+abbrev cached_names : UnitPlace → EntryNames → CachedNames
+cached_names place names = record { place = place; names = names }
+
+pub cache-none : (s : Sections) (units : List CompilationUnit) (cache : NameCache)
+    → ((slot : ℕ) → slot_at cache slot ≡ None) → IsCacheOf s units cache
+cache-none s units cache none slot packed is = absurd (never (sym is ∙ none slot))
+  where
+    never : (let f : CachedNames → Option CachedNames = λ z. Some z in f packed) ≡ None → ⊥
+    never h = cc
+
+-- The cache remains valid after the names of one more entry are added.
+pub cache-more : (s : Sections) (units : List CompilationUnit) (old new : NameCache)
+    (place : UnitPlace) (names : EntryNames) → IsCacheOf s units old
+    → ((slot : ℕ) → slot_at new slot ≡ if (slot == slot_of place) && are_narrow place names then
+    Some (cached_names place names) else slot_at old slot)
+    → (m : Member) → member_in units place.unit place.offset ≡ Ok m → second_names s units m
+    ≡ Ok names
+    → IsCacheOf s units new
+cache-more s units old new place names knew put m there led_is slot packed is =
+    by_test ((slot == slot_of place) && are_narrow place names) (sym (put slot) ∙ is)
+  where
+    by_test : (here : Bool) → (let o : Option CachedNames =
+        if here then Some (cached_names place names) else slot_at old slot in o ≡ Some packed)
+        → (m : Member) × (member_in units packed.place.unit packed.place.offset ≡ Ok m)
+        × (second_names s units m ≡ Ok packed.names)
+    by_test true h =
+        let same : cached_names place names ≡ packed =
+        same_Some (cached_names place names) packed h in
+        subst (λ (l : CachedNames). (m : Member) × (member_in units l.place.unit l.place.offset
+        ≡ Ok m)
+        × (second_names s units m ≡ Ok l.names)) same (m, there, led_is)
+    by_test false h = knew slot packed h
+
+-- ---- the names of an entry that has no name of its own
+
+abbrev on_path : Sections → List Member → Result EntryNames Cause
+on_path s path = both_names (name_on DW_AT_NAME s path) (name_on DW_AT_LINKAGE_NAME s path)
+
+less : (s : Sections) (m : Member) (name : ℕ) → attribute m.die name ≡ None → (path : List Member)
+    → name_on name s (m ∷ path) ≡ name_on name s path
+less s m name none path =
+    ap (λ (o : Option AttributeValue). optional
+    (λ (at : CompilationUnit × AttributeValue). text_of s at.0.bases.str_offsets at.1)
+    (or_else (option_map (λ value. (m.unit, value)) o) (first_on name path))) none
+
+pub names-packed : (s : Sections) (units : List CompilationUnit) (m : Member)
+    (reference : AttributeValue) → next_of m.die ≡ Some reference
+    → attribute m.die DW_AT_NAME ≡ None → attribute m.die DW_AT_LINKAGE_NAME ≡ None
+    → names_of s units m ≡ target_names s units m.unit reference
+names-packed s units m reference next no_name no_linkage_name =
+    let remaining : references_limit ≡ suc 15 = omega arith in
+    ap (λ (p : Result (List Member) Cause). p >>= λ path. on_path s path)
+    (ap (λ (k : ℕ). chain_within k units m) remaining ∙ stepped units 15 m reference next)
+    ∙ by_target (target_of units m.unit reference)
+  where
+    behind : (path : List Member) → on_path s (m ∷ path) ≡ on_path s path
+    behind path =
+        ap (λ (r : Result _ Cause). both_names r (name_on DW_AT_LINKAGE_NAME s (m ∷ path)))
+        (less s m DW_AT_NAME no_name path)
+        ∙ ap (λ (r : Result _ Cause). both_names (name_on DW_AT_NAME s path) r)
+        (less s m DW_AT_LINKAGE_NAME no_linkage_name path)
+
+    by_path : (p : Result (List Member) Cause) → (in_front m p >>= λ path. on_path s path)
+        ≡ (p >>= λ path. on_path s path)
+    by_path (Err e) = refl
+    by_path (Ok path) = behind path
+
+    by_target : (t : Result Member Cause)
+        → ((t >>= λ n. in_front m (chain_within 15 units n)) >>= λ path. on_path s path)
+        ≡ (t >>= λ n. second_names s units n)
+    by_target (Err e) = refl
+    by_target (Ok n) = by_path (chain_within 15 units n)
+
+-- The same, for the entry as the program stores it.
+pub names-by-reference : (s : Sections) (units : List CompilationUnit) (number : ℕ)
+    (entry : NamedEntry) (m : Member) (reference : AttributeValue) → IsMember units number entry m
+    → (entry.next ≡ Some reference) × (entry.name ≡ None) × (entry.linkage_name ≡ None)
+    → names_of s units m ≡ target_names s units m.unit reference
+names-by-reference s units number entry m reference at (next, no_name, no_linkage_name) =
+    names-packed s units m reference (sym (ap (λ (e : NamedEntry). e.next) at.entry_is) ∙ next)
+    (sym (ap (λ (e : NamedEntry). e.name) at.entry_is) ∙ no_name)
+    (sym (ap (λ (e : NamedEntry). e.linkage_name) at.entry_is) ∙ no_linkage_name)
+
+-- ---- the names of the target of a reference
+
+abbrev names_from : Sections → List CompilationUnit → Result Member Cause → Result EntryNames Cause
+names_from s units target = target >>= λ m. second_names s units m
+
+pub packed-cache : (s : Sections) (units : List CompilationUnit) (u : CompilationUnit)
+    (reference : AttributeValue) (place : UnitPlace) (names : EntryNames) (cache : NameCache)
+    → IsCacheOf s units cache
+    → slot_at cache (slot_of place) ≡ Some (cached_names place names)
+    → LeadsTo units (Some place) (target_of units u reference) → target_names s units u reference
+    ≡ Ok names
+packed-cache s units u reference place names cache knew is leads =
+    let at = knew (slot_of place) (cached_names place names) is in ap (names_from s units)
+    (leads ∙ at.1)
+    ∙ at.2
+
+pub packed-nowhere : (s : Sections) (units : List CompilationUnit) (u : CompilationUnit)
+    (reference : AttributeValue) → target_of units u reference ≡ Err causes.Reference
+    → target_names s units u reference ≡ Err causes.Reference
+packed-nowhere s units u reference lost = ap (names_from s units) lost

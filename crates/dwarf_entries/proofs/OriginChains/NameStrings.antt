@@ -145,7 +145,7 @@ have-strings s units before (p ∷ ps) (j ∷ js) h =
 all-strings : (s : Sections) (tree : Tree) → tree_of s ≡ Ok tree → All (HasTexts s) tree.scopes
 all-strings s tree h = let read = is-read s tree h in
     subst (λ (ss : List Scope). All (HasTexts s) ss) read.scopes_are
-    (have-strings s read.units [] (all_sites read.units) read.parsed read.judged_are)
+    (have-strings s read.units [] (all_sites read.units) read.parsed read.parsed_are)
 
 pub names-are-strings : (s : Sections) (tree : Tree) → tree_of s ≡ Ok tree
     → All (λ (scope : Scope). IfSome scope.name (IsTextOf s)) tree.scopes

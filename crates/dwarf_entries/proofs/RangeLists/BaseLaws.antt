@@ -1,8 +1,8 @@
--- Table items beyond the end of the section.
-use Rattle.std.proofs.Common.{◌≡◌, ℕ, ◌+◌, ◌*◌, ◌<◌, List, true, false, length, refl, arith}
+-- Table items beyond the end of the section, and the current base of a range list.
+use Rattle.std.proofs.Common.{◌≡◌, ℕ, ◌+◌, ◌*◌, ◌<◌, List, true, false, length, refl, arith, []}
+use Rattle.std.proofs.Common.{◌∷◌, ◌++◌, map}
 use Rattle.std.specs.Prelude.{Option, Some, Err, nat_lt, nat_le}
 use Rattle.std.proofs.lemmas.Bool.{lt-ltb}
-use Rattle.dwarf_bytes.specs.declared.fault.Cause.TheVariants as causes
 use Rattle.dwarf_bytes.specs.declared.fault.ReadFault.TheVariants.{Short}
 use Rattle.dwarf_bytes.specs.declared.format.Format.{Format}
 use Rattle.dwarf_bytes.specs.declared.format.Format.TheVariants.{Dwarf32, Dwarf64}
@@ -11,6 +11,11 @@ use Rattle.dwarf_bytes.specs.declared.tables.TableKind.TheVariants.{StrOffsets, 
 use Rattle.dwarf_bytes.specs.Numbers.{block_at, fixed_at}
 use Rattle.dwarf_entries.specs.declared.bases.Table.{Table}
 use Rattle.dwarf_entries.specs.Bases.{item_len, item_in, item_at}
+use Rattle.dwarf_entries.specs.declared.scope.Range.{Range}
+use Rattle.dwarf_entries.specs.declared.range_entries.RangeListEntry.{RangeListEntry}
+use Rattle.dwarf_entries.specs.declared.range_entries.RangeListEntry.TheVariants.{Base, Covers}
+use Rattle.dwarf_entries.specs.Ranges.{base_after}
+use Rattle.dwarf_bytes.specs.declared.fault.Cause.TheVariants as causes
 
 fixed-outside : (n : ℕ) (bytes : List ℕ) (at : ℕ) → length bytes < at
     → fixed_at n bytes at ≡ Err Short
@@ -44,3 +49,17 @@ item_at-outside kind section found table index place is within at past =
   where
     lt-leb : (m n : ℕ) → m < n → nat_le n m ≡ false
     lt-leb m n h = grind arith
+
+-- ---- the current base
+
+pub base-stays : (low_pc : Option ℕ) (ranges : List (Option Range))
+    → base_after low_pc (map (λ range. Covers range) ranges) ≡ low_pc
+base-stays low_pc [] = refl
+base-stays low_pc (range ∷ ranges) = base-stays low_pc ranges
+
+pub base-of_last : (low_pc : Option ℕ) (before : List RangeListEntry) (base : ℕ)
+    (ranges : List (Option Range)) → base_after low_pc
+    (before ++ Base base ∷ map (λ range. Covers range) ranges) ≡ Some base
+base-of_last low_pc [] base ranges = base-stays (Some base) ranges
+base-of_last low_pc (Base first ∷ before) base ranges = base-of_last (Some first) before base ranges
+base-of_last low_pc (Covers range ∷ before) base ranges = base-of_last low_pc before base ranges

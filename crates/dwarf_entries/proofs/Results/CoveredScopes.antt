@@ -60,14 +60,14 @@ pub scopes-hold : (s : Sections) (tree : Tree) → tree_of s ≡ Ok tree
 scopes-hold s tree h =
     let read = is-read s tree h in
     subst (λ (ss : List Scope). All ScopeHolds ss) read.scopes_are
-    (parsed-hold s read.units [] (all_sites read.units) read.parsed read.judged_are
+    (parsed-hold s read.units [] (all_sites read.units) read.parsed read.parsed_are
     (omega arith)).0
 
 pub ranges-limited : (s : Sections) (tree : Tree) → tree_of s ≡ Ok tree
     → sum_by (λ (scope : Scope). length scope.ranges) tree.scopes ≤ items_limit
 ranges-limited s tree h =
     let read = is-read s tree h in
-    let limited = (parsed-hold s read.units [] (all_sites read.units) read.parsed read.judged_are
+    let limited = (parsed-hold s read.units [] (all_sites read.units) read.parsed read.parsed_are
     (omega arith)).1 in
     subst (λ (ss : List Scope). ranges_counted ss ≤ items_limit) read.scopes_are
     (omega (arith, limited))

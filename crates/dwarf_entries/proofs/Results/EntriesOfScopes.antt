@@ -105,7 +105,7 @@ pub scopes-enter : (s : Sections) (tree : Tree) (units : List CompilationUnit) (
     → (unit place : ℕ) × IsEntry units unit place scope
 scopes-enter s tree units scope h units_are inside =
     let read = is-read s tree h in
-    let all = are-entries s read.units read.units [] read.parsed read.judged_are in
+    let all = are-entries s read.units read.units [] read.parsed read.parsed_are in
     All-contains (Enters units) tree.scopes scope
     (subst (λ (us : List CompilationUnit). All (Enters us) tree.scopes)
     (same-units s tree read units units_are)
@@ -123,7 +123,7 @@ entry-described s tree units h units_are i place unit die kind is die_is scope =
     let same = same-units s tree read units units_are in
     let made : AreParsed s read.units [] (all_sites units) read.parsed =
     subst (λ (us : List CompilationUnit). AreParsed s read.units [] (all_sites us) read.parsed)
-    same read.judged_are in
+    same read.parsed_are in
     let described = described-of s read.units units [] read.parsed made i place unit die kind
     is die_is
     scope in

@@ -165,7 +165,7 @@ scopes-rise s tree h =
     let read = is-read s tree h in
     let size : ℕ = length s.debug_info in
     let described : site_offsets (all_sites read.units) ≡ scope_offsets tree.scopes =
-    offsets-parsed s read.units [] (all_sites read.units) read.parsed read.judged_are
+    offsets-parsed s read.units [] (all_sites read.units) read.parsed read.parsed_are
     ∙ ap scope_offsets read.scopes_are in
     subst (λ (ks : List ℕ). RiseBelow size ks) described
     (rises 0 size (site_offsets (all_sites read.units))

@@ -153,7 +153,7 @@ pub record IsRead (s : Sections) (tree : Tree) : Type 0 where
   pub units : List CompilationUnit
   pub units_are : units_read s ≡ Ok units
   pub parsed : List ParsedScope
-  pub judged_are : AreParsed s units [] (all_sites units) parsed
+  pub parsed_are : AreParsed s units [] (all_sites units) parsed
   pub roots_are : roots_from 0 units ≡ tree.roots
   pub scopes_are : map (λ j. j.scope) parsed ≡ tree.scopes
 
@@ -171,7 +171,7 @@ is-read s tree h =
       units = units;
       units_are = a.1;
       parsed = parsed;
-      judged_are = are-parsed s units [] (all_sites units) parsed
+      parsed_are = are-parsed s units [] (all_sites units) parsed
           (in_section-ok names.DebugInfo (each_from (parse_scope s units) [] (all_sites units)) parsed b.1);
       roots_are = ap (λ (t : Tree). t.roots) same;
       scopes_are = ap (λ (t : Tree). t.scopes) same;

@@ -163,7 +163,7 @@ pub roots-part : (s : Sections) (tree : Tree) → tree_of s ≡ Ok tree
     → ArePartsFrom 0 (length tree.scopes) tree.roots
 roots-part s tree h =
     let read = is-read s tree h in
-    let made = parsed-length s read.units [] (all_sites read.units) read.parsed read.judged_are in
+    let made = parsed-length s read.units [] (all_sites read.units) read.parsed read.parsed_are in
     let described : length (scopes_in read.parsed) ≡ length read.parsed =
     length-map read.parsed (λ j. j.scope) in
     let size : 0 + length (all_sites read.units) ≡ length tree.scopes =
@@ -177,7 +177,7 @@ pub scopes-of-roots : (s : Sections) (tree : Tree) (root : Root) (scope : Scope)
 scopes-of-roots s tree root scope h root_in scope_in =
     let read = is-read s tree h in
     let all = have s read.units 0 (length s.debug_info) read.units [] read.parsed
-    (units-rise s tree read) read.judged_are in
+    (units-rise s tree read) read.parsed_are in
     let described : AllHave tree.roots tree.scopes =
     subst (λ (rs : List Root). AllHave rs tree.scopes) read.roots_are
     (subst (λ (ss : List Scope). AllHave (roots_from 0 read.units) ss) read.scopes_are all) in

@@ -14,7 +14,7 @@ use Rattle.dwarf_walk.specs.Sections.{Sections}
 use Rattle.dwarf_entries.specs.Bases.{CompilationUnit}
 use Rattle.dwarf_entries.specs.Scopes.{scope_at, ParsedScope, ScopeSite, sites_in, roots_from}
 use Rattle.dwarf_entries.specs.Private.Passes.{parse_scope, AreParsed, AddsScopes}
-use Rattle.dwarf_entries.proofs.UnitPasses.PassLaws.{at_item_cases}
+use Rattle.dwarf_entries.proofs.UnitPasses.BasesPass.{at_item_cases}
 use Rattle.dwarf_entries.proofs.ScopePasses.SiteLaws.{SiteAt}
 use Rattle.dwarf_entries.proofs.ScopePasses.ScopesPass.{CheckedSoFar, front-ok, front-err}
 

@@ -1,25 +1,29 @@
 -- The iterations of the pass over the roots of all units.
 use Rattle.std.proofs.Common.{◌≡◌, ℕ, ◌+◌, ◌<◌, ◌≤◌, ◌⊎◌, inl, inr, List, [], ◌∷◌, ◌++◌, length}
 use Rattle.std.proofs.Common.{drop, get_or, map, refl, ap, sym, ◌∙◌, arith, drop-cons, add-one}
-use Rattle.std.specs.Prelude.{Result, Ok, Err, zip}
+use Rattle.std.specs.Prelude.{Result, Ok, Err, zip, Option, Some}
 use Rattle.std.proofs.lemmas.List.{drop_all, map-append, get_or-map, length-map}
-use Rattle.dwarf_bytes.specs.declared.fault.Section.TheVariants as names
 use Rattle.dwarf_bytes.specs.declared.fault.LoadFault.{LoadFault}
 use Rattle.dwarf_bytes.specs.Bind.{◌>>=◌}
 use Rattle.dwarf_bytes.specs.Items.{At, each_from}
-use Rattle.dwarf_bytes.specs.Refusals.{memory_fault, in_section}
+use Rattle.dwarf_bytes.specs.Refusals.{memory_fault, in_section, at_item}
 use Rattle.dwarf_bytes.proofs.Items.EachLaws.{made_front, each-next, each-fault, each-end}
 use Rattle.dwarf_units.specs.declared.unit_headers.UnitHeader.{UnitHeader}
 use Rattle.dwarf_entries.specs.declared.bases.Bases.{Bases}
 use Rattle.dwarf_walk.specs.declared.unit_entries.UnitEntries.{UnitEntries}
 use Rattle.dwarf_walk.specs.Sections.{Sections}
 use Rattle.dwarf_units.specs.Entries.{Die}
-use Rattle.dwarf_entries.specs.Bases.{CompilationUnit, unit_of}
+use Rattle.dwarf_entries.specs.Bases.{CompilationUnit, unit_of, bases_by}
 use Rattle.dwarf_walk.specs.Private.Stored.{StoredUnit, root_in, stored_unit, stored_of}
 use Rattle.dwarf_entries.specs.Private.Passes.{stored_units, bases_in, all_units, bases_of}
 use Rattle.dwarf_entries.specs.Private.Passes.{all_bases}
 use Rattle.dwarf_units.proofs.TableLaws.{in_section-ok}
 use Rattle.dwarf_entries.proofs.UnitPasses.EntriesPass.{no-front}
+use Rattle.dwarf_bytes.specs.declared.fault.Cause.{Cause}
+use Rattle.dwarf_bytes.specs.declared.format.Format.{Format}
+use Rattle.dwarf_walk.specs.declared.unit_entries.RootEntry.{RootEntry}
+use Rattle.dwarf_bytes.specs.declared.fault.Section.TheVariants as names
+use Rattle.dwarf_bytes.specs.declared.fault.Cause.TheVariants as causes
 
 abbrev pub unit_for : Sections → List CompilationUnit → UnitHeader × List Die
     → Result CompilationUnit At
@@ -170,3 +174,32 @@ bases-fault s units headers dies index unit all fault same within here_is so_far
         same-fault : {x y : LoadFault} → (let f : LoadFault → Result Bases LoadFault = λ z. Err z in
             f x ≡ f y) → x ≡ y
         same-fault h = cc
+
+-- ---- the fault of a root
+
+-- A cause that is reported at an item is a fault at that item, unless memory ran out.
+pub at_item_cases : (cause : Cause) (at : ℕ) → (at_item names.DebugInfo cause at ≡ memory_fault)
+    ⊎ (at_item names.DebugInfo cause at ≡ record {
+      section = names.DebugInfo;
+      cause = cause;
+      at = at;
+    })
+at_item_cases causes.Memory at = inl refl
+at_item_cases cause at = inr refl
+
+pub root-fault : (s : Sections) (format : Format) (found : Option RootEntry) (root : RootEntry)
+    (cause : Cause) (fault : LoadFault) → found ≡ Some root
+    → Err cause ≡ bases_by s format root.str_offsets_base root.addr_base root.rnglists_base
+    root.low_pc → fault ≡ at_item names.DebugInfo cause root.offset
+    → (fault ≡ memory_fault) ⊎ (in_section names.DebugInfo (bases_in s format found) ≡ Err fault)
+root-fault s format found root cause fault found_is bad told_is =
+    by-cause (at_item_cases cause root.offset)
+  where
+    by-cause : (at_item names.DebugInfo cause root.offset ≡ memory_fault)
+        ⊎ (at_item names.DebugInfo cause root.offset
+        ≡ record { section = names.DebugInfo; cause = cause; at = root.offset })
+        → (fault ≡ memory_fault) ⊎ (in_section names.DebugInfo (bases_in s format found)
+        ≡ Err fault)
+    by-cause (inl memory) = inl (told_is ∙ memory)
+    by-cause (inr itself) = inr (rw (found_is, sym bad)
+        (ap (λ (f : LoadFault). Err f) (sym (told_is ∙ itself))))

@@ -1,5 +1,5 @@
 use Rattle.dwarf_walk.specs.Sections.{sections_of}
-use Rattle.dwarf_entries.proofs.UnitPasses.PassLaws.{root-fault}
+use Rattle.dwarf_entries.proofs.UnitPasses.BasesPass.{root-fault}
 use Rattle.dwarf_entries.proofs.passes.unit_bases.Goals as goal
 
 pub returns-in-Err : goal.returns-in-Err

@@ -3,7 +3,7 @@ use Rattle.std.specs.Prelude.{Result}
 use Rattle.dwarf_bytes.specs.declared.fault.Cause.{Cause}
 use Rattle.dwarf_bytes.specs.Refusals.{Gives}
 use Rattle.dwarf_entries.specs.declared.origin_chains.EntryNames.{EntryNames}
-use Rattle.dwarf_entries.proofs.OriginChains.CacheLaws.{names-by-reference}
+use Rattle.dwarf_entries.proofs.OriginChains.ChainStrings.{names-by-reference}
 use Rattle.dwarf_entries.proofs.units.Units.names.Goals as goal
 
 pub returns-in-Some-clause-names : goal.returns-in-Some-clause-names

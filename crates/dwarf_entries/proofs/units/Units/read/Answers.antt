@@ -1,7 +1,7 @@
 use Rattle.std.proofs.lemmas.Result.{err_from_is_err_and}
 use Rattle.dwarf_walk.specs.Sections.{sections_of}
 use Rattle.dwarf_entries.specs.Private.ObjectUnits.{ObjectUnits}
-use Rattle.dwarf_entries.proofs.OriginChains.CacheLaws.{cache-none}
+use Rattle.dwarf_entries.proofs.OriginChains.ChainStrings.{cache-none}
 use Rattle.dwarf_entries.proofs.Results.ReadLaws.{headers-fault, tables-fault, tables-read}
 use Rattle.dwarf_entries.proofs.Results.ReadLaws.{entries-fault, entries-read, bases-fault}
 use Rattle.dwarf_entries.proofs.Results.ReadLaws.{units-read, all-marked, object-is, units-are}

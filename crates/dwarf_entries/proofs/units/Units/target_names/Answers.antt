@@ -1,6 +1,6 @@
 use Rattle.std.proofs.Common.{inl, inr, sym, ◌∙◌}
 use Rattle.std.proofs.lemmas.Result.{err_from_is_err_and}
-use Rattle.dwarf_entries.proofs.OriginChains.CacheLaws.{cache-more, packed-cache, packed-nowhere}
+use Rattle.dwarf_entries.proofs.OriginChains.ChainStrings.{cache-more, packed-cache, packed-nowhere}
 use Rattle.dwarf_entries.proofs.UnitPasses.ObjectLaws.{seen, with-cache}
 use Rattle.dwarf_entries.proofs.units.Units.target_names.Goals as goal
 
