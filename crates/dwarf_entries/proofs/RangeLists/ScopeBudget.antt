@@ -121,7 +121,8 @@ by-fits budget sections bases (Some low) (Some high) None covering h =
 by-fits budget sections bases None None None covering h = none-fits budget covering h
 by-fits budget sections bases (Some low) None None covering h = none-fits budget covering h
 
-pub covers-fits : (budget : ℕ) (sections : Sections) (bases : Bases) (die : Die) (covering : Covering)
+pub covers-fits : (budget : ℕ) (sections : Sections) (bases : Bases) (die : Die)
+    (covering : Covering)
     → covers_of budget sections bases die ≡ Ok covering → Fits budget covering
 unfolding covers_of
 covers-fits budget sections bases die covering h =

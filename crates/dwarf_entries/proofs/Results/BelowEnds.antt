@@ -56,7 +56,8 @@ same-scope scopes a b rise a_in b_in same =
 -- An entry with its number and its end.
 record HasPlace (units : List CompilationUnit) (i p : ℕ) (scope : Scope)
     (at : IsEntry units i p scope) : Type 0 where
-  pub number_is : scope.number ≡ number_of_scopes (take i units) + count_by is_scope (take p at.of.dies)
+  pub number_is : scope.number ≡ number_of_scopes (take i units)
+      + count_by is_scope (take p at.of.dies)
   pub end_is : scope.«end» ≡ scope.number + 1 + count_by is_scope
       (below at.die (drop (p + 1) at.of.dies))
 
@@ -85,7 +86,8 @@ place-of-entry s tree units i p scope h units_are inside at =
 -- A scope ends before the scopes of any later unit.
 before-later : (units : List CompilationUnit) (i p j : ℕ) (scope : Scope)
     (at : IsEntry units i p scope) → HasPlace units i p scope at → i < j
-    → (scope.number < number_of_scopes (take j units)) × (scope.«end» ≤ number_of_scopes (take j units))
+    → (scope.number < number_of_scopes (take j units))
+    × (scope.«end» ≤ number_of_scopes (take j units))
 before-later units i p j scope at here lt =
     let dies : List Die = at.of.dies in
     let tests : Die → ℕ = λ x. cond (is_scope x) 1 0 in
@@ -107,7 +109,8 @@ before-later units i p j scope at here lt =
     ap number_of_scopes (take-take i j units (omega (arith, lt))) in
     let here_count : count_by is_scope (get_or (take j units) i at.of).dies
     ≡ count_by is_scope dies = ap (λ (u : CompilationUnit). count_by is_scope u.dies) of_is in
-    let total : number_of_scopes (take i units) + count_by is_scope dies ≤ number_of_scopes (take j units) =
+    let total : number_of_scopes (take i units) + count_by is_scope dies
+    ≤ number_of_scopes (take j units) =
     omega (arith, sum, front, here_count) in
     let last : count_by is_scope (take p dies) + 1 + count_by is_scope (drop (p + 1) dies)
     ≡ count_by is_scope dies = omega (arith, more, whole) in (

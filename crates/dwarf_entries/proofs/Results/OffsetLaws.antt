@@ -89,7 +89,8 @@ list-rises s size from (header ∷ headers) [] before (first ∷ dies) front (un
     read made = absurd (each-past (entries_for s.debug_info) before first dies read)
 list-rises s size from (header ∷ headers) (table ∷ tables) before (first ∷ dies) front
     (unit ∷ units) le order read made =
-    let entries = each-cons (entries_for s.debug_info) before (header, table) (zip headers tables) first dies
+    let entries = each-cons (entries_for s.debug_info) before (header, table)
+    (zip headers tables) first dies
     read in
     let here = each-cons (unit_for s) front (header, first) (zip headers dies) unit units made in
     let parts = unit_of-parts s header first unit here.0 in

@@ -84,7 +84,8 @@ is-parsed sections units before p j h =
     >>= λ covering. Ok (scope_of_place before p found covering)) j
     (described-ok p.member.die.offset (scope_at sections units before p) j h) P
     (λ found found_are h1.
-    after-bind (covers_there sections before p) (λ covering. Ok (scope_of_place before p found covering))
+    after-bind (covers_there sections before p)
+    (λ covering. Ok (scope_of_place before p found covering))
     j h1 P (λ covering covering_is last.
     record {
       found = found;
@@ -137,7 +138,8 @@ unfolding units_read
 unit-parts s units h =
     let a = bind-ok (in_section names.DebugInfo (units_of s.debug_info)) _ units h in
     let b = bind-ok (in_section names.DebugAbbrev (tables_of s.debug_abbrev a.0)) _ units a.2 in
-    let c = bind-ok (in_section names.DebugInfo (each (entries_for s.debug_info) (zip a.0 b.0))) _ units b.2
+    let c = bind-ok (in_section names.DebugInfo
+    (each (entries_for s.debug_info) (zip a.0 b.0))) _ units b.2
     in
     record {
       headers = a.0;
@@ -145,7 +147,8 @@ unit-parts s units h =
       tables = b.0;
       tables_are = in_section-ok names.DebugAbbrev (tables_of s.debug_abbrev a.0) b.0 b.1;
       dies = c.0;
-      dies_are = in_section-ok names.DebugInfo (each (entries_for s.debug_info) (zip a.0 b.0)) c.0 c.1;
+      dies_are = in_section-ok names.DebugInfo (each (entries_for s.debug_info) (zip a.0 b.0))
+          c.0 c.1;
       units_are = in_section-ok names.DebugInfo (each (unit_for s) (zip a.0 c.0)) units c.2;
     }
 
@@ -162,7 +165,8 @@ unfolding tree_of
 is-read s tree h =
     let a = bind-ok (units_read s) (from_units s) tree h in
     let units = a.0 in
-    let b = bind-ok (in_section names.DebugInfo (each_from (parse_scope s units) [] (all_sites units)))
+    let b = bind-ok (in_section names.DebugInfo
+    (each_from (parse_scope s units) [] (all_sites units)))
     (made_of units) tree a.2 in
     let parsed = b.0 in
     let same = same-ok (record { roots = roots_from 0 units; scopes = map (λ j. j.scope) parsed })
@@ -172,7 +176,8 @@ is-read s tree h =
       units_are = a.1;
       parsed = parsed;
       parsed_are = are-parsed s units [] (all_sites units) parsed
-          (in_section-ok names.DebugInfo (each_from (parse_scope s units) [] (all_sites units)) parsed b.1);
+          (in_section-ok names.DebugInfo (each_from (parse_scope s units) [] (all_sites units))
+          parsed b.1);
       roots_are = ap (λ (t : Tree). t.roots) same;
       scopes_are = ap (λ (t : Tree). t.scopes) same;
     }

@@ -20,7 +20,8 @@ use Rattle.dwarf_entries.specs.Private.EntryOffsets.{all_offsets}
 use Rattle.dwarf_entries.specs.Private.Passes.{all_entries, all_stored}
 use Rattle.dwarf_bytes.proofs.Numbers.Moves.{same-ok}
 use Rattle.dwarf_units.proofs.TableLaws.{table_is}
-use Rattle.dwarf_entries.proofs.UnitPasses.EntriesPass.{entries_for, EntriesSoFar, entries-made, pair-at}
+use Rattle.dwarf_entries.proofs.UnitPasses.EntriesPass.{entries_for, EntriesSoFar, entries-made}
+use Rattle.dwarf_entries.proofs.UnitPasses.EntriesPass.{pair-at}
 
 -- The bits of all entries are set.
 pub entries-marked : (info : List ℕ) (headers : List UnitHeader) (tables : List (List Declaration))

@@ -35,7 +35,8 @@ returns-clause-leads c u at =
     let are = seen-units c.self.invariant c.self.view_is c.deref-2.ensures.value in
     let unit = c.in_ok-start.ensures.lookup.3 in
     let start = ap (λ (k : StoredUnit). k.header.start)
-    (stored-index c.deref-2.result.now us are.same c.args.unit c.in_ok-start.field-0.now (unit.1 c.in_ok-start.field-0.now) u at) in
+    (stored-index c.deref-2.result.now us are.same c.args.unit c.in_ok-start.field-0.now
+    (unit.1 c.in_ok-start.field-0.now) u at) in
     let number = c.from-number.ensures in
     subst (λ (outcome : Result Member Cause). LeadsTo us c.place_in-2.result outcome)
     (within-unit us c.args.unit (c.in_ok-start.field-0.now.header.start + c.from-number.result) u
