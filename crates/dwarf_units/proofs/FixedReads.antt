@@ -69,7 +69,7 @@ offset-fixed Dwarf64 bytes at = fixed-fixed 8 bytes at
 pub same_some : (n m : ℕ) → (let f : ℕ → Option ℕ = λ k. Some k in f n ≡ f m) → n ≡ m
 same_some n m h = cc
 
-content-fixed : (layout : ValueLayout) (format : Format) (n : ℕ) (bytes : List ℕ) (at : ℕ)
+pub content-fixed : (layout : ValueLayout) (format : Format) (n : ℕ) (bytes : List ℕ) (at : ℕ)
     → layout_len format layout ≡ Some n → at ≤ length bytes
     → ReadsFixed (λ c. is_negative c ≡ false) faults.Short n bytes at
     (content_at layout format bytes at)

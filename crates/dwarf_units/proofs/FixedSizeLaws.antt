@@ -140,6 +140,22 @@ value-direct form layout format constant bytes at is =
           inner.1
     ]) is
 
+pub value-constant : (form : ℕ) (format : Format) (constant : Option ℤ) (c : ℤ) (bytes : List ℕ)
+    (at : ℕ) → form_of form ≡ Some ImplicitConst → constant ≡ Some c
+    → value_at form format constant bytes at ≡ Ok (record { form = form; content = Signed c }, at)
+unfolding value_at
+value-constant form format constant c bytes at is there =
+    ap (λ (found : Option Form). elim found as (λ _. Result (Value × ℕ) ValueFault) [
+      | None ↦ Err values.Form
+      | Some (Direct layout) ↦ direct_at form format bytes at
+      | Some ImplicitConst ↦ (elim constant as (λ _. Result (Value × ℕ) ValueFault)
+          [ None ↦ Err values.Form | Some c ↦ Ok (record { form = form; content = Signed c }, at) ])
+      | Some Indirect ↦ of_value (uleb_at bytes at) >>= λ inner. direct_at inner.0 format bytes
+          inner.1
+    ]) is
+    ∙ ap (λ (o : Option ℤ). elim o as (λ _. Result (Value × ℕ) ValueFault)
+    [ None ↦ Err values.Form | Some c ↦ Ok (record { form = form; content = Signed c }, at) ]) there
+
 pub direct-content : (form : ℕ) (layout : ValueLayout) (format : Format) (bytes : List ℕ) (at : ℕ)
     → form_of form ≡ Some (Direct layout)
     → direct_at form format bytes at ≡ (of_value (content_at layout format bytes at)

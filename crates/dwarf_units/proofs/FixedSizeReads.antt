@@ -1,5 +1,6 @@
 -- An attribute in an unsigned layout is read or skipped without validation.
-use Rattle.std.proofs.Common.{◌≡◌, ℕ, List, [], Bool, true, false, cond, refl, ap, sym, ◌∙◌, subst}
+use Rattle.std.proofs.Common.{◌≡◌, ℕ, ℤ, List, [], Bool, true, false, cond, refl, ap, sym, ◌∙◌}
+use Rattle.std.proofs.Common.{subst}
 use Rattle.std.specs.Prelude.{Option, Some, None, Result, Ok, Err, not, ◌==◌, ◌||◌}
 use Rattle.dwarf_bytes.specs.declared.constants.TheConstants.{DW_FORM_INDIRECT}
 use Rattle.dwarf_bytes.specs.declared.fault.ReadFault.{ReadFault}
@@ -11,7 +12,7 @@ use Rattle.dwarf_bytes.specs.declared.form.Form.TheVariants.{Direct, ImplicitCon
 use Rattle.dwarf_bytes.specs.declared.form.ValueLayout.{ValueLayout}
 use Rattle.dwarf_bytes.specs.Bind.{◌>>=◌}
 use Rattle.dwarf_bytes.specs.Forms.{form_of}
-use Rattle.dwarf_bytes.specs.Contents.{Content, content_at}
+use Rattle.dwarf_bytes.specs.Contents.{Content, Signed, content_at}
 use Rattle.dwarf_bytes.specs.Items.{reading, refuse_if}
 use Rattle.dwarf_bytes.specs.Numbers.{uleb_at}
 use Rattle.dwarf_forms.specs.declared.values.ValueFault.{ValueFault}
@@ -22,7 +23,7 @@ use Rattle.dwarf_units.specs.Attributes.{is_used, accepts, is_negative_count, nu
 use Rattle.dwarf_units.specs.Entries.{reading_value, is_direct, attribute_at}
 use Rattle.dwarf_units.specs.Private.Plans.{is_unsigned, valid_layout, attribute_in_layout}
 use Rattle.dwarf_units.proofs.FixedSizeLaws.{not-indirect, direct-chain, IsFine, memoized-fine}
-use Rattle.dwarf_units.proofs.FixedSizeLaws.{value-direct, direct-content}
+use Rattle.dwarf_units.proofs.FixedSizeLaws.{value-direct, value-constant, direct-content}
 
 -- ---- so it is not validated
 
@@ -57,11 +58,12 @@ checked-fine : (s : AttributeSpecification) (r : Result (Content × ℕ) ReadFau
 checked-fine s (Ok c) fine = rw fine refl
 checked-fine s (Err e) fine = refl
 
-memoized-is : (format : Format) (s : AttributeSpecification) (layout : ValueLayout) (bytes : List ℕ)
-    (at : ℕ) → accepts s.name s.form ≡ true → form_of s.form ≡ Some (Direct layout)
-    → (is_unsigned layout || not (is_used s.name)) ≡ true
+-- An attribute whose form has a layout is read by the layout, if its value is no negative count.
+pub in-layout : (format : Format) (s : AttributeSpecification) (layout : ValueLayout)
+    (bytes : List ℕ) (at : ℕ) → accepts s.name s.form ≡ true → form_of s.form ≡ Some (Direct layout)
+    → IsFine s.name (content_at layout format bytes at)
     → attribute_in_layout format s layout bytes at ≡ attribute_at format s bytes at
-memoized-is format s layout bytes at fine is memoized =
+in-layout format s layout bytes at fine is valid =
     let rest : ℕ × ℕ → Result (Attribute × ℕ) Cause =
     λ form. reading_value (value_at form.0 format s.constant bytes form.1)
     >>= checked s form.0 in
@@ -74,10 +76,32 @@ memoized-is format s layout bytes at fine is memoized =
     ≡ (of_value (content_at layout format bytes at) >>= as_value s) =
     value-direct s.form layout format s.constant bytes at is ∙ direct-content s.form layout format
     bytes at is in
-    checked-fine s (content_at layout format bytes at)
-    (memoized-fine s.name layout format bytes at memoized)
+    checked-fine s (content_at layout format bytes at) valid
     ∙ sym (ap (λ (r : Result (Value × ℕ) ValueFault). reading_value r >>= checked s s.form) read)
     ∙ sym chain
+
+-- An attribute whose value is in its declaration.
+pub constant-there : (format : Format) (s : AttributeSpecification) (c : ℤ) (bytes : List ℕ)
+    (at : ℕ) → accepts s.name s.form ≡ true → form_of s.form ≡ Some ImplicitConst
+    → s.constant ≡ Some c → is_negative_count s.name (Signed c) ≡ false
+    → attribute_at format s bytes at ≡ Ok (
+      record {
+        name = s.name;
+        value = record { form = s.form; number = number_of (Signed c) at };
+      },
+      at,
+    )
+constant-there format s c bytes at fine is there valid =
+    let rest : ℕ × ℕ → Result (Attribute × ℕ) Cause =
+    λ form. reading_value (value_at form.0 format s.constant bytes form.1)
+    >>= checked s form.0 in
+    let inner : Result (ℕ × ℕ) Cause = reading (uleb_at bytes at)
+    >>= λ inner. refuse_if (not (is_direct (form_of inner.0))) causes.Form >>= λ _. Ok inner in
+    direct-chain (s.form == DW_FORM_INDIRECT) inner s.form at (λ form. accepts s.name form) rest
+    (not-indirect s.form ImplicitConst is (λ e. cc)) fine
+    ∙ ap (λ (r : Result (Value × ℕ) ValueFault). reading_value r >>= checked s s.form)
+    (value-constant s.form format s.constant c bytes at is there)
+    ∙ rw valid refl
 
 same-layout : (l k : ValueLayout) → (let some : ValueLayout → Option ValueLayout = λ x. Some x in
     some l ≡ some k) → l ≡ k
@@ -96,7 +120,8 @@ taken-is format s layout bytes at h = by_form (accepts s.name s.form) refl (form
     by_known fine l is true memoized h =
         subst (λ (k : ValueLayout). attribute_in_layout format s k bytes at
         ≡ attribute_at format s bytes at)
-        (same-layout l layout h) (memoized-is format s l bytes at fine is memoized)
+        (same-layout l layout h) (in-layout format s l bytes at fine is
+        (memoized-fine s.name l format bytes at memoized))
 
     by_form : (b : Bool) → accepts s.name s.form ≡ b → (found : Option Form)
         → form_of s.form ≡ found → cond b (elim found as (λ _. Option ValueLayout) [

@@ -12,6 +12,9 @@ pub mod FixedSizeLaws
 pub mod FixedSizeReads
 pub mod FixedReads
 pub mod FixedAttributes
+pub mod FixedPositions
+pub mod FixedSizeEntries
+pub mod FixedSizeTurns
 pub mod PlanSteps
 pub mod MergedSteps
 pub mod PlanLaws

@@ -3,12 +3,12 @@
 use Rattle.std.proofs.Common.{◌≡◌, ℕ, suc, ◌+◌, List, [], ◌∷◌, ◌++◌, length, take, refl, ap, sym}
 use Rattle.std.proofs.Common.{◌∙◌, subst, arith, append-nil, cond}
 use Rattle.std.specs.Prelude.{Bool, true, false, ◌==◌, Option, Some, None, IfSome, map, find}
-use Rattle.std.specs.Prelude.{position, option_map, slice_get, sum_by}
+use Rattle.std.specs.Prelude.{option_map, slice_get, sum_by}
 use Rattle.std.specs.List.{All}
 use Rattle.std.proofs.Math.Seq.{take-append_seam}
 use Rattle.std.proofs.lemmas.List.{length-map, take_all}
 use Rattle.std.proofs.lemmas.List.Folds.{fold-map}
-use Rattle.std.proofs.lemmas.Option.{slice_get-map}
+use Rattle.std.proofs.lemmas.Option.{same_Some, slice_get-map}
 use Rattle.dwarf_forms.specs.declared.attribute.AttributeSpecification.{AttributeSpecification}
 use Rattle.dwarf_forms.specs.declared.memoized_lists.MemoizedAttribute.{MemoizedAttribute}
 use Rattle.dwarf_forms.specs.declared.shared.TheConstants.{UNSHARED}
@@ -17,7 +17,6 @@ use Rattle.dwarf_forms.specs.Private.Memoized.{rest_attributes}
 use Rattle.dwarf_forms.specs.Private.Shared.{IsShared, SharedAttributes, all_of}
 use Rattle.dwarf_forms.specs.Private.SharedTables.{AreShared, SharedDeclaration, full_declarations}
 use Rattle.dwarf_forms.specs.Private.SharedTables.{full_declaration}
-use Rattle.dwarf_forms.proofs.Codes.{find-place}
 use Rattle.dwarf_forms.proofs.SharedTableLaws.{resolved-grows, resolved-stays}
 use Rattle.dwarf_units.specs.Entries.{declaration_of}
 use Rattle.dwarf_units.specs.Private.Heads.{Head, head_in}
@@ -27,21 +26,13 @@ use Rattle.dwarf_units.specs.Private.Plans.{table_size}
 use Rattle.dwarf_units.specs.Private.SharedTables.{IsReadable, SharedTable, own_size, full_table}
 use Rattle.dwarf_units.specs.Private.SharedTables.{full_tables}
 
--- The declaration of a code and its plan, by their common index.
-pub planned-at : {D : Type 0} (p : D → Bool) (plan_for : D → Planned) (table : List D)
-    (plans : List Planned) (place : ℕ) (declaration : D) (plan : Planned)
-    → position p table ≡ Some place → plans ≡ map plan_for table
-    → slice_get table place ≡ Some declaration → slice_get plans place ≡ Some plan
-    → (find p table ≡ Some declaration) × (plan ≡ plan_for declaration)
-planned-at p plan_for table plans place declaration plan at are here declaration_and_plan = (
-  find-place p table (Some place) at ∙ here,
-  same_some (sym declaration_and_plan ∙ (ap (λ (ps : List Planned). slice_get ps place) are
-      ∙ (slice_get-map plan_for table place ∙ ap (λ d. option_map plan_for d) here))),
-)
-  where
-    same_some : {x y : Planned} → (let f : Planned → Option Planned = λ t. Some t in f x ≡ f y)
-        → x ≡ y
-    same_some h = cc
+-- An element of a list that is parallel to the declarations.
+pub at-place : {D Y : Type 0} (f : D → Y) (table : List D) (ys : List Y) (place : ℕ)
+    (declaration : D) (y : Y) → ys ≡ map f table → slice_get table place ≡ Some declaration
+    → slice_get ys place ≡ Some y → y ≡ f declaration
+at-place {Y = Y} f table ys place declaration y are here there = same_Some y (f declaration)
+    (sym there ∙ (ap (λ (l : List Y). slice_get l place) are
+    ∙ (slice_get-map f table place ∙ ap (λ d. option_map f d) here)))
 
 -- The same declaration, with all attributes.
 pub found-full : (memoized : List MemoizedAttribute) (code : ℕ) (ds : List SharedDeclaration)

@@ -5,6 +5,7 @@ pub mod Heads
 pub mod Rising
 pub mod Numbers
 pub mod Tables
+pub mod FixedSizes
 pub mod NodeShapes
 pub mod Names
 pub mod Used

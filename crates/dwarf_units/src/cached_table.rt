@@ -9,11 +9,13 @@ ghost use Rattle.dwarf_forms.specs.Private.SharedTables.{full_declarations};
 ghost use Rattle.dwarf_units.specs.Private.Links.{LinksGrow};
 ghost use Rattle.dwarf_forms.specs.declared.memoized_lists.MemoizedAttribute.{MemoizedAttribute};
 ghost use Rattle.dwarf_forms.specs.Private.SharedTables.{AreShared};
+ghost use Rattle.dwarf_units.specs.Private.FixedSizes.{fixed_size_of, sizes_of};
 ghost use Rattle.dwarf_units.specs.Private.NodeShapes.{AreShapes, shape_at, shape_count};
 ghost use Rattle.dwarf_units.specs.Private.Plans.{plan_of, plan_len};
 ghost use Rattle.dwarf_units.specs.Private.SharedTables.{IsReadable, own_size, plans_of};
 ghost use Rattle.dwarf_units.specs.Private.SharedTables.{full_table};
 
+use crate::fixed_size_entry::{FixedSizeEntry, fixed_size_entries};
 use crate::linked_lists::LinkedLists;
 use crate::node_shape::{NodeShape, shapes};
 use crate::plans::{Plan, plans};
@@ -31,12 +33,23 @@ pub(crate) struct CachedTable {
     format: Format,
     table: AbbreviationTable,
     plans: Vec<Plan>,
+    /// The fixed sizes of the entries of each declaration.
+    fixed_sizes: Vec<Option<FixedSizeEntry>>,
     /// The shapes of nodes by their code.
     shapes: Vec<Option<NodeShape>>,
 }
 
+/// A declaration, the decode plan of its unshared attributes, and the size of its entries.
+#[derive(Clone, Copy)]
+pub(crate) struct FoundDeclaration<'a> {
+    pub(crate) declaration: &'a AbbreviationDeclaration,
+    pub(crate) plan: &'a Plan,
+    pub(crate) fixed_size: &'a Option<FixedSizeEntry>,
+}
+
 impl Model for CachedTable {
     ghost use Rattle.std.specs.Prelude.{◌≡◌};
+    ghost use Rattle.dwarf_units.specs.Private.FixedSizes.{sizes_of};
     ghost use Rattle.dwarf_units.specs.Private.NodeShapes.{AreShapes, shape_count};
     ghost use Rattle.dwarf_units.specs.Private.SharedTables.{SharedTable, plans_of};
 
@@ -49,6 +62,7 @@ impl Model for CachedTable {
     } };
 
     ghost invariant = { λ t. (t.plans.items ≡ plans_of t.format t.table)
+        × (t.fixed_sizes.items ≡ sizes_of t.format t.table)
         × AreShapes t.format t.table (shape_count t.table) t.shapes.items };
 }
 
@@ -72,12 +86,14 @@ impl CachedTable {
     {
         let table = lists.table(alloc, format, offset, left)?;
         let plans = plans(alloc, format, &table)?;
-        let shapes = shapes(alloc, format, &table)?;
+        let fixed_sizes = fixed_size_entries(alloc, format, &table)?;
+        let shapes = shapes(alloc, &table, &fixed_sizes)?;
         Ok(CachedTable {
             offset,
             format,
             table,
             plans,
+            fixed_sizes,
             shapes,
         })
     }
@@ -95,15 +111,19 @@ impl CachedTable {
         self.offset
     }
 
-    /// Returns the declaration of a code and the decode plan of its unshared attributes.
-    pub(crate) fn find(&self, code: u64) -> Option<(&AbbreviationDeclaration, &Plan)>
+    /// Returns the declaration of a code, the decode plan of its unshared attributes, and the size
+    /// of its entries, if it is fixed.
+    pub(crate) fn find(&self, code: u64) -> Option<FoundDeclaration<'_>>
         ensures some { IfSome result (λ found. (find
-            (λ declaration. declaration.code == code) self.now.declarations ≡ Some found.0.now)
-            × (found.1.now ≡ plan_of self.now.format found.0.now.list.own)) }
+            (λ declaration. declaration.code == code) self.now.declarations
+            ≡ Some found.declaration.now)
+            × (found.plan.now ≡ plan_of self.now.format found.declaration.now.list.own)
+            × (found.fixed_size.now
+            ≡ fixed_size_of self.now.format found.declaration.now.list.own)) }
         ensures none { IfNone result (find
             (λ declaration. declaration.code == code) self.now.declarations ≡ None) }
     {
-        declaration_and_plan(&self.table, &self.plans, code)
+        found_declaration(&self.table, &self.plans, &self.fixed_sizes, code)
     }
 
     /// Returns the shape of the nodes with a one-byte code, if there is one.
@@ -141,22 +161,29 @@ impl CachedTable {
     }
 }
 
-/// Returns the declaration of a code and its plan. `plans` is parallel to the declarations.
-fn declaration_and_plan<'a>(
+/// Returns the declaration of a code. `plans` and `sizes` are parallel to the declarations.
+fn found_declaration<'a>(
     table: &'a AbbreviationTable,
     plans: &'a [Plan],
+    sizes: &'a [Option<FixedSizeEntry>],
     code: u64,
-) -> Option<(&'a AbbreviationDeclaration, &'a Plan)>
+) -> Option<FoundDeclaration<'a>>
     ensures some { (format : Format) → plans.now ≡ plans_of format table.now
+        → sizes.now ≡ sizes_of format table.now
         → IfSome result (λ found. (find (λ declaration. declaration.code == code) table.now
-        ≡ Some found.0.now) × (found.1.now ≡ plan_of format found.0.now.list.own)) }
+        ≡ Some found.declaration.now)
+        × (found.plan.now ≡ plan_of format found.declaration.now.list.own)
+        × (found.fixed_size.now ≡ fixed_size_of format found.declaration.now.list.own)) }
     ensures none { (format : Format) → plans.now ≡ plans_of format table.now
+        → sizes.now ≡ sizes_of format table.now
         → IfNone result (find (λ declaration. declaration.code == code) table.now ≡ None) }
 {
     let place = table.position(code)?;
-    let declaration = table.declarations().get(place)?;
-    let plan = plans.get(place)?;
-    Some((declaration, plan))
+    Some(FoundDeclaration {
+        declaration: table.declarations().get(place)?,
+        plan: plans.get(place)?,
+        fixed_size: sizes.get(place)?,
+    })
 }
 
 /// Counts the unshared attributes of declarations.

@@ -3,12 +3,16 @@
 ghost use Rattle.std.specs.Prelude.{◌≡◌, ◌≤◌, IsSome, IfOk};
 ghost use Rattle.dwarf_bytes.specs.Refusals.{ReadsField};
 ghost use Rattle.dwarf_forms.specs.Private.SharedTables.{full_declaration};
+ghost use Rattle.dwarf_forms.specs.Private.Shared.{IsShared};
 ghost use Rattle.dwarf_units.specs.Entries.{depth_limit};
+ghost use Rattle.dwarf_units.specs.Private.FixedSizes.{fixed_size_of};
 ghost use Rattle.dwarf_units.specs.Private.Heads.{head_at, used_entry_at, ReturnsAndFills};
 ghost use Rattle.dwarf_units.specs.Private.Links.{IsLinked};
 ghost use Rattle.dwarf_units.specs.Private.Plans.{plan_of, Fills};
 ghost use Rattle.dwarf_units.specs.Private.Used.{used_attributes_at};
 
+use crate::cached_table::FoundDeclaration;
+use crate::fixed_size_entry::FixedSizeEntry;
 use crate::linked_lists::LinkedLists;
 use crate::plans::{Plan, read_steps};
 use crate::unit_table::UnitTable;
@@ -28,12 +32,16 @@ pub struct EntryHead<'a> {
     declaration: &'a AbbreviationDeclaration,
     /// The decode plan of the attributes that the declaration does not share.
     plan: &'a Plan,
+    /// The size of the entries of the declaration, if it is fixed.
+    fixed_size: &'a Option<FixedSizeEntry>,
     lists: &'a LinkedLists<'a>,
 }
 
 impl<'a> Model for EntryHead<'a> {
     ghost use Rattle.std.specs.Prelude.{◌≡◌};
     ghost use Rattle.dwarf_forms.specs.Private.SharedTables.{full_declaration};
+    ghost use Rattle.dwarf_forms.specs.Private.Shared.{IsShared};
+    ghost use Rattle.dwarf_units.specs.Private.FixedSizes.{fixed_size_of};
     ghost use Rattle.dwarf_units.specs.Private.Heads.{Head};
     ghost use Rattle.dwarf_units.specs.Private.Links.{IsLinked};
     ghost use Rattle.dwarf_units.specs.Private.Plans.{plan_of};
@@ -46,6 +54,8 @@ impl<'a> Model for EntryHead<'a> {
     } };
 
     ghost invariant = { λ h. (h.plan.now ≡ plan_of h.format h.declaration.now.list.own)
+        × (h.fixed_size.now ≡ fixed_size_of h.format h.declaration.now.list.own)
+        × IsShared h.lists.now.places.memoized h.declaration.now.list
         × IsLinked h.lists.now h.format h.declaration.now.list.rest };
 }
 
@@ -95,21 +105,24 @@ impl UnitTable<'_> {
 impl<'a> EntryHead<'a> {
     pub(crate) fn new(
         format: Format,
-        declaration: &'a AbbreviationDeclaration,
-        plan: &'a Plan,
+        found: FoundDeclaration<'a>,
         lists: &'a LinkedLists<'a>,
     ) -> EntryHead<'a>
-        requires plan { plan.now ≡ plan_of format declaration.now.list.own }
-        requires linked { IsLinked lists.now format declaration.now.list.rest }
+        requires plan { found.plan.now ≡ plan_of format found.declaration.now.list.own }
+        requires fixed_size { found.fixed_size.now
+            ≡ fixed_size_of format found.declaration.now.list.own }
+        requires shared { IsShared lists.now.places.memoized found.declaration.now.list }
+        requires linked { IsLinked lists.now format found.declaration.now.list.rest }
         ensures { result ≡ record {
           format = format;
-          declaration = full_declaration lists.now.places.memoized declaration.now;
+          declaration = full_declaration lists.now.places.memoized found.entry.declaration.now;
         } }
     {
         EntryHead {
             format,
-            declaration,
-            plan,
+            declaration: found.declaration,
+            plan: found.plan,
+            fixed_size: found.fixed_size,
             lists,
         }
     }
@@ -140,6 +153,9 @@ impl<'a> EntryHead<'a> {
         ensures { Fills result found.new (used_attributes_at keep self.now.format
             self.now.declaration.attributes) cursor.old cursor.new }
     {
+        if let Some(entry) = self.fixed_size {
+            return entry.read(keep, self.format, cursor, found);
+        }
         // The contract of `place` is needed: the offset is within the bytes or at their end.
         let _ = cursor.place();
         found.clear();

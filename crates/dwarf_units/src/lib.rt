@@ -5,6 +5,7 @@
 mod attributes;
 mod cached_table;
 mod entry_head;
+mod fixed_size_entry;
 pub mod laws;
 mod linked_lists;
 mod node_shape;
@@ -19,6 +20,7 @@ mod unit_headers;
 mod unit_table;
 mod used_attributes;
 mod used_name;
+mod used_position;
 
 pub use attributes::{Attribute, AttributeValue, is_address};
 pub use entry_head::EntryHead;

@@ -6,12 +6,13 @@ ghost use Rattle.dwarf_forms.specs.declared.memoized_lists.MemoizedAttribute.{Me
 ghost use Rattle.dwarf_forms.specs.Private.Shared.{IsShared};
 ghost use Rattle.dwarf_forms.specs.Private.SharedTables.{AreShared, full_declaration};
 ghost use Rattle.dwarf_forms.specs.Private.SharedTables.{full_declarations};
-ghost use Rattle.dwarf_units.specs.Private.NodeShapes.{AreShapes, fixed_size_from, null_shape};
+ghost use Rattle.dwarf_bytes.specs.declared.format.Format.{Format};
+ghost use Rattle.dwarf_units.specs.Private.FixedSizes.{fixed_size_of, sizes_of};
+ghost use Rattle.dwarf_units.specs.Private.NodeShapes.{AreShapes, null_shape};
 ghost use Rattle.dwarf_units.specs.Private.NodeShapes.{shape_of, shape_of_code, shape_count};
 
-use crate::steps::fixed_len;
-use dwarf_bytes::Format;
-use dwarf_forms::{AbbreviationDeclaration, AbbreviationTable, AttributeSpecification, UNSHARED};
+use crate::fixed_size_entry::FixedSizeEntry;
+use dwarf_forms::{AbbreviationDeclaration, AbbreviationTable};
 use std::alloc::{AllocError, Global};
 
 /// The greatest abbreviation code that is encoded in one byte.
@@ -25,7 +26,7 @@ pub struct NodeShape {
     pub tag: u64,
     /// Whether the entries are followed by their children.
     pub children: bool,
-    /// The size of the node in bytes, including its code.
+    /// The size of the attributes in bytes.
     pub(crate) len: u16,
 }
 
@@ -37,49 +38,52 @@ impl NodeShape {
             is_null: true,
             tag: 0,
             children: false,
-            len: 1,
+            len: 0,
         }
     }
 
-    /// Returns the shape of the entries of a declaration. Returns `None` if it has `UNSHARED`
-    /// attributes or more, because some of them may be shared.
-    fn of(format: Format, declaration: &AbbreviationDeclaration) -> Option<NodeShape>
-        ensures { (memoized : List MemoizedAttribute) → IsShared memoized declaration.now.list
+    /// Returns the shape of the entries of a declaration, if their size is fixed.
+    fn of(declaration: &AbbreviationDeclaration, size: &Option<FixedSizeEntry>) -> Option<NodeShape>
+        ensures { (memoized : List MemoizedAttribute) (format : Format)
+            → IsShared memoized declaration.now.list
+            → size.now ≡ fixed_size_of format declaration.now.list.own
             → result ≡ shape_of format (full_declaration memoized declaration.now) }
     {
-        let attributes = declaration.list().own();
-        if attributes.len() >= UNSHARED {
-            return None;
-        }
-        let len = fixed_size(format, attributes)?;
+        let size = size.as_ref()?;
         Some(NodeShape {
             is_null: false,
             tag: declaration.tag(),
             children: declaration.children(),
-            len,
+            len: size.len(),
         })
     }
 }
 
 /// Computes the shapes of the codes from 0 up to the number of declarations, at most 127.
+/// `sizes` is parallel to the declarations.
 pub(crate) fn shapes(
     alloc: Global,
-    format: Format,
     table: &AbbreviationTable,
+    sizes: &[Option<FixedSizeEntry>],
 ) -> Result<Vec<Option<NodeShape>>, AllocError>
-    ensures { IfOk result (λ shapes.
-        AreShapes format table.now (shape_count table.now) shapes.items) }
+    ensures { IfOk result (λ shapes. (format : Format) → sizes.now ≡ sizes_of format table.now
+        → AreShapes format table.now (shape_count table.now) shapes.items) }
 {
     let mut shapes = Vec::new(alloc);
     for code in 0..table.declarations().len().min(CODE_LIMIT) + 1 {
-        shapes.push(shape_of_code(format, table, code as u64))?;
+        shapes.push(shape_of_code(table, sizes, code as u64))?;
     }
     Ok(shapes)
 }
 
 /// Returns the shape of the nodes with a code, if their size is fixed.
-fn shape_of_code(format: Format, table: &AbbreviationTable, code: u64) -> Option<NodeShape>
-    ensures { (memoized : List MemoizedAttribute) → AreShared memoized table.now
+fn shape_of_code(
+    table: &AbbreviationTable,
+    sizes: &[Option<FixedSizeEntry>],
+    code: u64,
+) -> Option<NodeShape>
+    ensures { (memoized : List MemoizedAttribute) (format : Format) → AreShared memoized table.now
+        → sizes.now ≡ sizes_of format table.now
         → result ≡ shape_of_code format (full_declarations memoized table.now) code }
 {
     if code == 0 {
@@ -87,19 +91,5 @@ fn shape_of_code(format: Format, table: &AbbreviationTable, code: u64) -> Option
     }
     let place = table.position(code)?;
     let declaration = table.declarations().get(place)?;
-    NodeShape::of(format, declaration)
-}
-
-/// Returns the size in bytes of a code of one byte and of attributes after it. Returns `None` if an
-/// attribute has no fixed size, or if the sum exceeds 65,535.
-fn fixed_size(format: Format, attributes: &[AttributeSpecification]) -> Option<u16>
-    ensures { result ≡ fixed_size_from format 1 attributes.now }
-{
-    let mut len = 1u16;
-    let mut left = attributes;
-    while let Some((specification, rest)) = left.split_first() {
-        len = len.checked_add(fixed_len(format, specification)?)?;
-        left = rest;
-    }
-    Some(len)
+    NodeShape::of(declaration, sizes.get(place)?)
 }

@@ -44,8 +44,8 @@ impl<'a> UnitTable<'a> {
         ensures { result
             ≡ option_map (head_in self.now) (declaration_of self.now.declarations code) }
     {
-        let (declaration, plan) = self.table.find(code)?;
-        Some(EntryHead::new(self.table.format(), declaration, plan, self.lists))
+        let found = self.table.find(code)?;
+        Some(EntryHead::new(self.table.format(), found, self.lists))
     }
 
     /// Returns the shape of the nodes with a one-byte code, if there is one.
@@ -77,7 +77,7 @@ impl<'a> UnitTable<'a> {
         }
         let code = *bytes.get(place)?;
         let shape = self.shape(code)?;
-        let after = place + usize::from(shape.len);
+        let after = place + 1 + usize::from(shape.len);
         if after > bytes.len() {
             return None;
         }

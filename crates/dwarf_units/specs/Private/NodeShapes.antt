@@ -1,37 +1,28 @@
 -- Nodes of a fixed size: null entries, and entries whose attributes all have a fixed size.
-use Rattle.std.specs.Prelude.{◌≡◌, ℕ, ◌+◌, min, List, [], ◌∷◌, length, true, false, ◌==◌}
-use Rattle.std.specs.Prelude.{◌||◌, nat_lt, nat_le, Option, Some, None, Ok, if◌then◌else◌}
+use Rattle.std.specs.Prelude.{◌≡◌, ℕ, ◌+◌, min, List, length, true, false, ◌==◌}
+use Rattle.std.specs.Prelude.{◌||◌, nat_lt, Option, Some, None, Ok, if◌then◌else◌}
 use Rattle.std.specs.Prelude.{option_and_then, option_map, slice_get}
 use Rattle.dwarf_bytes.specs.declared.format.Format.{Format}
-use Rattle.dwarf_forms.specs.declared.attribute.AttributeSpecification.{AttributeSpecification}
 use Rattle.dwarf_forms.specs.declared.memoized_lists.MemoizedAttribute.{MemoizedAttribute}
-use Rattle.dwarf_forms.specs.declared.shared.TheConstants.{UNSHARED}
 use Rattle.dwarf_forms.specs.Declarations.{Declaration}
 use Rattle.dwarf_forms.specs.Private.SharedTables.{AreShared, SharedDeclaration, full_declarations}
 use Rattle.dwarf_units.specs.declared.node_shape.NodeShape.{NodeShape}
 use Rattle.dwarf_units.specs.Entries.{Node, Entry, Null, declaration_of, depth_limit, node_at_depth}
-use Rattle.dwarf_units.specs.Private.Plans.{Table, fixed_len, skip_limit}
-
--- The sum of a size and the sizes of attributes, if they are fixed and no sum exceeds 65,535.
-unfoldable pub fixed_size_from : Format → ℕ → List AttributeSpecification → Option ℕ
-fixed_size_from format n [] = Some n
-fixed_size_from format n (s ∷ ss) =
-    option_and_then (λ m. if nat_le (n + m) skip_limit
-    then fixed_size_from format (n + m) ss else None) (fixed_len format s)
+use Rattle.dwarf_units.specs.Private.FixedSizes.{fixed_size_of}
+use Rattle.dwarf_units.specs.Private.Plans.{Table}
 
 -- The shape of a null entry.
 abbrev pub null_shape : NodeShape
-null_shape = record { is_null = true; tag = 0; children = false; len = 1 }
+null_shape = record { is_null = true; tag = 0; children = false; len = 0 }
 
--- The shape of the entries of a declaration that has too few attributes to share any.
+-- The shape of the entries of a declaration, if their size is fixed.
 abbrev pub shape_of : Format → Declaration → Option NodeShape
-shape_of format d = if nat_lt (length d.attributes) UNSHARED then
-    option_map (λ len. record {
-      is_null = false;
-      tag = d.tag;
-      children = d.children;
-      len = len;
-    }) (fixed_size_from format 1 d.attributes) else None
+shape_of format d = option_map (λ size. record {
+  is_null = false;
+  tag = d.tag;
+  children = d.children;
+  len = size.len;
+}) (fixed_size_of format d.attributes)
 
 -- The shape of the nodes with a code.
 abbrev pub shape_of_code : Format → List Declaration → ℕ → Option NodeShape
@@ -66,7 +57,7 @@ unfoldable pub fixed_size_node_at : Table → ℕ → List ℕ → ℕ → Optio
 fixed_size_node_at table depth unit at =
     if (depth == 0) || nat_lt depth_limit depth then None else
     option_and_then (λ code. option_and_then (λ shape.
-    if nat_lt (length unit) (at + shape.len) then None else Some (shape, at + shape.len))
+    if nat_lt (length unit) (at + 1 + shape.len) then None else Some (shape, at + 1 + shape.len))
     (shape_at table code)) (slice_get unit at)
 
 -- The node has this shape.

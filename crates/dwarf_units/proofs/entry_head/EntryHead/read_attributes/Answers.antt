@@ -1,8 +1,19 @@
-use Rattle.std.proofs.Common.{◌≤◌, length, ap, ◌∙◌, arith}
+use Rattle.std.proofs.Common.{◌≤◌, length, ap, sym, ◌∙◌, arith}
 use Rattle.std.proofs.lemmas.Result.{err_from_is_err_and}
 use Rattle.dwarf_forms.specs.Private.Memoized.{rest_attributes}
+use Rattle.dwarf_forms.specs.Private.Shared.{all_of}
+use Rattle.dwarf_units.proofs.FixedSizeEntries.{size-full}
 use Rattle.dwarf_units.proofs.PlanTurns.{own-fault, read-both}
 use Rattle.dwarf_units.proofs.entry_head.EntryHead.read_attributes.Goals as goal
+
+pub returns-in-Some : goal.returns-in-Some
+returns-in-Some c =
+    let inside = c.self.inside in
+    let list = inside.declaration.now.list in
+    let memoized = inside.lists.now.places.memoized in
+    rw (← c.self.view_is) (c.read.ensures (all_of memoized list)
+    (sym (size-full memoized inside.format list c.self.invariant.2)
+    ∙ sym c.self.invariant.1 ∙ c.in-Some.is))
 
 pub returns-in_err-read_steps : goal.returns-in_err-read_steps
 returns-in_err-read_steps c =
@@ -31,5 +42,5 @@ returns c =
     rw (← c.self.view_is)
     (read-both c.args.keep inside.format list.own
     (rest_attributes inside.lists.now.places.memoized list.rest) c.args.cursor.now
-    c.read_steps.new.cursor c.read.new.cursor c.read_steps.new.found c.read.new.found
-    c.read.result within own.0 own.1 (rw rest at c.read.ensures))
+    c.read_steps.new.cursor c.read-2.new.cursor c.read_steps.new.found c.read-2.new.found
+    c.read-2.result within own.0 own.1 (rw rest at c.read-2.ensures))

@@ -1,4 +1,10 @@
-use Rattle.std.proofs.Common.{arith, ◌∙◌}
+use Rattle.std.proofs.Common.{◌≡◌, arith, subst, ◌∙◌}
+use Rattle.std.specs.Prelude.{Ok}
+use Rattle.dwarf_bytes.specs.declared.fault.Section.TheVariants as sections
+use Rattle.dwarf_bytes.specs.Refusals.{in_section}
+use Rattle.dwarf_forms.specs.Tables.{declarations_of}
+use Rattle.dwarf_forms.specs.Private.SharedTables.{full_declarations}
+use Rattle.dwarf_units.specs.Private.Tables.{CachedTables}
 use Rattle.dwarf_units.proofs.StoreLaws.{is-added, is-new, limit-of, seen-grows, stored-grows}
 use Rattle.dwarf_units.proofs.tables.Tables.add.Goals as goal
 
@@ -70,6 +76,13 @@ returns-clause-ok c =
     c.args.left.now c.read.new.left c.in_ok-add_table.field-0 read.grows c.self.invariant
     c.self.view_is read.place read.decodes read.counted
     (c.in_ok-add_table.ensures.ok c.read.new.lists stored new)
+
+pub returns-clause-memoized : goal.returns-clause-memoized
+returns-clause-memoized c number table at is =
+    absurd (c.requires.fresh _ (subst (λ (k : CachedTables). in_section sections.DebugAbbrev
+    (declarations_of c.args.left.now k.section c.args.unit.now.abbreviations)
+    ≡ Ok (full_declarations c.read.new.lists.places.memoized c.in_ok-table.table.declarations))
+    c.self.view_is c.in_ok-table.ensures.decodes) number table at is)
 
 pub returns-clause-limit : goal.returns-clause-limit
 returns-clause-limit c =

@@ -1,0 +1,139 @@
+//! Where the used attributes of an entry are, if all of its attributes have a fixed size (DWARF 5,
+//! 7.5.3).
+
+ghost use Rattle.std.specs.Prelude.{◌≡◌};
+ghost use Rattle.dwarf_bytes.specs.Refusals.{ReadsField};
+ghost use Rattle.dwarf_units.specs.Private.FixedSizes.{attribute_in, constant_number, number_after};
+ghost use Rattle.dwarf_units.specs.Private.FixedSizes.{number_in, used_position, used_value};
+ghost use Rattle.dwarf_units.specs.Private.Names.{named_attribute};
+ghost use Rattle.dwarf_units.specs.Private.Plans.{number_at};
+
+use crate::attributes::{AttributeValue, number_of};
+use crate::used_name::UsedName;
+use dwarf_bytes::{Cause, Content, Cursor, Form, Format, ValueLayout, Width};
+use dwarf_forms::AttributeSpecification;
+
+/// The position of a used attribute.
+#[derive(Clone, Copy)]
+pub(crate) struct UsedPosition {
+    pub(crate) name: UsedName,
+    pub(crate) form: u64,
+    pub(crate) value: UsedValue,
+}
+
+/// Where the value of a used attribute is.
+#[derive(Clone, Copy)]
+pub(crate) enum UsedValue {
+    /// The declaration has the value (DW_FORM_implicit_const).
+    Constant(u64),
+    /// The entry has the value, at this number of bytes after the start of its first attribute.
+    At(u16, ValueLayout),
+}
+
+impl UsedPosition {
+    /// Returns the position of an attribute `offset` bytes after the first one, if it is used.
+    pub(crate) fn of(offset: u16, specification: &AttributeSpecification) -> Option<UsedPosition>
+        ensures { result ≡ used_position offset specification.now }
+    {
+        let name = UsedName::of(specification.name)?;
+        Some(UsedPosition {
+            name,
+            form: specification.form,
+            value: UsedValue::of(offset, specification),
+        })
+    }
+
+    /// Reads the value of the attribute in the entry whose first attribute is at the cursor.
+    // Inlined: called for each used attribute.
+    #[inline(always)]
+    pub(crate) fn read(&self, format: Format, first: &Cursor) -> AttributeValue
+        ensures { named_attribute self.now.name result
+            ≡ attribute_in format first.now.bytes first.now.place self.now }
+    {
+        AttributeValue {
+            form: self.form,
+            number: self.value.read(format, first),
+        }
+    }
+}
+
+impl UsedValue {
+    fn of(offset: u16, specification: &AttributeSpecification) -> UsedValue
+        ensures { result ≡ used_value offset specification.now }
+    {
+        match Form::of(specification.form) {
+            Some(Form::Direct(layout)) => UsedValue::At(offset, layout),
+            _ => UsedValue::Constant(constant_number(specification)),
+        }
+    }
+
+    // Inlined: called for each used attribute.
+    #[inline(always)]
+    fn read(self, format: Format, first: &Cursor) -> u64
+        ensures { result ≡ number_in format first.now.bytes first.now.place self }
+    {
+        match self {
+            UsedValue::Constant(number) => number,
+            UsedValue::At(offset, layout) => {
+                match read_after(offset, format, layout, &mut first.fork()) {
+                    Ok(number) => number,
+                    Err(_) => 0,
+                }
+            }
+        }
+    }
+}
+
+/// Returns the constant of an attribute as a number.
+fn constant_number(specification: &AttributeSpecification) -> u64
+    ensures { result ≡ constant_number specification.now }
+{
+    match specification.constant {
+        Some(constant) => number_of(Content::Signed(constant), 0),
+        None => 0,
+    }
+}
+
+/// Skips a number of bytes and reads the number after them.
+// Inlined: called for each used attribute.
+#[inline(always)]
+fn read_after(
+    offset: u16,
+    format: Format,
+    layout: ValueLayout,
+    cursor: &mut Cursor,
+) -> Result<u64, Cause>
+    ensures { ReadsField (λ n. n) result (number_after offset format layout)
+        cursor.old cursor.new }
+{
+    cursor.block(u64::from(offset))?;
+    read_number(format, layout, cursor)
+}
+
+/// Reads a value at the cursor as a number. The most common layouts have an arm of their own,
+/// because every used attribute of an entry of a fixed size is read here.
+// Inlined: called for each used attribute.
+#[inline(always)]
+#[tactic(auto, unfolding(dwarf_bytes::specs::Contents::content_at))]
+fn read_number(format: Format, layout: ValueLayout, cursor: &mut Cursor) -> Result<u64, Cause>
+    ensures { ReadsField (λ n. n) result (number_at format layout) cursor.old cursor.new }
+{
+    Ok(match layout {
+        ValueLayout::Offset => cursor.offset(format)?,
+        ValueLayout::Fixed(Width::One) => u64::from(cursor.u8()?),
+        ValueLayout::Fixed(Width::Two) => u64::from(cursor.u16()?),
+        ValueLayout::Fixed(Width::Four) => u64::from(cursor.u32()?),
+        ValueLayout::Fixed(Width::Eight) => cursor.u64()?,
+        _ => read_content(format, layout, cursor)?,
+    })
+}
+
+/// Reads a value at the cursor as a number, for the less common layouts.
+// Not inlined: it is rare, and its code would slow down the caller.
+#[inline(never)]
+fn read_content(format: Format, layout: ValueLayout, cursor: &mut Cursor) -> Result<u64, Cause>
+    ensures { ReadsField (λ n. n) result (number_at format layout) cursor.old cursor.new }
+{
+    let content = Content::read(layout, format, cursor)?;
+    Ok(number_of(content, cursor.place()))
+}
