@@ -9,7 +9,7 @@ use Rattle.std.proofs.lemmas.Option.{same_Some, slice_get_within, get_or_from_sl
 use Rattle.dwarf_bytes.specs.declared.format.Format.{Format}
 use Rattle.dwarf_units.specs.declared.numbers.Numbers.{Numbers}
 use Rattle.dwarf_units.specs.Private.Numbers.{number_at}
-use Rattle.dwarf_units.specs.Private.Plans.{Table, table_size}
+use Rattle.dwarf_units.specs.Private.AbbreviationTables.{Table, table_size}
 use Rattle.dwarf_units.specs.Private.Tables.{IsParsedFrom, IsAt, AreElsewhere, AreCached}
 use Rattle.dwarf_units.specs.Private.Tables.{CachedTables, with_table, size_limit}
 use Rattle.dwarf_bytes.specs.declared.fault.Section.TheVariants as sections

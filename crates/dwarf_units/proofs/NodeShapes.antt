@@ -1,17 +1,24 @@
 -- The precomputed shapes of nodes, and the nodes that have them.
 use Rattle.std.proofs.Common.{◌≡◌, ℕ, ◌+◌, ◌<◌, ◌≤◌, ◌⊎◌, inl, inr, List, [], ◌∷◌, ◌++◌, Bool, true}
 use Rattle.std.proofs.Common.{false, cond, length, length-append, refl, ap, sym, ◌∙◌, subst, arith}
-use Rattle.std.specs.Prelude.{Option, Some, Ok, nat_lt, ◌==◌}
+use Rattle.std.proofs.Common.{append-nil}
+use Rattle.std.specs.Prelude.{IfSome, ◌&&◌, Option, Some, None, Ok, nat_lt, ◌==◌}
 use Rattle.std.specs.Prelude.{drop, find, option_and_then, option_map, slice_get}
-use Rattle.std.proofs.lemmas.Bool.{le-ltb, ltb-true, ne_eqb}
-use Rattle.std.proofs.lemmas.List.{drop_more}
+use Rattle.std.proofs.lemmas.Bool.{le-ltb, leb-true, ltb-true, ne_eqb}
+use Rattle.std.proofs.lemmas.List.{drop_all, drop_more}
 use Rattle.std.proofs.lemmas.Option.{get_or_from_slice_get, option_and_then_some, same_Some}
 use Rattle.std.proofs.lemmas.Option.{slice_get_within}
 use Rattle.dwarf_bytes.specs.declared.format.Format.{Format}
+use Rattle.dwarf_bytes.specs.Bind.{◌>>=◌}
 use Rattle.dwarf_bytes.specs.Numbers.{uleb_at}
 use Rattle.dwarf_bytes.proofs.Numbers.LebEncodings.{uleb-again}
 use Rattle.dwarf_forms.specs.declared.memoized_lists.MemoizedAttribute.{MemoizedAttribute}
 use Rattle.dwarf_forms.specs.Declarations.{Declaration}
+use Rattle.dwarf_forms.specs.declared.attribute.AttributeSpecification.{AttributeSpecification}
+use Rattle.dwarf_forms.specs.declared.shared.TheConstants.{UNSHARED}
+use Rattle.dwarf_forms.specs.Private.Memoized.{rest_attributes}
+use Rattle.dwarf_forms.specs.Private.Shared.{IsShared}
+use Rattle.dwarf_units.specs.declared.attributes.Attribute.{Attribute}
 use Rattle.dwarf_forms.specs.Private.SharedTables.{AreShared, SharedDeclaration, full_declaration}
 use Rattle.dwarf_forms.specs.Private.SharedTables.{full_declarations}
 use Rattle.dwarf_forms.proofs.Elements.{at-last}
@@ -21,10 +28,11 @@ use Rattle.dwarf_units.specs.Entries.{depth_limit}
 use Rattle.dwarf_units.specs.Private.NodeShapes.{AreShapes, IsFixedSizeNode, code_limit}
 use Rattle.dwarf_units.specs.Private.NodeShapes.{null_shape, shape_at, shape_count}
 use Rattle.dwarf_units.specs.Private.NodeShapes.{shape_of, shape_of_code}
-use Rattle.dwarf_units.specs.Private.FixedSizes.{fixed_size_of}
-use Rattle.dwarf_units.specs.Private.Plans.{Table}
-use Rattle.dwarf_units.proofs.FixedSizeEntries.{have-size-of, map-some, test-some}
+use Rattle.dwarf_units.specs.Private.FixedSizes.{has_fixed_size, prefix_of}
+use Rattle.dwarf_units.specs.Private.AbbreviationTables.{Table}
+use Rattle.dwarf_units.proofs.FixedPrefixes.{prefix-whole}
 use Rattle.dwarf_units.proofs.SharedTableLaws.{found-full}
+use Rattle.dwarf_units.proofs.StoredReads.{with_front}
 
 -- ---- the shapes by code
 
@@ -76,6 +84,67 @@ one-byte bytes at code there small = uleb-again bytes at code (at + 1) (record {
   next_is = refl;
 })
 
+test-is : {A : Type 0} (b : Bool) (a x : A) → cond b (Some a) None ≡ Some x → (b ≡ true) × (a ≡ x)
+test-is true a x h = (refl, same_Some a x h)
+test-is false a x h = cc
+
+test-some : {A : Type 0} (b : Bool) (o : Option A) (x : A) → cond b o None ≡ Some x
+    → (b ≡ true) × (o ≡ Some x)
+test-some true o x h = (refl, h)
+test-some false o x h = cc
+
+-- Attributes that all have a fixed size are read as a prefix after which nothing is left.
+fixed-there : (format : Format) (declared : List AttributeSpecification) (bytes : List ℕ) (at : ℕ)
+    → has_fixed_size format declared ≡ true
+    → at + (prefix_of format declared).len ≤ length bytes → (all : List Attribute)
+    × (attributes_at format declared bytes at ≡ Ok (all, at + (prefix_of format declared).len))
+unfolding attributes_at
+fixed-there format declared bytes at fixed le =
+    let here = (prefix-whole format declared).there bytes at le in
+    let first : at + 0 ≡ at = omega arith in
+    let none : drop (prefix_of format declared).count declared ≡ [] =
+    drop_all (prefix_of format declared).count declared (leb-true (length declared)
+    (prefix_of format declared).count (second (nat_lt (length declared) UNSHARED) _ fixed)) in
+    let read : attributes_at format declared bytes at ≡ (attributes_at format
+    (drop (prefix_of format declared).count declared) bytes (at + (prefix_of format declared).len)
+    >>= with_front here.0) = rw first at here.2 in (
+      here.0 ++ [],
+      read ∙ ap (λ (l : List AttributeSpecification). attributes_at format l bytes
+          (at + (prefix_of format declared).len) >>= with_front here.0) none,
+    )
+  where
+    second : (a b : Bool) → (a && b) ≡ true → b ≡ true
+    second true b is = is
+    second false b is = cc
+
+-- Whether attributes have a fixed size depends on the unshared ones only.
+pub shape-own : (memoized : List MemoizedAttribute) (format : Format) (d : SharedDeclaration)
+    → IsShared memoized d.list → shape_of format (record {
+      code = d.code;
+      tag = d.tag;
+      children = d.children;
+      attributes = d.list.own;
+    }) ≡ shape_of format (full_declaration memoized d)
+shape-own memoized format d is = by_rest d.list.rest is.full
+  where
+    of_list : List AttributeSpecification → Declaration
+    of_list attributes =
+        record { code = d.code; tag = d.tag; children = d.children; attributes = attributes }
+
+    by_rest : (rest : Option ℕ) → IfSome rest (λ _. length d.list.own ≡ UNSHARED)
+        → shape_of format (of_list d.list.own)
+        ≡ shape_of format (of_list (d.list.own ++ rest_attributes memoized rest))
+    by_rest None full = ap (λ (l : List AttributeSpecification). shape_of format (of_list l))
+        (sym (append-nil d.list.own))
+    by_rest (Some number) full =
+        let rest : List AttributeSpecification = rest_attributes memoized (Some number) in
+        let own : nat_lt (length d.list.own) UNSHARED ≡ false =
+        le-ltb (length d.list.own) UNSHARED (omega (arith, full)) in
+        let all : nat_lt (length (d.list.own ++ rest)) UNSHARED ≡ false =
+        le-ltb (length (d.list.own ++ rest)) UNSHARED
+        (omega (arith, full, length-append d.list.own rest)) in
+        rw (own, all) refl
+
 pub shape-there : (table : Table) (depth code : ℕ) (unit : List ℕ) (at : ℕ) (shape : NodeShape)
     → shape_at table code ≡ Some shape → slice_get unit at ≡ Some code → 0 < depth
     → depth ≤ depth_limit → at + 1 + shape.len ≤ length unit
@@ -99,17 +168,15 @@ shape-there table depth code unit at shape is there below within fits =
         → declaration_of table.declarations code ≡ Some d
         → shape_of table.format d ≡ Some shape → IsThere shape
     by_found some d found h =
-        let sized = map-some _ (fixed_size_of table.format d.attributes) shape h in
-        let size : sized.0.len ≡ shape.len = ap (λ (x : NodeShape). x.len) sized.2 in
-        let read = (have-size-of table.format d.attributes sized.0 sized.1).there unit (at + 1)
+        let fixed = test-is (has_fixed_size table.format d.attributes) _ shape h in
+        let size : (prefix_of table.format d.attributes).len ≡ shape.len =
+        ap (λ (x : NodeShape). x.len) fixed.1 in
+        let read = fixed-there table.format d.attributes unit (at + 1) fixed.0
         (omega (arith, size, fits)) in
-        let first : at + 1 + 0 ≡ at + 1 = omega arith in
-        let attributes : attributes_at table.format d.attributes unit (at + 1)
-        ≡ Ok (read.0, at + 1 + sized.0.len) = rw first at read.1 in
         let deeper : (depth == 0) ≡ false = ne_eqb depth 0 (λ e. absurd (omega (arith, e, below)))
-        in subst IsThere sized.2 (
+        in subst IsThere fixed.1 (
           Entry d.tag d.children read.0,
-          rw (coded, some, found, deeper, le-ltb depth_limit depth within, attributes) refl,
+          rw (coded, some, found, deeper, le-ltb depth_limit depth within, read.1) refl,
           (refl, refl, refl),
         )
 

@@ -9,7 +9,7 @@ use Rattle.std.proofs.lemmas.List.{get_or-take, take_more, length-take}
 use Rattle.std.proofs.lemmas.List.Elements.{All-append, All-cons, All-nil}
 use Rattle.std.proofs.lemmas.List.Sums.{sum_by_push, sum_by-append}
 use Rattle.dwarf_units.specs.declared.unit_headers.UnitHeader.{UnitHeader}
-use Rattle.dwarf_units.specs.Private.Plans.{Table, table_size}
+use Rattle.dwarf_units.specs.Private.AbbreviationTables.{Table, table_size}
 use Rattle.dwarf_units.specs.Private.Tables.{IsAdded, IsParsedFrom, IsAt, CachedTables}
 use Rattle.dwarf_units.specs.Private.Tables.{IsCachedOrTooLarge, with_table, size_limit}
 use Rattle.dwarf_units.specs.Units.{declarations_limit}

@@ -1,6 +1,7 @@
 -- Tables whose declarations share attributes, compared with tables whose declarations have all
 -- attributes.
-use Rattle.std.proofs.Common.{◌≡◌, ℕ, suc, ◌+◌, List, [], ◌∷◌, ◌++◌, length, take, refl, ap, sym}
+use Rattle.std.proofs.Common.{◌≡◌, ℕ, suc, ◌+◌, ◌*◌, List, [], ◌∷◌, ◌++◌, length, take, refl, ap}
+use Rattle.std.proofs.Common.{sym}
 use Rattle.std.proofs.Common.{◌∙◌, subst, arith, append-nil, cond}
 use Rattle.std.specs.Prelude.{Bool, true, false, ◌==◌, Option, Some, None, IfSome, map, find}
 use Rattle.std.specs.Prelude.{option_map, slice_get, sum_by}
@@ -13,16 +14,15 @@ use Rattle.dwarf_forms.specs.declared.attribute.AttributeSpecification.{Attribut
 use Rattle.dwarf_forms.specs.declared.memoized_lists.MemoizedAttribute.{MemoizedAttribute}
 use Rattle.dwarf_forms.specs.declared.shared.TheConstants.{UNSHARED}
 use Rattle.dwarf_forms.specs.Declarations.{Declaration}
-use Rattle.dwarf_forms.specs.Private.Memoized.{rest_attributes}
+use Rattle.dwarf_forms.specs.Private.Memoized.{Grows, rest_attributes}
 use Rattle.dwarf_forms.specs.Private.Shared.{IsShared, SharedAttributes, all_of}
 use Rattle.dwarf_forms.specs.Private.SharedTables.{AreShared, SharedDeclaration, full_declarations}
 use Rattle.dwarf_forms.specs.Private.SharedTables.{full_declaration}
 use Rattle.dwarf_forms.proofs.SharedTableLaws.{resolved-grows, resolved-stays}
 use Rattle.dwarf_units.specs.Entries.{declaration_of}
 use Rattle.dwarf_units.specs.Private.Heads.{Head, head_in}
-use Rattle.dwarf_units.specs.Private.Links.{IsLinked, LinkedPlaces, LinksGrow}
-use Rattle.dwarf_units.specs.Private.Plans.{Planned, Table, own_attributes, plan_len, plan_of}
-use Rattle.dwarf_units.specs.Private.Plans.{table_size}
+use Rattle.dwarf_units.specs.Private.Links.{LinkedPlaces}
+use Rattle.dwarf_units.specs.Private.AbbreviationTables.{Table, own_attributes, table_size}
 use Rattle.dwarf_units.specs.Private.SharedTables.{IsReadable, SharedTable, own_size, full_table}
 use Rattle.dwarf_units.specs.Private.SharedTables.{full_tables}
 
@@ -88,27 +88,16 @@ all-found P p (y ∷ ys) x all is = by_test
 
 -- ---- the size of a table
 
--- The size is computed from the declarations and plans.
-pub size-sum : (inner table : SharedTable) (ds : List SharedDeclaration) (plans : List Planned)
-    (len attributes steps : ℕ) → inner ≡ table → ds ≡ inner.declarations
-    → plans ≡ map (λ d. plan_of inner.format d.list.own) inner.declarations
-    → len ≡ length table.declarations → attributes ≡ sum_by (λ d. length d.list.own) ds
-    → steps ≡ sum_by plan_len plans → len + attributes + steps ≡ own_size table
-size-sum inner table ds plans len attributes steps view same declaration_and_plan len_is
-    attributes_are
-    steps_are =
+-- The size is computed from the declarations.
+pub size-sum : (inner table : SharedTable) (ds : List SharedDeclaration) (len attributes : ℕ)
+    → inner ≡ table → ds ≡ inner.declarations → len ≡ length table.declarations
+    → attributes ≡ sum_by (λ d. length d.list.own) ds → len + 2 * attributes ≡ own_size table
+size-sum inner table ds len attributes view same len_is attributes_are =
     let a : attributes ≡ sum_by (λ (d : SharedDeclaration). length d.list.own) table.declarations =
     attributes_are ∙ ap (λ (xs : List SharedDeclaration). sum_by
     (λ (d : SharedDeclaration). length d.list.own) xs)
     (same ∙ ap (λ (t : SharedTable). t.declarations) view) in
-    let s : steps ≡ sum_by (λ (d : SharedDeclaration). plan_len (plan_of table.format d.list.own))
-    table.declarations =
-    steps_are ∙ (ap (λ (ps : List Planned). sum_by plan_len ps) declaration_and_plan
-    ∙ (fold-map (λ (a : ℕ) (p : Planned). a + plan_len p)
-    (λ (d : SharedDeclaration). plan_of inner.format d.list.own) 0 inner.declarations
-    ∙ ap (λ (t : SharedTable). sum_by (λ (d : SharedDeclaration). plan_len
-    (plan_of t.format d.list.own)) t.declarations) view)) in
-    omega (arith, len_is, a, s)
+    omega (arith, len_is, a)
 
 -- The unshared attributes of a declaration are the first ones of all.
 own-first : (memoized : List MemoizedAttribute) (list : SharedAttributes) → IsShared memoized list
@@ -135,50 +124,42 @@ own-lists memoized (d ∷ ds) are =
     rw (first, rest) refl
 
 own-sum : (memoized : List MemoizedAttribute) (ds : List SharedDeclaration)
-    (size : List AttributeSpecification → ℕ) → AreShared memoized ds
-    → sum_by (λ d. size (own_attributes d)) (full_declarations memoized ds)
-    ≡ sum_by (λ d. size d.list.own) ds
-own-sum memoized ds size are =
-    sym (fold-map (λ (a : ℕ) (l : List AttributeSpecification). a + size l) own_attributes 0
+    → AreShared memoized ds
+    → sum_by (λ d. length (own_attributes d)) (full_declarations memoized ds)
+    ≡ sum_by (λ d. length d.list.own) ds
+own-sum memoized ds are =
+    sym (fold-map (λ (a : ℕ) (l : List AttributeSpecification). a + length l) own_attributes 0
     (full_declarations memoized ds))
-    ∙ (ap (λ (ls : List (List AttributeSpecification)). sum_by size ls) (own-lists memoized ds are)
-    ∙ fold-map (λ (a : ℕ) (l : List AttributeSpecification). a + size l)
+    ∙ (ap (λ (ls : List (List AttributeSpecification)). sum_by length ls)
+    (own-lists memoized ds are)
+    ∙ fold-map (λ (a : ℕ) (l : List AttributeSpecification). a + length l)
     (λ (d : SharedDeclaration). d.list.own) 0 ds)
 
 pub own_size-is : (memoized : List MemoizedAttribute) (table : SharedTable)
     → AreShared memoized table.declarations → own_size table
     ≡ table_size (full_table memoized table)
-own_size-is memoized table are =
-    omega (
-      arith,
-      length-map table.declarations (full_declaration memoized),
-      own-sum memoized table.declarations
-          length are,
-      own-sum memoized table.declarations (λ l. plan_len (plan_of table.format l)) are,
-    )
+own_size-is memoized table are = omega (
+  arith,
+  length-map table.declarations (full_declaration memoized),
+  own-sum memoized table.declarations are,
+)
 
 -- ---- more attributes are memoized
 
-pub readable-grows : (old new : LinkedPlaces) (table : SharedTable) → LinksGrow old new
+pub readable-grows : (old new : LinkedPlaces) (table : SharedTable) → Grows old.places new.places
     → IsReadable old table → IsReadable new table
-readable-grows old new table grows is = record {
-  resolved = resolved-grows old.places new.places table.declarations grows.places is.resolved;
-  linked = λ k d lt. by_rest _ (is.linked k d lt);
-}
-  where
-    by_rest : (rest : Option ℕ) → IsLinked old table.format rest → IsLinked new table.format rest
-    by_rest None is = tt
-    by_rest (Some number) is = omega (arith, is, grows.linked table.format)
+readable-grows old new table grows is =
+    resolved-grows old.places new.places table.declarations grows is
 
-pub table-stays : (old new : LinkedPlaces) (table : SharedTable) → LinksGrow old new
+pub table-stays : (old new : LinkedPlaces) (table : SharedTable) → Grows old.places new.places
     → IsReadable old table → full_table new.places.memoized table
     ≡ full_table old.places.memoized table
 table-stays old new table grows is =
     ap (λ (ds : List Declaration). let t : Table =
     record { offset = table.offset; format = table.format; declarations = ds } in t)
-    (resolved-stays old.places new.places table.declarations grows.places is.resolved)
+    (resolved-stays old.places new.places table.declarations grows is)
 
-pub tables-stay : (old new : LinkedPlaces) (tables : List SharedTable) → LinksGrow old new
+pub tables-stay : (old new : LinkedPlaces) (tables : List SharedTable) → Grows old.places new.places
     → All (IsReadable old) tables → full_tables new.places.memoized tables
     ≡ full_tables old.places.memoized tables
 tables-stay old new [] grows are = refl

@@ -1,5 +1,6 @@
 -- The cached tables as tables with all attributes, given the memoized attributes.
-use Rattle.std.proofs.Common.{◌≡◌, ℕ, ◌+◌, ◌≤◌, List, [], ◌∷◌, ◌++◌, length, take, refl, ap, sym}
+use Rattle.std.proofs.Common.{◌≡◌, ℕ, ◌+◌, ◌≤◌, List, [], ◌∷◌, ◌++◌, get_or, length, take, refl, ap}
+use Rattle.std.proofs.Common.{sym}
 use Rattle.std.proofs.Common.{◌∙◌, subst, arith}
 use Rattle.std.specs.Prelude.{Some, Ok, slice_get}
 use Rattle.std.specs.List.{All}
@@ -11,12 +12,13 @@ use Rattle.dwarf_bytes.specs.Refusals.{in_section}
 use Rattle.dwarf_forms.specs.declared.memoized_lists.MemoizedAttribute.{MemoizedAttribute}
 use Rattle.dwarf_forms.specs.Declarations.{Declaration}
 use Rattle.dwarf_forms.specs.Tables.{declarations_of}
+use Rattle.dwarf_forms.specs.Private.Memoized.{Grows}
 use Rattle.dwarf_forms.specs.Private.SharedTables.{SharedDeclaration, full_declarations}
 use Rattle.dwarf_forms.specs.Private.SharedTables.{full_declaration}
 use Rattle.dwarf_units.specs.declared.table_store.TableStore.{TableStore}
 use Rattle.dwarf_units.specs.Units.{declarations_limit}
-use Rattle.dwarf_units.specs.Private.Links.{LinkedPlaces, LinksGrow}
-use Rattle.dwarf_units.specs.Private.Plans.{Table}
+use Rattle.dwarf_units.specs.Private.Links.{LinkedPlaces}
+use Rattle.dwarf_units.specs.Private.AbbreviationTables.{Table}
 use Rattle.dwarf_units.specs.Private.SharedTables.{IsReadable, SharedTable, full_table, full_tables}
 use Rattle.dwarf_units.specs.Private.Tables.{AreElsewhere, AreCached, AreStored, IsAdded, IsNew}
 use Rattle.dwarf_units.specs.Private.Tables.{IsWithinLimit, CachedTables, IsParsedFrom, seen}
@@ -72,15 +74,15 @@ readable-more lists tables after permanent table all one is =
 
 -- ---- more attributes are memoized
 
-pub seen-grows : (old new : LinkedPlaces) (store : TableStore) → LinksGrow old new
+pub seen-grows : (old new : LinkedPlaces) (store : TableStore) → Grows old.places new.places
     → AreStored old store → seen new store ≡ seen old store
 seen-grows old new store grows are =
     let tables : full_tables new.places.memoized store.tables.items
     ≡ full_tables old.places.memoized
     store.tables.items = tables-stay old new store.tables.items grows are.readable in
-    rw (grows.places.section, tables) refl
+    rw (grows.section, tables) refl
 
-pub stored-grows : (old new : LinkedPlaces) (store : TableStore) → LinksGrow old new
+pub stored-grows : (old new : LinkedPlaces) (store : TableStore) → Grows old.places new.places
     → AreStored old store → AreStored new store
 stored-grows old new store grows are =
     let tables : full_tables old.places.memoized store.tables.items
@@ -89,10 +91,11 @@ stored-grows old new store grows are =
     record {
       permanent =
           subst (λ (s : List ℕ). AreCached s (full_tables new.places.memoized store.tables.items)
-          store.permanent store.budget store.numbers) (sym grows.places.section)
+          store.permanent store.budget store.numbers) (sym grows.section)
           (subst (λ (ts : List Table). AreCached old.places.section ts store.permanent store.budget
           store.numbers) tables are.permanent);
-      readable = λ k d lt. readable-grows old new _ grows (are.readable k d lt);
+      readable = λ k d lt. readable-grows old new (get_or store.tables.items k d) grows
+          (are.readable k d lt);
     }
 
 -- ---- a table that is parsed
@@ -100,7 +103,7 @@ stored-grows old new store grows are =
 -- The table may be cached.
 pub is-new : (old new : LinkedPlaces) (store : TableStore) (view : CachedTables)
     (table : SharedTable)
-    (format : Format) (offset left : ℕ) → LinksGrow old new → AreStored old store
+    (format : Format) (offset left : ℕ) → Grows old.places new.places → AreStored old store
     → seen old store ≡ view → IsReadable new table
     → (table.offset ≡ offset) × (table.format ≡ format)
     → in_section sections.DebugAbbrev (declarations_of left old.places.section offset)
@@ -122,7 +125,7 @@ is-new old new store view table format offset left grows are same readable at re
     ap (λ (k : CachedTables). k.tables) (sym same ∙ sym (seen-grows old new store grows are)) in
     record {
       readable = readable;
-      parsed = subst (λ (s : List ℕ). IsParsedFrom s resolved) (sym grows.places.section) parsed;
+      parsed = subst (λ (s : List ℕ). IsParsedFrom s resolved) (sym grows.section) parsed;
       fresh = subst (λ (ts : List Table). AreElsewhere table.format table.offset ts) tables
           (elsewhere-as resolved format offset view.tables at.0 at.1
           (fresh resolved.declarations here));
@@ -133,8 +136,8 @@ is-new old new store view table format offset left grows are same readable at re
 
 -- The table was added.
 pub is-added : (old new : LinkedPlaces) (store now : TableStore) (view : CachedTables)
-    (table : SharedTable) (format : Format) (offset budget left number : ℕ) → LinksGrow old new
-    → AreStored old store → seen old store ≡ view
+    (table : SharedTable) (format : Format) (offset budget left number : ℕ)
+    → Grows old.places new.places → AreStored old store → seen old store ≡ view
     → (table.offset ≡ offset) × (table.format ≡ format)
     → in_section sections.DebugAbbrev (declarations_of budget old.places.section offset)
     ≡ Ok (full_declarations new.places.memoized table.declarations)

@@ -11,7 +11,7 @@ use Rattle.dwarf_bytes.specs.declared.format.Format.{Format}
 use Rattle.dwarf_bytes.specs.declared.format.Format.TheVariants.{Dwarf32, Dwarf64}
 use Rattle.dwarf_units.specs.declared.numbers.Numbers.{Numbers}
 use Rattle.dwarf_units.specs.Private.Numbers.{number_at, with_number}
-use Rattle.dwarf_units.specs.Private.Plans.{Table, table_size}
+use Rattle.dwarf_units.specs.Private.AbbreviationTables.{Table, table_size}
 use Rattle.dwarf_units.specs.Private.Tables.{IsParsedFrom, AreElsewhere, AreCached}
 use Rattle.dwarf_units.proofs.TableLaws.{parsed-before, parsed-after, last-at}
 

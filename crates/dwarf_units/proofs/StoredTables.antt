@@ -18,7 +18,7 @@ use Rattle.dwarf_units.specs.declared.table_store.TableStore.{TableStore}
 use Rattle.dwarf_units.specs.declared.unit_headers.UnitHeader.{UnitHeader}
 use Rattle.dwarf_units.specs.Units.{declarations_limit}
 use Rattle.dwarf_units.specs.Private.Links.{LinkedPlaces}
-use Rattle.dwarf_units.specs.Private.Plans.{Table, table_size}
+use Rattle.dwarf_units.specs.Private.AbbreviationTables.{Table, table_size}
 use Rattle.dwarf_units.specs.Private.SharedTables.{IsReadable, SharedTable, full_table, full_tables}
 use Rattle.dwarf_units.specs.Private.Tables.{AreStored, IsAt, CachedTables, IsParsedFrom}
 use Rattle.dwarf_units.specs.Private.Tables.{IsCachedOrTooLarge, seen, size_limit}

@@ -21,7 +21,7 @@ use Rattle.dwarf_bytes.specs.Bind.{◌>>=◌}
 use Rattle.dwarf_forms.specs.Tables.{table_at, declarations_of}
 use Rattle.dwarf_forms.proofs.EncodedTables.{table-encoded, table_read}
 use Rattle.dwarf_units.specs.declared.unit_headers.UnitHeader.{UnitHeader}
-use Rattle.dwarf_units.specs.Private.Plans.{Table}
+use Rattle.dwarf_units.specs.Private.AbbreviationTables.{Table}
 use Rattle.dwarf_units.specs.Private.Tables.{IsParsedFrom}
 use Rattle.dwarf_units.specs.Units.{declarations_limit, tables_of}
 

@@ -1,4 +1,5 @@
-pub mod Plans
+pub mod AbbreviationTables
+pub mod StoredAttributes
 pub mod Links
 pub mod SharedTables
 pub mod Heads

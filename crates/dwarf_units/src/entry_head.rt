@@ -3,18 +3,16 @@
 ghost use Rattle.std.specs.Prelude.{◌≡◌, ◌≤◌, IsSome, IfOk};
 ghost use Rattle.dwarf_bytes.specs.Refusals.{ReadsField};
 ghost use Rattle.dwarf_forms.specs.Private.SharedTables.{full_declaration};
-ghost use Rattle.dwarf_forms.specs.Private.Shared.{IsShared};
+ghost use Rattle.dwarf_forms.specs.Private.Memoized.{IsMemoized};
 ghost use Rattle.dwarf_units.specs.Entries.{depth_limit};
-ghost use Rattle.dwarf_units.specs.Private.FixedSizes.{fixed_size_of};
+ghost use Rattle.dwarf_units.specs.Private.FixedSizes.{prefix_of};
 ghost use Rattle.dwarf_units.specs.Private.Heads.{head_at, used_entry_at, ReturnsAndFills};
-ghost use Rattle.dwarf_units.specs.Private.Links.{IsLinked};
-ghost use Rattle.dwarf_units.specs.Private.Plans.{plan_of, Fills};
+ghost use Rattle.dwarf_units.specs.Private.StoredAttributes.{Fills};
 ghost use Rattle.dwarf_units.specs.Private.Used.{used_attributes_at};
 
-use crate::cached_table::FoundDeclaration;
-use crate::fixed_size_entry::FixedSizeEntry;
+use crate::attribute_reader::read_each;
+use crate::fixed_prefix::FixedPrefix;
 use crate::linked_lists::LinkedLists;
-use crate::plans::{Plan, read_steps};
 use crate::unit_table::UnitTable;
 use crate::used_attributes::UsedAttributes;
 use dwarf_bytes::{Cause, Cursor, Format};
@@ -24,27 +22,22 @@ use std::marker::Model;
 /// The maximum depth of an entry. The root of a unit has depth 0.
 pub(crate) const DEPTH_LIMIT: u32 = 256;
 
-/// The declaration of an entry in a unit of a given format, and the decode plan for its
-/// attributes.
+/// The declaration of an entry in a unit of a given format.
 #[derive(Drop)]
 pub struct EntryHead<'a> {
     format: Format,
     declaration: &'a AbbreviationDeclaration,
-    /// The decode plan of the attributes that the declaration does not share.
-    plan: &'a Plan,
-    /// The size of the entries of the declaration, if it is fixed.
-    fixed_size: &'a Option<FixedSizeEntry>,
+    /// The prefix of the attributes that the declaration does not share.
+    prefix: &'a FixedPrefix,
     lists: &'a LinkedLists<'a>,
 }
 
 impl<'a> Model for EntryHead<'a> {
     ghost use Rattle.std.specs.Prelude.{◌≡◌};
     ghost use Rattle.dwarf_forms.specs.Private.SharedTables.{full_declaration};
-    ghost use Rattle.dwarf_forms.specs.Private.Shared.{IsShared};
-    ghost use Rattle.dwarf_units.specs.Private.FixedSizes.{fixed_size_of};
+    ghost use Rattle.dwarf_forms.specs.Private.Memoized.{IsMemoized};
+    ghost use Rattle.dwarf_units.specs.Private.FixedSizes.{prefix_of};
     ghost use Rattle.dwarf_units.specs.Private.Heads.{Head};
-    ghost use Rattle.dwarf_units.specs.Private.Links.{IsLinked};
-    ghost use Rattle.dwarf_units.specs.Private.Plans.{plan_of};
 
     ghost Value = { Head };
 
@@ -53,10 +46,8 @@ impl<'a> Model for EntryHead<'a> {
       declaration = full_declaration h.lists.now.places.memoized h.declaration.now;
     } };
 
-    ghost invariant = { λ h. (h.plan.now ≡ plan_of h.format h.declaration.now.list.own)
-        × (h.fixed_size.now ≡ fixed_size_of h.format h.declaration.now.list.own)
-        × IsShared h.lists.now.places.memoized h.declaration.now.list
-        × IsLinked h.lists.now h.format h.declaration.now.list.rest };
+    ghost invariant = { λ h. (h.prefix.now ≡ prefix_of h.format h.declaration.now.list.own)
+        × IsMemoized h.lists.now.places.memoized h.declaration.now.list.rest };
 }
 
 impl UnitTable<'_> {
@@ -105,24 +96,21 @@ impl UnitTable<'_> {
 impl<'a> EntryHead<'a> {
     pub(crate) fn new(
         format: Format,
-        found: FoundDeclaration<'a>,
+        declaration: &'a AbbreviationDeclaration,
+        prefix: &'a FixedPrefix,
         lists: &'a LinkedLists<'a>,
     ) -> EntryHead<'a>
-        requires plan { found.plan.now ≡ plan_of format found.declaration.now.list.own }
-        requires fixed_size { found.fixed_size.now
-            ≡ fixed_size_of format found.declaration.now.list.own }
-        requires shared { IsShared lists.now.places.memoized found.declaration.now.list }
-        requires linked { IsLinked lists.now format found.declaration.now.list.rest }
+        requires prefix { prefix.now ≡ prefix_of format declaration.now.list.own }
+        requires memoized { IsMemoized lists.now.places.memoized declaration.now.list.rest }
         ensures { result ≡ record {
           format = format;
-          declaration = full_declaration lists.now.places.memoized found.entry.declaration.now;
+          declaration = full_declaration lists.now.places.memoized declaration.now;
         } }
     {
         EntryHead {
             format,
-            declaration: found.declaration,
-            plan: found.plan,
-            fixed_size: found.fixed_size,
+            declaration,
+            prefix,
             lists,
         }
     }
@@ -153,14 +141,13 @@ impl<'a> EntryHead<'a> {
         ensures { Fills result found.new (used_attributes_at keep self.now.format
             self.now.declaration.attributes) cursor.old cursor.new }
     {
-        if let Some(entry) = self.fixed_size {
-            return entry.read(keep, self.format, cursor, found);
-        }
         // The contract of `place` is needed: the offset is within the bytes or at their end.
         let _ = cursor.place();
-        found.clear();
-        read_steps(self.format, self.plan.steps(keep), cursor, found)?;
-        let rest = self.declaration.list().rest();
-        self.lists.read(keep, self.format, rest, cursor, found)
+        self.prefix.read(keep, self.format, cursor, found)?;
+        let list = self.declaration.list();
+        let rest = self.prefix.rest(list.own());
+        read_each(keep, self.format, rest, cursor, found)?;
+        self.lists
+            .read(keep, self.format, list.rest(), cursor, found)
     }
 }

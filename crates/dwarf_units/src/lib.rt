@@ -2,18 +2,16 @@
 //! 5, chapter 7.5).
 #![tactic(auto)]
 
+mod attribute_reader;
 mod attributes;
 mod cached_table;
 mod entry_head;
-mod fixed_size_entry;
+mod fixed_prefix;
+mod fixed_sizes;
 pub mod laws;
 mod linked_lists;
 mod node_shape;
 mod numbers;
-mod plans;
-mod shared_suffixes;
-mod step_readers;
-mod steps;
 mod table_store;
 mod tables;
 mod unit_headers;

@@ -7,12 +7,12 @@ ghost use Rattle.dwarf_forms.specs.Private.Shared.{IsShared};
 ghost use Rattle.dwarf_forms.specs.Private.SharedTables.{AreShared, full_declaration};
 ghost use Rattle.dwarf_forms.specs.Private.SharedTables.{full_declarations};
 ghost use Rattle.dwarf_bytes.specs.declared.format.Format.{Format};
-ghost use Rattle.dwarf_units.specs.Private.FixedSizes.{fixed_size_of, sizes_of};
+ghost use Rattle.dwarf_units.specs.Private.FixedSizes.{prefix_of, prefixes_of};
 ghost use Rattle.dwarf_units.specs.Private.NodeShapes.{AreShapes, null_shape};
 ghost use Rattle.dwarf_units.specs.Private.NodeShapes.{shape_of, shape_of_code, shape_count};
 
-use crate::fixed_size_entry::FixedSizeEntry;
-use dwarf_forms::{AbbreviationDeclaration, AbbreviationTable};
+use crate::fixed_prefix::FixedPrefix;
+use dwarf_forms::{AbbreviationDeclaration, AbbreviationTable, UNSHARED};
 use std::alloc::{AllocError, Global};
 
 /// The greatest abbreviation code that is encoded in one byte.
@@ -43,35 +43,38 @@ impl NodeShape {
     }
 
     /// Returns the shape of the entries of a declaration, if their size is fixed.
-    fn of(declaration: &AbbreviationDeclaration, size: &Option<FixedSizeEntry>) -> Option<NodeShape>
+    fn of(declaration: &AbbreviationDeclaration, prefix: &FixedPrefix) -> Option<NodeShape>
         ensures { (memoized : List MemoizedAttribute) (format : Format)
             → IsShared memoized declaration.now.list
-            → size.now ≡ fixed_size_of format declaration.now.list.own
+            → prefix.now ≡ prefix_of format declaration.now.list.own
             → result ≡ shape_of format (full_declaration memoized declaration.now) }
     {
-        let size = size.as_ref()?;
+        let attributes = declaration.list().own().len();
+        if attributes >= UNSHARED || attributes > prefix.count() {
+            return None;
+        }
         Some(NodeShape {
             is_null: false,
             tag: declaration.tag(),
             children: declaration.children(),
-            len: size.len(),
+            len: prefix.len(),
         })
     }
 }
 
 /// Computes the shapes of the codes from 0 up to the number of declarations, at most 127.
-/// `sizes` is parallel to the declarations.
+/// `prefixes` is parallel to the declarations.
 pub(crate) fn shapes(
     alloc: Global,
     table: &AbbreviationTable,
-    sizes: &[Option<FixedSizeEntry>],
+    prefixes: &[FixedPrefix],
 ) -> Result<Vec<Option<NodeShape>>, AllocError>
-    ensures { IfOk result (λ shapes. (format : Format) → sizes.now ≡ sizes_of format table.now
+    ensures { IfOk result (λ shapes. (format : Format) → prefixes.now ≡ prefixes_of format table.now
         → AreShapes format table.now (shape_count table.now) shapes.items) }
 {
     let mut shapes = Vec::new(alloc);
     for code in 0..table.declarations().len().min(CODE_LIMIT) + 1 {
-        shapes.push(shape_of_code(table, sizes, code as u64))?;
+        shapes.push(shape_of_code(table, prefixes, code as u64))?;
     }
     Ok(shapes)
 }
@@ -79,11 +82,11 @@ pub(crate) fn shapes(
 /// Returns the shape of the nodes with a code, if their size is fixed.
 fn shape_of_code(
     table: &AbbreviationTable,
-    sizes: &[Option<FixedSizeEntry>],
+    prefixes: &[FixedPrefix],
     code: u64,
 ) -> Option<NodeShape>
     ensures { (memoized : List MemoizedAttribute) (format : Format) → AreShared memoized table.now
-        → sizes.now ≡ sizes_of format table.now
+        → prefixes.now ≡ prefixes_of format table.now
         → result ≡ shape_of_code format (full_declarations memoized table.now) code }
 {
     if code == 0 {
@@ -91,5 +94,5 @@ fn shape_of_code(
     }
     let place = table.position(code)?;
     let declaration = table.declarations().get(place)?;
-    NodeShape::of(declaration, sizes.get(place)?)
+    NodeShape::of(declaration, prefixes.get(place)?)
 }

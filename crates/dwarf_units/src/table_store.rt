@@ -21,7 +21,7 @@ pub(crate) struct TableStore {
     pub(crate) tables: Vec<CachedTable>,
     /// The number of tables that are cached permanently. A table after them is temporary.
     pub(crate) permanent: usize,
-    /// The remaining budget: the number of declarations, attributes and steps that can still be
+    /// The remaining budget: the number of declarations, attributes and positions that can still be
     /// cached.
     pub(crate) budget: u128,
     pub(crate) numbers: Numbers,

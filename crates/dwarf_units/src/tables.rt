@@ -7,7 +7,7 @@ ghost use Rattle.dwarf_bytes.specs.declared.fault.Section.TheVariants as section
 ghost use Rattle.dwarf_bytes.specs.Refusals.{in_section};
 ghost use Rattle.dwarf_forms.specs.Declarations.{Declaration};
 ghost use Rattle.dwarf_units.specs.Units.{declarations_limit, tables_of};
-ghost use Rattle.dwarf_units.specs.Private.Plans.{Table};
+ghost use Rattle.dwarf_units.specs.Private.AbbreviationTables.{Table};
 ghost use Rattle.dwarf_units.specs.Private.Tables.{AreElsewhere, IsAdded, IsAt, IsNumberOf};
 ghost use Rattle.dwarf_units.specs.Private.Tables.{IsWithinLimit, Refuses, IsCachedOrTooLarge};
 ghost use Rattle.dwarf_units.specs.Private.Tables.{table_read, with_table};
@@ -24,7 +24,7 @@ use std::marker::Model;
 /// The maximum number of declarations that are read for all units of an object.
 const DECLARATIONS_LIMIT: u64 = 4_194_304;
 
-/// The abbreviation tables that the units of an object use, with their decode plans.
+/// The abbreviation tables that the units of an object use, with the positions of their attributes.
 #[derive(Drop)]
 pub struct Tables<'a> {
     lists: LinkedLists<'a>,
@@ -46,7 +46,7 @@ impl<'a> Tables<'a> {
     /// is reported at the offset of its declaration. Memory is bounded. Attributes after the first
     /// ones of their list are stored once for each offset of the section. All tables that are
     /// cached permanently have at most 3 × the section size + 65,536 declarations, first
-    /// attributes and plan steps.
+    /// attributes and positions of these.
     pub fn validate(
         alloc: Global,
         section: &'a [u8],

@@ -21,7 +21,7 @@ pub struct UnitTable<'a> {
 }
 
 impl<'a> Model for UnitTable<'a> {
-    ghost use Rattle.dwarf_units.specs.Private.Plans.{Table};
+    ghost use Rattle.dwarf_units.specs.Private.AbbreviationTables.{Table};
     ghost use Rattle.dwarf_units.specs.Private.SharedTables.{IsReadable, full_table};
 
     ghost Value = { Table };
@@ -39,13 +39,13 @@ impl<'a> UnitTable<'a> {
         UnitTable { table, lists }
     }
 
-    /// Returns the declaration of a code and the decode plan of its attributes.
+    /// Returns the head of the entries with a code, if the code is declared.
     pub(crate) fn find(&self, code: u64) -> Option<EntryHead<'a>>
         ensures { result
             ≡ option_map (head_in self.now) (declaration_of self.now.declarations code) }
     {
-        let found = self.table.find(code)?;
-        Some(EntryHead::new(self.table.format(), found, self.lists))
+        let (declaration, prefix) = self.table.find(code)?;
+        Some(EntryHead::new(self.table.format(), declaration, prefix, self.lists))
     }
 
     /// Returns the shape of the nodes with a one-byte code, if there is one.

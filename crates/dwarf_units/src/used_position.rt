@@ -1,12 +1,12 @@
-//! Where the used attributes of an entry are, if all of its attributes have a fixed size (DWARF 5,
+//! The positions of used attributes in entries that start with attributes of a fixed size (DWARF 5,
 //! 7.5.3).
 
 ghost use Rattle.std.specs.Prelude.{◌≡◌};
 ghost use Rattle.dwarf_bytes.specs.Refusals.{ReadsField};
 ghost use Rattle.dwarf_units.specs.Private.FixedSizes.{attribute_in, constant_number, number_after};
-ghost use Rattle.dwarf_units.specs.Private.FixedSizes.{number_in, used_position, used_value};
+ghost use Rattle.dwarf_units.specs.Private.FixedSizes.{number_at, number_in, used_position};
+ghost use Rattle.dwarf_units.specs.Private.FixedSizes.{used_value};
 ghost use Rattle.dwarf_units.specs.Private.Names.{named_attribute};
-ghost use Rattle.dwarf_units.specs.Private.Plans.{number_at};
 
 use crate::attributes::{AttributeValue, number_of};
 use crate::used_name::UsedName;
@@ -26,7 +26,7 @@ pub(crate) struct UsedPosition {
 pub(crate) enum UsedValue {
     /// The declaration has the value (DW_FORM_implicit_const).
     Constant(u64),
-    /// The entry has the value, at this number of bytes after the start of its first attribute.
+    /// The entry has the value, this number of bytes after the start of its first attribute.
     At(u16, ValueLayout),
 }
 
@@ -111,7 +111,7 @@ fn read_after(
 }
 
 /// Reads a value at the cursor as a number. The most common layouts have an arm of their own,
-/// because every used attribute of an entry of a fixed size is read here.
+/// because most used attributes are read here.
 // Inlined: called for each used attribute.
 #[inline(always)]
 #[tactic(auto, unfolding(dwarf_bytes::specs::Contents::content_at))]

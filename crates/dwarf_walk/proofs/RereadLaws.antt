@@ -11,7 +11,7 @@ use Rattle.dwarf_bytes.specs.Refusals.{Fails}
 use Rattle.dwarf_forms.specs.Declarations.{Declaration}
 use Rattle.dwarf_units.specs.declared.attributes.Attribute.{Attribute}
 use Rattle.dwarf_units.specs.Entries.{entry_at}
-use Rattle.dwarf_units.specs.Private.Plans.{stored_attributes}
+use Rattle.dwarf_units.specs.Private.StoredAttributes.{stored_attributes}
 use Rattle.dwarf_walk.specs.declared.long_entries.LongEntry.{LongEntry}
 use Rattle.dwarf_walk.specs.Private.Named.{used_at}
 

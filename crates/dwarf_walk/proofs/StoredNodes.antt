@@ -24,7 +24,7 @@ use Rattle.dwarf_walk.specs.Private.Stored.{named_entry, root_entry}
 use Rattle.dwarf_walk.specs.References.{or_else}
 use Rattle.dwarf_walk.specs.Private.Readers.{HasStored, IsAfterEntry, node_of, WalkState}
 use Rattle.dwarf_walk.specs.Private.Readers.{Takes, after_die, depth_after_entry}
-use Rattle.dwarf_units.specs.Private.Plans.{stored_attributes}
+use Rattle.dwarf_units.specs.Private.StoredAttributes.{stored_attributes}
 use Rattle.dwarf_units.specs.Private.Used.{Used, used_among}
 
 -- The value of a used attribute is stored if used attributes are.

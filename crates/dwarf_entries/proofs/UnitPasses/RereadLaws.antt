@@ -16,7 +16,7 @@ use Rattle.dwarf_forms.specs.Declarations.{Declaration}
 use Rattle.dwarf_units.specs.declared.attributes.Attribute.{Attribute}
 use Rattle.dwarf_units.specs.declared.unit_headers.UnitHeader.{UnitHeader}
 use Rattle.dwarf_units.specs.Entries.{Die, entry_at}
-use Rattle.dwarf_units.specs.Private.Plans.{stored_attributes}
+use Rattle.dwarf_units.specs.Private.StoredAttributes.{stored_attributes}
 use Rattle.dwarf_walk.specs.declared.unit_entries.NamedEntry.{NamedEntry}
 use Rattle.dwarf_walk.specs.declared.unit_entries.ScopeEntry.{ScopeEntry}
 use Rattle.dwarf_walk.specs.declared.scope_kind.ScopeKind.{ScopeKind}

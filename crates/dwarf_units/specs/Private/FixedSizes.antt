@@ -1,17 +1,23 @@
--- Entries whose attributes all have a fixed size: their size, and where their used attributes are.
-use Rattle.std.specs.Prelude.{ℕ, ◌+◌, List, [], ◌∷◌, ◌++◌, length, map, Option, Some, None, Result}
-use Rattle.std.specs.Prelude.{Ok, Err}
-use Rattle.std.specs.Prelude.{nat_le, nat_lt, if◌then◌else◌, option_and_then, option_map}
+-- Attributes of a fixed size: their sizes, and where the used ones are in an entry that starts with
+-- such attributes.
+use Rattle.std.specs.Prelude.{ℕ, suc, ◌+◌, List, [], ◌∷◌, ◌++◌, length, map, Option, Some, None}
+use Rattle.std.specs.Prelude.{Result}
+use Rattle.std.specs.Prelude.{Ok, Err, Bool, ◌&&◌, nat_le, nat_lt, if◌then◌else◌, option_and_then}
+use Rattle.std.specs.Prelude.{option_map}
 use Rattle.std.specs.Option.{option_map_or, option_to_list}
 use Rattle.dwarf_bytes.specs.declared.fault.Cause.{Cause}
 use Rattle.dwarf_bytes.specs.declared.format.Format.{Format}
 use Rattle.dwarf_bytes.specs.declared.form.ValueLayout.{ValueLayout}
+use Rattle.dwarf_bytes.specs.declared.form.ValueLayout.TheVariants as layouts
+use Rattle.dwarf_bytes.specs.declared.form.ValueLayout.TheVariants.{Fixed, Offset, Present}
+use Rattle.dwarf_bytes.specs.declared.form.ValueLayout.TheVariants.{Unsigned, Text, Sixteen, Block}
+use Rattle.dwarf_bytes.specs.declared.form.ValueLayout.TheVariants.{LongBlock}
 use Rattle.dwarf_bytes.specs.declared.form.Form.TheVariants.{Direct, ImplicitConst, Indirect}
 use Rattle.dwarf_bytes.specs.Bind.{◌>>=◌}
-use Rattle.dwarf_bytes.specs.Contents.{Signed}
-use Rattle.dwarf_bytes.specs.Forms.{form_of}
+use Rattle.dwarf_bytes.specs.Contents.{Signed, content_at}
+use Rattle.dwarf_bytes.specs.Forms.{form_of, byte_len}
 use Rattle.dwarf_bytes.specs.Items.{reading}
-use Rattle.dwarf_bytes.specs.Numbers.{block_at}
+use Rattle.dwarf_bytes.specs.Numbers.{block_at, offset_len}
 use Rattle.dwarf_forms.specs.declared.attribute.AttributeSpecification.{AttributeSpecification}
 use Rattle.dwarf_forms.specs.declared.shared.TheConstants.{UNSHARED}
 use Rattle.dwarf_forms.specs.Private.SharedTables.{SharedDeclaration}
@@ -19,9 +25,45 @@ use Rattle.dwarf_units.specs.declared.attributes.Attribute.{Attribute}
 use Rattle.dwarf_units.specs.declared.used_position.UsedPosition.{UsedPosition}
 use Rattle.dwarf_units.specs.declared.used_position.UsedValue.{UsedValue}
 use Rattle.dwarf_units.specs.declared.used_position.UsedValue.TheVariants.{Constant, At}
-use Rattle.dwarf_units.specs.Attributes.{number_of}
+use Rattle.dwarf_units.specs.Attributes.{accepts, is_negative_count, number_of}
 use Rattle.dwarf_units.specs.Private.Names.{named_attribute, used_name}
-use Rattle.dwarf_units.specs.Private.Plans.{fixed_len, number_at, skip_limit}
+use Rattle.dwarf_units.specs.Private.Used.{Used, used_among}
+
+-- ---- sizes of attributes
+
+-- The size of a value in a layout in bytes, if all values have this size and any bytes are a valid
+-- value.
+abbrev pub layout_len : Format → ValueLayout → Option ℕ
+layout_len format (Fixed width) = Some (byte_len width)
+layout_len format Offset = Some (offset_len format)
+layout_len format Present = Some 0
+layout_len format layouts.Signed = None
+layout_len format Unsigned = None
+layout_len format Text = None
+layout_len format Sixteen = Some 16
+layout_len format (Block width) = None
+layout_len format LongBlock = None
+
+-- The size of a valid value that is in the declaration.
+abbrev pub constant_len : AttributeSpecification → Option ℕ
+constant_len s = elim s.constant [
+  | None ↦ None
+  | Some c ↦ if is_negative_count s.name (Signed c) then None else Some 0
+]
+
+-- The fixed size of an attribute, if it may have its form.
+unfoldable pub fixed_len : Format → AttributeSpecification → Option ℕ
+fixed_len format s = if accepts s.name s.form then (elim (form_of s.form) [
+  | None ↦ None
+  | Some (Direct layout) ↦ layout_len format layout
+  | Some ImplicitConst ↦ constant_len s
+  | Some Indirect ↦ None
+]) else None
+
+-- The end of an attribute that starts at n, if its size is fixed and the end is at most 65,535.
+abbrev pub end_of : Format → ℕ → AttributeSpecification → Option ℕ
+end_of format n s = option_and_then
+    (λ m. if nat_le (n + m) 65535 then Some (n + m) else None) (fixed_len format s)
 
 -- ---- positions of attributes
 
@@ -43,39 +85,48 @@ abbrev pub used_position : ℕ → AttributeSpecification → Option UsedPositio
 used_position n s = option_map
     (λ name. record { name = name; form = s.form; value = used_value n s }) (used_name s.name)
 
--- The size of the attributes of an entry in bytes, and the positions of the used ones.
-pub record FixedSize : Type 0 where
+-- The first attributes of an entry, as far as they have a fixed size: their size in bytes, the
+-- positions of the used ones, and their number.
+pub record Prefix : Type 0 where
   pub len : ℕ
   pub used : List UsedPosition
+  pub count : ℕ
 
--- The position of one more attribute, if it is used, before those of the others.
-abbrev pub with_position : Option UsedPosition → FixedSize → FixedSize
-with_position position rest =
-    record { len = rest.len; used = option_to_list position ++ rest.used }
+-- One more attribute, and its position if it is used.
+abbrev pub with_position : Option UsedPosition → Prefix → Prefix
+with_position position rest = record {
+  len = rest.len;
+  used = option_to_list position ++ rest.used;
+  count = suc rest.count;
+}
 
--- The end of an attribute that starts at n, if its size is fixed and the end is at most 65,535.
-abbrev pub end_of : Format → ℕ → AttributeSpecification → Option ℕ
-end_of format n s = option_and_then
-    (λ m. if nat_le (n + m) skip_limit then Some (n + m) else None) (fixed_len format s)
+-- The attributes from n bytes on.
+unfoldable pub prefix_from : Format → ℕ → List AttributeSpecification → Prefix
+prefix_from format n [] = record { len = n; used = []; count = 0 }
+prefix_from format n (s ∷ ss) = option_map_or
+    (λ end. with_position (used_position n s) (prefix_from format end ss)) (end_of format n s)
+    (record { len = n; used = []; count = 0 })
 
--- The attributes of an entry from n bytes on, if all of them have a fixed size.
-unfoldable pub fixed_size_from : Format → ℕ → List AttributeSpecification → Option FixedSize
-fixed_size_from format n [] = Some (record { len = n; used = [] })
-fixed_size_from format n (s ∷ ss) = option_and_then
-    (λ end. option_map (with_position (used_position n s)) (fixed_size_from format end ss))
-    (end_of format n s)
+abbrev pub prefix_of : Format → List AttributeSpecification → Prefix
+prefix_of format declared = prefix_from format 0 declared
 
--- The same for a declaration that has too few attributes to share any.
-abbrev pub fixed_size_of : Format → List AttributeSpecification → Option FixedSize
-fixed_size_of format declared =
-    if nat_lt (length declared) UNSHARED then fixed_size_from format 0 declared else None
-
--- The same for each declaration of a table.
-abbrev pub sizes_of : Format → List SharedDeclaration → List (Option FixedSize)
-sizes_of format declarations = map (λ declaration. fixed_size_of format declaration.list.own)
+-- The prefixes of the unshared attributes of declarations.
+abbrev pub prefixes_of : Format → List SharedDeclaration → List Prefix
+prefixes_of format declarations = map (λ declaration. prefix_of format declaration.list.own)
     declarations
 
+-- Whether all attributes have a fixed size. A declaration with UNSHARED attributes or more may
+-- share some.
+abbrev pub has_fixed_size : Format → List AttributeSpecification → Bool
+has_fixed_size format declared = nat_lt (length declared) UNSHARED
+    && nat_le (length declared) (prefix_of format declared).count
+
 -- ---- attributes at their positions
+
+-- The value at an offset in a layout, as a number, and the offset after it.
+abbrev pub number_at : Format → ValueLayout → List ℕ → ℕ → Result (ℕ × ℕ) Cause
+number_at format layout bytes at =
+    reading (content_at layout format bytes at) >>= λ c. Ok (number_of c.0 c.1, c.1)
 
 -- The number in a layout after n bytes.
 abbrev pub number_after : ℕ → Format → ValueLayout → List ℕ → ℕ → Result (ℕ × ℕ) Cause
@@ -100,3 +151,8 @@ attribute_in format bytes first p = named_attribute p.name
 
 abbrev pub attributes_in : Format → List ℕ → ℕ → List UsedPosition → List Attribute
 attributes_in format bytes first used = map (attribute_in format bytes first) used
+
+-- The used attributes of a prefix, if they are stored, and the offset after all of its attributes.
+abbrev pub prefix_at : Bool → Format → Prefix → List ℕ → ℕ → Result (Used × ℕ) Cause
+prefix_at keep format prefix bytes at = reading (block_at prefix.len bytes at) >>= λ block.
+    Ok (used_among (if keep then attributes_in format bytes at prefix.used else []), block.1)

@@ -11,7 +11,8 @@ use Rattle.dwarf_forms.specs.Declarations.{Declaration}
 use Rattle.dwarf_bytes.specs.Position.{Position}
 use Rattle.dwarf_bytes.specs.Refusals.{Fails}
 use Rattle.dwarf_units.specs.Entries.{depth_limit, declaration_of, entry_at}
-use Rattle.dwarf_units.specs.Private.Plans.{Table, stored_attributes}
+use Rattle.dwarf_units.specs.Private.AbbreviationTables.{Table}
+use Rattle.dwarf_units.specs.Private.StoredAttributes.{stored_attributes}
 use Rattle.dwarf_units.specs.Private.Used.{Used, used_among}
 
 -- The declaration of an entry in a unit of a format.

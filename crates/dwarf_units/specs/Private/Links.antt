@@ -1,51 +1,46 @@
--- The memoized attributes of a section, and the links that decode them.
-use Rattle.std.specs.Prelude.{◌≡◌, ℕ, ◌<◌, ◌≤◌, List, ◌∷◌, length, Bool, true, false, Option, Some}
-use Rattle.std.specs.Prelude.{IfSome, slice_get}
-use Rattle.dwarf_bytes.specs.declared.format.Format.{Format}
-use Rattle.dwarf_bytes.specs.declared.format.Format.TheVariants.{Dwarf32, Dwarf64}
+-- The memoized attributes of a section, and links that skip attributes of no bytes.
+use Rattle.std.specs.Prelude.{◌≡◌, ℕ, ◌≤◌, List, [], ◌∷◌, length, Bool, false, Option, IfSome}
+use Rattle.std.specs.Prelude.{not, ◌&&◌, ◌==◌, if◌then◌else◌, nat_lt, slice_get, Some}
+use Rattle.std.specs.Option.{option_map_or}
+use Rattle.dwarf_bytes.specs.declared.format.Format.TheVariants.{Dwarf32}
+use Rattle.dwarf_forms.specs.declared.attribute.AttributeSpecification.{AttributeSpecification}
 use Rattle.dwarf_forms.specs.declared.memoized_lists.MemoizedAttribute.{MemoizedAttribute}
-use Rattle.dwarf_forms.specs.Private.Memoized.{Grows, MemoizedAttributes, attributes_from}
+use Rattle.dwarf_forms.specs.Private.Memoized.{MemoizedAttributes, attributes_from}
 use Rattle.dwarf_forms.specs.Private.Memoized.{rest_attributes}
-use Rattle.dwarf_units.specs.declared.shared_suffixes.LinkedStep.{LinkedStep}
-use Rattle.dwarf_units.specs.declared.shared_suffixes.Links.{Links}
-use Rattle.dwarf_units.specs.Private.Plans.{steps_of}
+use Rattle.dwarf_units.specs.Attributes.{is_used}
+use Rattle.dwarf_units.specs.Private.FixedSizes.{fixed_len}
 
--- The steps of a list that starts at a memoized attribute are the step of its link, followed by
--- the steps of the list at the link's successor.
-pub record IsLink (keep : Bool) (format : Format) (memoized : List MemoizedAttribute) (number : ℕ)
-    (link : LinkedStep) : Type 0 where
-  pub steps : steps_of keep format (attributes_from memoized number)
-      ≡ link.step ∷ steps_of keep format (rest_attributes memoized link.next)
-  pub before : IfSome link.next (λ next. next < number)
+-- Whether an attribute is unused and has no bytes. Offsets have bytes in both formats, so this does
+-- not depend on the format.
+abbrev pub is_empty_unused : AttributeSpecification → Bool
+is_empty_unused s =
+    not (is_used s.name) && option_map_or (λ len. len == 0) (fixed_len Dwarf32 s) false
 
--- The link that stores used attributes, or the one that stores none.
-abbrev pub link_by : Bool → Links → LinkedStep
-link_by true links = links.stored
-link_by false links = links.skipped
+-- A list without such attributes at its start.
+abbrev pub skip_empty : List AttributeSpecification → List AttributeSpecification
+skip_empty [] = []
+skip_empty (s ∷ ss) = if is_empty_unused s then skip_empty ss else s ∷ ss
 
--- The links of the memoized attributes, or of the first n of them, for units of a format.
-pub record AreLinked (format : Format) (memoized : List MemoizedAttribute) (links : List Links)
-    : Type 0 where
+-- A link of a memoized attribute has the index of the first attribute from there on that is read.
+pub record IsLink (memoized : List MemoizedAttribute) (number : ℕ) (link : Option ℕ) : Type 0 where
+  pub list : rest_attributes memoized link ≡ skip_empty (attributes_from memoized number)
+  pub before : IfSome link (λ next. next ≤ number)
+
+-- The links of the memoized attributes, or of the first n of them.
+pub record AreLinked (memoized : List MemoizedAttribute) (links : List (Option ℕ)) : Type 0 where
   pub within : length links ≤ length memoized
-  pub each : (number : ℕ) (l : Links) → slice_get links number ≡ Some l → (keep : Bool)
-      → IsLink keep format memoized number (link_by keep l)
+  pub each : (number : ℕ) (link : Option ℕ) → slice_get links number ≡ Some link
+      → IsLink memoized number link
 
--- The memoized attributes of a section, and the number of them that have links for units of each
--- format.
+-- The memoized attributes of a section, and the number of them that have links.
 pub record LinkedPlaces : Type 0 where
   pub places : MemoizedAttributes
-  pub dwarf32 : ℕ
-  pub dwarf64 : ℕ
+  pub linked : ℕ
 
-abbrev pub linked_in : LinkedPlaces → Format → ℕ
-linked_in lists Dwarf32 = lists.dwarf32
-linked_in lists Dwarf64 = lists.dwarf64
-
--- The section is unchanged. Memoized attributes and links are only added.
-pub record LinksGrow (old new : LinkedPlaces) : Type 0 where
-  pub places : Grows old.places new.places
-  pub linked : (format : Format) → linked_in old format ≤ linked_in new format
-
--- The memoized attribute at an index, if there is one, has links.
-abbrev pub IsLinked : LinkedPlaces → Format → Option ℕ → Type 0
-IsLinked lists format next = IfSome next (λ number. number < linked_in lists format)
+-- The attributes that are read of a list that starts at a memoized attribute: those that its link
+-- skips are left out.
+abbrev pub linked_attributes : LinkedPlaces → Option ℕ → List AttributeSpecification
+linked_attributes lists first =
+    if option_map_or (λ number. nat_lt number lists.linked) first false
+    then skip_empty (rest_attributes lists.places.memoized first)
+    else rest_attributes lists.places.memoized first

@@ -14,7 +14,7 @@ use Rattle.dwarf_units.specs.declared.numbers.Numbers.{Numbers}
 use Rattle.dwarf_units.specs.Units.{declarations_limit}
 use Rattle.dwarf_units.specs.Private.Numbers.{number_at}
 use Rattle.dwarf_units.specs.declared.table_store.TableStore.{TableStore}
-use Rattle.dwarf_units.specs.Private.Plans.{Table, table_size}
+use Rattle.dwarf_units.specs.Private.AbbreviationTables.{Table, table_size}
 use Rattle.dwarf_units.specs.Private.Links.{LinkedPlaces}
 use Rattle.dwarf_units.specs.Private.SharedTables.{IsReadable, SharedTable, full_table, full_tables}
 
@@ -55,7 +55,7 @@ AreElsewhere format offset tables = (i : ℕ) (table : Table) → slice_get tabl
     → IsAt format offset table → ⊥
 
 -- The maximum size of the tables of a section that are cached permanently: declarations,
--- attributes and steps.
+-- attributes and positions.
 abbrev pub size_limit : List ℕ → ℕ
 size_limit section = 3 * length section + 65536
 

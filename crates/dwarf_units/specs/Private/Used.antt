@@ -17,7 +17,7 @@ use Rattle.dwarf_units.specs.declared.used_name.UsedName.TheVariants.{StrOffsets
 use Rattle.dwarf_units.specs.declared.used_name.UsedName.TheVariants.{RnglistsBase}
 use Rattle.dwarf_units.specs.Entries.{value_of}
 use Rattle.dwarf_units.specs.Private.Names.{name_of}
-use Rattle.dwarf_units.specs.Private.Plans.{stored_attributes_at}
+use Rattle.dwarf_units.specs.Private.StoredAttributes.{stored_attributes_at}
 
 -- The value of each used attribute that an entry has.
 pub record Used : Type 0 where

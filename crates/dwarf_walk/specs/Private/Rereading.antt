@@ -9,7 +9,7 @@ use Rattle.dwarf_forms.specs.Declarations.{Declaration}
 use Rattle.dwarf_forms.specs.Tables.{declarations_of}
 use Rattle.dwarf_units.specs.Units.{declarations_limit}
 use Rattle.dwarf_units.specs.declared.unit_headers.UnitHeader.{UnitHeader}
-use Rattle.dwarf_units.specs.Private.Plans.{Table}
+use Rattle.dwarf_units.specs.Private.AbbreviationTables.{Table}
 use Rattle.dwarf_units.specs.Private.Tables.{IsAt}
 use Rattle.dwarf_units.specs.Entries.{entry_at}
 use Rattle.dwarf_bytes.specs.Refusals.{Fails}

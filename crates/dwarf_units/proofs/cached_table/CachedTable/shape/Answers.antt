@@ -14,7 +14,7 @@ returns c memoized are =
     let table = c.args.self.now in
     let shapes = subst (λ (t : SharedTable). AreShapes t.format t.declarations
     (shape_count t.declarations) c.deref.result.now) c.self.view_is
-    (rw c.deref.ensures.value c.self.invariant.2) in
+    (rw c.deref.ensures.value c.self.invariant.1) in
     let there : slice_get c.deref.result.now c.args.code ≡ Some c.in_ok-get.field-0.now =
     ap (λ n. slice_get c.deref.result.now n) (sym c.from.ensures)
     ∙ (sym (got c.deref.result.now c.from.result c.get.result c.get.ensures.lookup.0

@@ -1,83 +1,68 @@
-use Rattle.std.proofs.Common.{◌≡◌, ◌<◌, ◌∙◌, ℕ, false, refl, ap, arith}
-use Rattle.std.specs.Prelude.{Option, Some, None, is_some, not}
+use Rattle.std.proofs.Common.{◌≡◌, ℕ, ◌≤◌, ◌∷◌, List, length, drop, refl, ap, subst, sym, ◌∙◌}
+use Rattle.std.proofs.Common.{arith}
 use Rattle.std.proofs.lemmas.Result.{err_from_is_err_and}
 use Rattle.dwarf_bytes.proofs.Items.Turns.{None-from-no-Some}
-use Rattle.dwarf_units.proofs.LinkLaws.{before-both, linked-at, next-smaller}
-use Rattle.dwarf_units.proofs.PlanTurns.{stored-step, stored-fault, stored-end}
-use Rattle.dwarf_units.specs.Private.Links.{IsLink, linked_in}
-use Rattle.dwarf_units.specs.Private.Plans.{steps_of}
+use Rattle.dwarf_forms.specs.declared.attribute.AttributeSpecification.{AttributeSpecification}
+use Rattle.dwarf_forms.specs.Private.Memoized.{MemoizedAttributes, attributes_from}
+use Rattle.dwarf_forms.specs.Private.Memoized.{rest_attributes}
+use Rattle.dwarf_units.specs.Private.Links.{LinkedPlaces}
+use Rattle.dwarf_units.proofs.LinkLaws.{first-read}
+use Rattle.dwarf_units.proofs.StoredReads.{stored-end, stored-fault, stored-next}
 use Rattle.dwarf_units.proofs.linked_lists.LinkedLists.read.Goals as goal
 
--- If there is no shared attribute, nothing is stored.
-pub returns-then-is_none : goal.returns-then-is_none
-unfolding steps_of
-returns-then-is_none c = (
-  stored-end c.args.format _ c.args.cursor.now.bytes c.args.found.now c.args.cursor.now.place _
-      (rw (absent c.args.first (c.is_none.ensures ∙ ap not c.if-is_none.true)) refl) refl,
-  refl,
-)
-  where
-    absent : (first : Option ℕ) → is_some first ≡ false → first ≡ None
-    absent None is = refl
-    absent (Some number) is = cc
+pub loop-next-init : goal.loop-next-init
+loop-next-init c = record {
+  memoized = c.linked-next.ensures.memoized;
+  bytes = refl;
+  stored = first-read c.args.keep c.args.format c.args.self.now c.args.first c.linked-next.result
+      c.args.cursor.now.bytes c.args.cursor.now.place c.args.found.now
+      c.linked-next.ensures.list (omega (arith, c.place.ensures.place, c.place.ensures.within));
+}
 
-pub returns-in_err-read_step : goal.returns-in_err-read_step
-returns-in_err-read_step c =
+pub returns-in_err-read_one : goal.returns-in_err-read_one
+returns-in_err-read_one c =
     let p = err_from_is_err_and c.from_residual.result c.from_residual.ensures.1 in
-    let inv = c.loop-next.invariant in
-    let number = c.in-Some.number in
-    let within : number < linked_in c.args.self.now c.args.format = rw c.in-Some.is at inv.linked in
-    let link : IsLink c.args.keep c.args.format c.args.self.now.places.memoized number
-    c.by-link.result.now =
-    linked-at c.args.keep c.args.format c.args.self.now.places.memoized c.links-links.result.now
-    number
-    _ c.by-link.result.now c.links-links.ensures.links
-    (omega (arith, within, c.links-links.ensures.all)) c.by-link.ensures in
+    let loop = c.loop-next in
     rw (p.1, p.2)
-    (stored-fault c.args.format c.by-link.result.now.step _ _ c.args.cursor.now.bytes
-    c.loop-next.found c.loop-next.cursor c.in_err-read_step.field-0.0 _ link.steps inv.bytes
-    (rw c.in-Some.is at inv.stored) c.in_err-read_step.ensures)
-
-pub loop-next-smaller : goal.loop-next-smaller
-loop-next-smaller c =
-    let inv = c.loop-next.invariant in
-    let number = c.in-Some.number in
-    let within : number < linked_in c.args.self.now c.args.format = rw c.in-Some.is at inv.linked in
-    let link : IsLink c.args.keep c.args.format c.args.self.now.places.memoized number
-    c.by-link.result.now =
-    linked-at c.args.keep c.args.format c.args.self.now.places.memoized c.links-links.result.now
-    number
-    _ c.by-link.result.now c.links-links.ensures.links
-    (omega (arith, within, c.links-links.ensures.all)) c.by-link.ensures in
-    rw c.in-Some.is (next-smaller c.by-link.result.now.next number link.before)
+    (stored-fault c.args.keep c.args.format c.attribute-attribute.result.now _ _
+    c.args.cursor.now.bytes loop.found loop.cursor c.in_err-read_one.field-0.0 _
+    (subst (λ (m : MemoizedAttributes). attributes_from m.memoized c.in-Some.number
+    ≡ c.attribute-attribute.result.now ∷ drop 1 (attributes_from m.memoized c.in-Some.number))
+    (ap (λ (l : LinkedPlaces). l.places) c.self.view_is) c.attribute-attribute.ensures)
+    loop.invariant.bytes
+    (rw c.in-Some.is at loop.invariant.stored) c.in_err-read_one.ensures)
 
 pub loop-next-preserved : goal.loop-next-preserved
 loop-next-preserved c =
-    let inv = c.loop-next.invariant in
+    let loop = c.loop-next in
     let number = c.in-Some.number in
-    let within : number < linked_in c.args.self.now c.args.format = rw c.in-Some.is at inv.linked in
-    let link : IsLink c.args.keep c.args.format c.args.self.now.places.memoized number
-    c.by-link.result.now =
-    linked-at c.args.keep c.args.format c.args.self.now.places.memoized c.links-links.result.now
-    number
-    _ c.by-link.result.now c.links-links.ensures.links
-    (omega (arith, within, c.links-links.ensures.all)) c.by-link.ensures in
+    let attribute = c.attribute-attribute.result.now in
+    let list = subst (λ (m : MemoizedAttributes). attributes_from m.memoized number
+    ≡ attribute ∷ rest_attributes m.memoized c.next.result)
+    (ap (λ (l : LinkedPlaces). l.places) c.self.view_is)
+    (c.attribute-attribute.ensures ∙ ap (λ (l : List AttributeSpecification). attribute ∷ l)
+    (sym c.next.ensures.list)) in
+    let same : c.read_one.new.cursor.bytes ≡ c.args.cursor.now.bytes =
+    c.in_ok-read_one.ensures.1 ∙ loop.invariant.bytes in
+    let within : c.read_one.new.cursor.place ≤ length c.args.cursor.now.bytes =
+    subst (λ (b : List ℕ). c.read_one.new.cursor.place ≤ length b) same
+    (omega (arith, c.place-in-Some.ensures.place, c.place-in-Some.ensures.within)) in
     record {
-      linked = before-both number c.by-link.result.now.next
-          (linked_in c.args.self.now c.args.format) link.before within;
-      bytes = c.in_ok-read_step.ensures.1 ∙ inv.bytes;
+      memoized = c.linked-next-in-Some.ensures.memoized;
+      bytes = same;
       stored =
-          stored-step c.args.format c.by-link.result.now.step _ _ c.args.cursor.now.bytes
-          c.loop-next.found c.read_step.new.found c.loop-next.cursor c.read_step.new.cursor _
-          link.steps inv.bytes (rw c.in-Some.is at inv.stored) c.in_ok-read_step.ensures.0;
+          first-read c.args.keep c.args.format c.args.self.now c.next.result
+          c.linked-next-in-Some.result c.args.cursor.now.bytes c.read_one.new.cursor.place
+          c.read_one.new.found c.linked-next-in-Some.ensures.list within
+          ∙ stored-next c.args.keep c.args.format attribute _ _ c.args.cursor.now.bytes loop.found
+          c.read_one.new.found loop.cursor c.read_one.new.cursor _ list loop.invariant.bytes
+          (rw c.in-Some.is at loop.invariant.stored) c.in_ok-read_one.ensures.0;
     }
 
 pub returns : goal.returns
-unfolding steps_of
 returns c =
-    let inv = c.loop-next.invariant in (
-      stored-end c.args.format _ c.args.cursor.now.bytes c.loop-next.found c.loop-next.cursor.place
-          _
-          (rw (None-from-no-Some _ c.in_default.not-Some) refl) inv.stored,
-      inv.bytes,
+    let loop = c.loop-next in (
+      stored-end c.args.keep c.args.format _ c.args.cursor.now.bytes loop.found loop.cursor.place _
+          (rw (None-from-no-Some _ c.in_default.not-Some) refl) loop.invariant.stored,
+      loop.invariant.bytes,
     )

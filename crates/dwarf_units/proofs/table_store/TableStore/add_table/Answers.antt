@@ -44,7 +44,7 @@ returns-then-size-self-clause-stored c = λ lists stored new.
           (resolved-more lists.places.memoized store.tables.items after store.permanent c.args.table
           c.in_ok-number.ensures.ok.0)
           (c.size-size.ensures ∙ own_size-is lists.places.memoized c.args.table
-          new.readable.resolved)
+          new.readable)
           c.if-size-self.true
           (c.len-self.ensures ∙ (c.truncate_and_push.new.tables.ok.0
           ∙ sym (length-map after (full_table lists.places.memoized)))) stored.permanent;
@@ -69,7 +69,7 @@ returns-else-size-self-clause-stored c = λ lists stored new.
           (resolved-more lists.places.memoized store.tables.items after store.permanent c.args.table
           c.in_ok-number.ensures.ok.0)
           (c.size-size.ensures ∙ own_size-is lists.places.memoized c.args.table
-          new.readable.resolved)
+          new.readable)
           c.if-size-self.false stored.permanent;
       readable = readable-more lists store.tables.items after store.permanent c.args.table
           stored.readable new.readable c.in_ok-number.ensures.ok.0;
@@ -85,7 +85,7 @@ returns-then-size-self-clause-ok c = λ lists stored new.
           (resolved-more lists.places.memoized store.tables.items after store.permanent c.args.table
           c.in_ok-number.ensures.ok.0)
           (c.size-size.ensures ∙ own_size-is lists.places.memoized c.args.table
-          new.readable.resolved)
+          new.readable)
           c.if-size-self.true
           (c.len-self.ensures ∙ (c.truncate_and_push.new.tables.ok.0
           ∙ sym (length-map after (full_table lists.places.memoized)))) stored.permanent,
@@ -104,7 +104,7 @@ returns-else-size-self-clause-ok c = λ lists stored new.
           (resolved-more lists.places.memoized store.tables.items after store.permanent c.args.table
           c.in_ok-number.ensures.ok.0)
           (c.size-size.ensures ∙ own_size-is lists.places.memoized c.args.table
-          new.readable.resolved)
+          new.readable)
           c.if-size-self.false stored.permanent,
       resolved-at lists.places.memoized store.tables.items after store.permanent
           c.in_ok-number.number

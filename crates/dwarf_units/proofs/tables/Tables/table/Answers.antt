@@ -1,6 +1,6 @@
 use Rattle.std.proofs.Common.{ap, sym, ◌∙◌}
 use Rattle.std.specs.Prelude.{Some}
-use Rattle.dwarf_units.specs.Private.Plans.{Table}
+use Rattle.dwarf_units.specs.Private.AbbreviationTables.{Table}
 use Rattle.dwarf_units.proofs.StoredTables.{table-at}
 use Rattle.dwarf_units.proofs.tables.Tables.table.Goals as goal
 

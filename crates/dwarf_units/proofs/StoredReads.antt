@@ -1,0 +1,209 @@
+-- Reading the attributes of an entry one by one, and storing the used ones.
+use Rattle.std.proofs.Common.{◌≡◌, ℕ, List, [], ◌∷◌, ◌++◌, Bool, true, false, refl, ap, sym, ◌∙◌}
+use Rattle.std.proofs.Common.{subst, ◌⊎◌, inl, inr}
+use Rattle.std.specs.Prelude.{Some, None, Result, Ok, Err}
+use Rattle.std.proofs.lemmas.List.Elements.{filter-append}
+use Rattle.dwarf_bytes.specs.declared.fault.Cause.{Cause}
+use Rattle.dwarf_bytes.specs.declared.format.Format.{Format}
+use Rattle.dwarf_bytes.specs.Bind.{◌>>=◌}
+use Rattle.dwarf_bytes.specs.Position.{Position}
+use Rattle.dwarf_bytes.specs.Refusals.{Fails}
+use Rattle.dwarf_forms.specs.declared.attribute.AttributeSpecification.{AttributeSpecification}
+use Rattle.dwarf_units.specs.declared.attributes.Attribute.{Attribute}
+use Rattle.dwarf_units.specs.declared.used_name.UsedName.{UsedName}
+use Rattle.dwarf_units.specs.Attributes.{is_used}
+use Rattle.dwarf_units.specs.Entries.{attribute_at, attributes_at}
+use Rattle.dwarf_units.specs.Private.Names.{named_attribute, used_name}
+use Rattle.dwarf_units.specs.Private.StoredAttributes.{stored_attributes, stored_attributes_at}
+use Rattle.dwarf_units.specs.Private.Used.{Used, used_after, used_among, with_used}
+use Rattle.dwarf_units.proofs.NameLaws.{found-number, used-none, used-some}
+use Rattle.dwarf_units.proofs.UsedLaws.{with-none, with-twice}
+
+-- ---- two lists of attributes
+
+-- Attributes before those of another read.
+abbrev pub with_front : List Attribute → List Attribute × ℕ → Result (List Attribute × ℕ) Cause
+with_front front rest = Ok (front ++ rest.0, rest.1)
+
+-- An attribute before those of another read, the stored ones of all, and the used ones of these.
+abbrev pub with_first : Attribute → List Attribute × ℕ → Result (List Attribute × ℕ) Cause
+with_first a rest = Ok (a ∷ rest.0, rest.1)
+
+abbrev pub stored_all : Bool → List Attribute × ℕ → Result (List Attribute × ℕ) Cause
+stored_all keep all = Ok (stored_attributes keep all.0, all.1)
+
+abbrev pub used_all : List Attribute × ℕ → Result (Used × ℕ) Cause
+used_all stored = Ok (used_among stored.0, stored.1)
+
+pub front-none : (r : Result (List Attribute × ℕ) Cause) → (r >>= with_front []) ≡ r
+front-none (Ok rest) = refl
+front-none (Err e) = refl
+
+attributes-append : (format : Format) (xs ys : List AttributeSpecification) (bytes : List ℕ)
+    (at : ℕ) → attributes_at format (xs ++ ys) bytes at
+    ≡ (attributes_at format xs bytes at
+    >>= λ first. attributes_at format ys bytes first.1 >>= with_front first.0)
+unfolding attributes_at
+attributes-append format [] ys bytes at = sym (front-none (attributes_at format ys bytes at))
+attributes-append format (x ∷ xs) ys bytes at = by_first
+    (λ place. attributes-append format xs ys bytes place) (attribute_at format x bytes at)
+  where
+    by_rest : (a : Attribute) (r q : Result (List Attribute × ℕ) Cause)
+        (next : ℕ → Result (List Attribute × ℕ) Cause)
+        → q ≡ (r >>= λ first. next first.1 >>= with_front first.0)
+        → (q >>= with_first a)
+        ≡ ((r >>= with_first a)
+        >>= λ first. next first.1 >>= with_front first.0)
+    by_rest a (Err e) q next is = rw is refl
+    by_rest a (Ok first) q next is = rw is (by_next (next first.1))
+      where
+        by_next : (r : Result (List Attribute × ℕ) Cause)
+            → ((r >>= with_front first.0) >>= with_first a)
+            ≡ (r >>= with_front (a ∷ first.0))
+        by_next (Ok rest) = refl
+        by_next (Err e) = refl
+
+    by_first : ((place : ℕ) → attributes_at format (xs ++ ys) bytes place
+        ≡ (attributes_at format xs bytes place
+        >>= λ first. attributes_at format ys bytes first.1 >>= with_front first.0))
+        → (r : Result (Attribute × ℕ) Cause)
+        → (r >>= λ a. attributes_at format (xs ++ ys) bytes a.1
+        >>= with_first a.0)
+        ≡ ((r >>= λ a. attributes_at format xs bytes a.1 >>= with_first a.0)
+        >>= λ first. attributes_at format ys bytes first.1 >>= with_front first.0)
+    by_first rest (Ok a) = by_rest a.0 (attributes_at format xs bytes a.1)
+        (attributes_at format (xs ++ ys) bytes a.1) (attributes_at format ys bytes) (rest a.1)
+    by_first rest (Err e) = refl
+
+pub stored-both : (keep : Bool) (xs ys : List Attribute)
+    → stored_attributes keep (xs ++ ys) ≡ stored_attributes keep xs ++ stored_attributes keep ys
+stored-both true xs ys = filter-append (λ (a : Attribute). is_used a.name) xs ys
+stored-both false xs ys = refl
+
+-- The stored attributes of two lists, after those that are stored already.
+pub stored-append : (keep : Bool) (format : Format) (xs ys : List AttributeSpecification)
+    (bytes : List ℕ) (at : ℕ) (used : Used)
+    → used_after used (stored_attributes_at keep format (xs ++ ys) bytes at)
+    ≡ (used_after used (stored_attributes_at keep format xs bytes at)
+    >>= λ first. used_after first.0 (stored_attributes_at keep format ys bytes first.1))
+stored-append keep format xs ys bytes at used =
+    rw (attributes-append format xs ys bytes at) (by_first (attributes_at format xs bytes at))
+  where
+    by_rest : (front : List Attribute) (r : Result (List Attribute × ℕ) Cause)
+        → used_after used ((r >>= with_front front)
+        >>= stored_all keep)
+        ≡ used_after (with_used used (stored_attributes keep front))
+        (r >>= stored_all keep)
+    by_rest front (Ok rest) = ap (λ (u : Used). Ok (u, rest.1))
+        (ap (with_used used) (stored-both keep front rest.0)
+        ∙ sym (with-twice used (stored_attributes keep front) (stored_attributes keep rest.0)))
+    by_rest front (Err e) = refl
+
+    by_first : (r : Result (List Attribute × ℕ) Cause)
+        → used_after used ((r
+        >>= λ first. attributes_at format ys bytes first.1 >>= with_front first.0)
+        >>= stored_all keep)
+        ≡ (used_after used (r >>= stored_all keep)
+        >>= λ first. used_after first.0 (stored_attributes_at keep format ys bytes first.1))
+    by_first (Ok first) = by_rest first.0 (attributes_at format ys bytes first.1)
+    by_first (Err e) = refl
+
+-- ---- one attribute
+
+one-read : (keep : Bool) (format : Format) (s : AttributeSpecification) (bytes : List ℕ) (at : ℕ)
+    (used : Used) (a : Attribute × ℕ) → attribute_at format s bytes at ≡ Ok a
+    → used_after used (stored_attributes_at keep format (s ∷ []) bytes at)
+    ≡ Ok (with_used used (stored_attributes keep (a.0 ∷ [])), a.1)
+unfolding attributes_at
+one-read keep format s bytes at used a read = rw read refl
+
+pub one-fault : (keep : Bool) (format : Format) (s : AttributeSpecification) (bytes : List ℕ)
+    (at : ℕ) (used : Used) (cause : Cause) → attribute_at format s bytes at ≡ Err cause
+    → used_after used (stored_attributes_at keep format (s ∷ []) bytes at) ≡ Err cause
+unfolding attributes_at
+one-fault keep format s bytes at used cause read = rw read refl
+
+pub one-stored : (keep : Bool) (format : Format) (s : AttributeSpecification) (bytes : List ℕ)
+    (at : ℕ) (used now : Used) (name : UsedName) (a : Attribute × ℕ) → keep ≡ true
+    → used_name a.0.name ≡ Some name
+    → now ≡ with_used used (named_attribute name a.0.value ∷ [])
+    → attribute_at format s bytes at ≡ Ok a
+    → used_after used (stored_attributes_at keep format (s ∷ []) bytes at) ≡ Ok (now, a.1)
+one-stored keep format s bytes at used now name a kept found added read =
+    let same : with_used used (a.0 ∷ []) ≡ now =
+    ap (λ (n : ℕ). with_used used (record { name = n; value = a.0.value } ∷ []))
+    (found-number a.0.name name found) ∙ sym added in
+    one-read keep format s bytes at used a read
+    ∙ rw (kept, used-some a.0.name name found) (ap (λ (u : Used). Ok (u, a.1)) same)
+
+pub one-left : (keep : Bool) (format : Format) (s : AttributeSpecification) (bytes : List ℕ)
+    (at : ℕ) (used : Used) (a : Attribute × ℕ) → (keep ≡ false) ⊎ (used_name a.0.name ≡ None)
+    → attribute_at format s bytes at ≡ Ok a
+    → used_after used (stored_attributes_at keep format (s ∷ []) bytes at) ≡ Ok (used, a.1)
+one-left keep format s bytes at used a why read =
+    one-read keep format s bytes at used a read
+    ∙ ap (λ (l : List Attribute). Ok (with_used used l, a.1)) (by_keep keep why)
+    ∙ ap (λ (u : Used). Ok (u, a.1)) (with-none used)
+  where
+    by_keep : (k : Bool) → (k ≡ false) ⊎ (used_name a.0.name ≡ None)
+        → stored_attributes k (a.0 ∷ []) ≡ []
+    by_keep true (inl kept) = cc
+    by_keep true (inr none) = rw (used-none a.0.name none) refl
+    by_keep false left = refl
+
+-- ---- the loops over attributes
+
+-- The attributes stored so far, completed by those of the remaining list, are the whole result.
+abbrev pub StoredSoFar : Bool → Format → List AttributeSpecification → List ℕ → Used → ℕ
+    → Result (Used × ℕ) Cause → Type 0
+StoredSoFar keep format left bytes used place whole =
+    used_after used (stored_attributes_at keep format left bytes place) ≡ whole
+
+-- The invariant after an attribute is read.
+pub stored-next : (keep : Bool) (format : Format) (s : AttributeSpecification)
+    (left behind : List AttributeSpecification) (bytes : List ℕ) (used stored : Used)
+    (old new : Position) (whole : Result (Used × ℕ) Cause) → left ≡ s ∷ behind → old.bytes ≡ bytes
+    → StoredSoFar keep format left bytes used old.place whole
+    → used_after used (stored_attributes_at keep format (s ∷ []) old.bytes old.place)
+    ≡ Ok (stored, new.place) → StoredSoFar keep format behind bytes stored new.place whole
+stored-next keep format s left behind bytes used stored old new whole parts same so_far read =
+    let here : used_after used (stored_attributes_at keep format (s ∷ []) bytes old.place)
+    ≡ Ok (stored, new.place) = subst (λ (b : List ℕ). used_after used
+    (stored_attributes_at keep format (s ∷ []) b old.place) ≡ Ok (stored, new.place)) same read in
+    sym (ap (λ (r : Result (Used × ℕ) Cause). r >>= λ first. used_after first.0
+    (stored_attributes_at keep format behind bytes first.1)) here)
+    ∙ sym (stored-append keep format (s ∷ []) behind bytes old.place used)
+    ∙ (ap (λ (l : List AttributeSpecification). used_after used
+    (stored_attributes_at keep format l bytes old.place)) (sym parts) ∙ so_far)
+
+-- The whole read fails if an attribute fails or memory runs out.
+pub stored-fault : (keep : Bool) (format : Format) (s : AttributeSpecification)
+    (left behind : List AttributeSpecification) (bytes : List ℕ) (used : Used) (old : Position)
+    (cause : Cause) (whole : Result (Used × ℕ) Cause) → left ≡ s ∷ behind → old.bytes ≡ bytes
+    → StoredSoFar keep format left bytes used old.place whole
+    → Fails cause (used_after used (stored_attributes_at keep format (s ∷ []) old.bytes old.place))
+    → Fails cause whole
+stored-fault keep format s left behind bytes used old cause whole parts same so_far (inl memory) =
+    inl memory
+stored-fault keep format s left behind bytes used old cause whole parts same so_far (inr read) =
+    let here : used_after used (stored_attributes_at keep format (s ∷ []) bytes old.place)
+    ≡ Err cause = subst (λ (b : List ℕ). used_after used
+    (stored_attributes_at keep format (s ∷ []) b old.place) ≡ Err cause) same read in
+    inr (sym so_far ∙ (ap (λ (l : List AttributeSpecification). used_after used
+    (stored_attributes_at keep format l bytes old.place)) parts
+    ∙ (stored-append keep format (s ∷ []) behind bytes old.place used
+    ∙ ap (λ (r : Result (Used × ℕ) Cause). r >>= λ first. used_after first.0
+    (stored_attributes_at keep format behind bytes first.1)) here)))
+
+pub stored-end : (keep : Bool) (format : Format) (left : List AttributeSpecification)
+    (bytes : List ℕ) (used : Used) (place : ℕ) (whole : Result (Used × ℕ) Cause) → left ≡ []
+    → StoredSoFar keep format left bytes used place whole → whole ≡ Ok (used, place)
+unfolding attributes_at
+stored-end keep format left bytes used place whole none so_far =
+    sym so_far ∙ (ap (λ (l : List AttributeSpecification). used_after used
+    (stored_attributes_at keep format l bytes place)) none
+    ∙ ap (λ (all : Used). Ok (all, place)) (by_keep keep))
+  where
+    by_keep : (k : Bool) → with_used used (stored_attributes k []) ≡ used
+    by_keep true = with-none used
+    by_keep false = with-none used

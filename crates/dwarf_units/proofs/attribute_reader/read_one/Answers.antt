@@ -1,0 +1,40 @@
+use Rattle.std.proofs.Common.{sym, ◌∙◌, inl, inr}
+use Rattle.std.proofs.lemmas.Result.{err_from_is_err_and}
+use Rattle.dwarf_bytes.proofs.Items.Turns.{None-from-no-Some}
+use Rattle.dwarf_units.proofs.StoredReads.{one-fault, one-left, one-stored}
+use Rattle.dwarf_units.proofs.attribute_reader.read_one.Goals as goal
+
+pub returns-in_err-attribute : goal.returns-in_err-attribute
+returns-in_err-attribute c =
+    let p = err_from_is_err_and c.from_residual.result c.from_residual.ensures.1 in
+    rw (p.1, p.2) (inr (one-fault c.args.keep c.args.format c.args.specification.now
+    c.args.cursor.now.bytes c.args.cursor.now.place c.args.found.now c.in_err-attribute.field-0.0
+    c.in_err-attribute.ensures))
+
+pub returns-then-not-keep : goal.returns-then-not-keep
+returns-then-not-keep c = (
+  one-left c.args.keep c.args.format c.args.specification.now c.args.cursor.now.bytes
+      c.args.cursor.now.place c.args.found.now
+      (c.in_ok-attribute.attribute, c.read_attribute.new.cursor.place) (inl c.if-not-keep.true)
+      c.in_ok-attribute.ensures.0,
+  c.in_ok-attribute.ensures.1,
+)
+
+pub returns-in-Some : goal.returns-in-Some
+returns-in-Some c = (
+  one-stored c.args.keep c.args.format c.args.specification.now c.args.cursor.now.bytes
+      c.args.cursor.now.place c.args.found.now c.add.new.self c.in-Some.name
+      (c.in_ok-attribute.attribute, c.read_attribute.new.cursor.place) c.if-not-keep.false
+      (sym c.of.ensures ∙ c.in-Some.is) c.add.ensures c.in_ok-attribute.ensures.0,
+  c.in_ok-attribute.ensures.1,
+)
+
+pub returns-in_default : goal.returns-in_default
+returns-in_default c = (
+  one-left c.args.keep c.args.format c.args.specification.now c.args.cursor.now.bytes
+      c.args.cursor.now.place c.args.found.now
+      (c.in_ok-attribute.attribute, c.read_attribute.new.cursor.place)
+      (inr (sym c.of.ensures ∙ None-from-no-Some _ c.in_default.not-Some))
+      c.in_ok-attribute.ensures.0,
+  c.in_ok-attribute.ensures.1,
+)

@@ -1,0 +1,23 @@
+-- Abbreviation tables for units of a format.
+use Rattle.std.specs.Prelude.{ℕ, ◌+◌, ◌*◌, List, length, take, sum_by}
+use Rattle.dwarf_bytes.specs.declared.format.Format.{Format}
+use Rattle.dwarf_forms.specs.declared.attribute.AttributeSpecification.{AttributeSpecification}
+use Rattle.dwarf_forms.specs.declared.shared.TheConstants.{UNSHARED}
+use Rattle.dwarf_forms.specs.Declarations.{Declaration}
+
+-- The table of declarations at an offset, for units of a format.
+pub record Table : Type 0 where
+  pub offset : ℕ
+  pub format : Format
+  pub declarations : List Declaration
+
+-- The first attributes of a declaration, which are stored with it. The attributes after them are
+-- shared.
+abbrev pub own_attributes : Declaration → List AttributeSpecification
+own_attributes d = take UNSHARED d.attributes
+
+-- The size of a table: its declarations, their unshared attributes, and a position for each of
+-- these.
+abbrev pub table_size : Table → ℕ
+table_size table = length table.declarations
+    + 2 * sum_by (λ d. length (own_attributes d)) table.declarations

@@ -1,0 +1,74 @@
+//! The sizes of attributes (DWARF 5, 7.5.6).
+
+ghost use Rattle.std.specs.Prelude.{◌≡◌};
+ghost use Rattle.dwarf_bytes.specs.Forms.{byte_len};
+ghost use Rattle.dwarf_units.specs.Private.FixedSizes.{constant_len, end_of, fixed_len, layout_len};
+
+use crate::attributes::{accepts, is_negative_count};
+use dwarf_bytes::{Content, Form, Format, ValueLayout, Width};
+use dwarf_forms::AttributeSpecification;
+
+/// Returns the end of an attribute that starts at an offset, if its size is fixed and the end is at
+/// most 65,535.
+pub(crate) fn end_of(
+    format: Format,
+    offset: u16,
+    specification: &AttributeSpecification,
+) -> Option<u16>
+    ensures { result ≡ end_of format offset specification.now }
+{
+    offset.checked_add(fixed_len(format, specification)?)
+}
+
+/// Returns the size in bytes of every value of an attribute, if it is fixed and if such a value is
+/// invalid only when bytes are missing.
+#[tactic(auto, unfolding(crate::specs::Private::FixedSizes::fixed_len))]
+pub(crate) fn fixed_len(format: Format, specification: &AttributeSpecification) -> Option<u16>
+    ensures { result ≡ fixed_len format specification.now }
+{
+    if !accepts(specification.name, specification.form) {
+        return None;
+    }
+    match Form::of(specification.form)? {
+        Form::Direct(layout) => layout_len(format, layout),
+        Form::ImplicitConst => constant_len(specification),
+        Form::Indirect => None,
+    }
+}
+
+/// Returns the size of an attribute whose value is in its declaration: 0 if the value is valid,
+/// otherwise `None`.
+fn constant_len(specification: &AttributeSpecification) -> Option<u16>
+    ensures { result ≡ constant_len specification.now }
+{
+    let constant = Content::Signed(specification.constant?);
+    if is_negative_count(specification.name, constant) {
+        return None;
+    }
+    Some(0)
+}
+
+/// Returns the size of every value in a layout, if it is fixed and if any bytes are a valid value.
+fn layout_len(format: Format, layout: ValueLayout) -> Option<u16>
+    ensures { result ≡ layout_len format layout }
+{
+    match layout {
+        ValueLayout::Fixed(width) => Some(byte_len(width)),
+        ValueLayout::Offset => Some(format.offset_len() as u16),
+        ValueLayout::Present => Some(0),
+        ValueLayout::Sixteen => Some(16),
+        _ => None,
+    }
+}
+
+fn byte_len(width: Width) -> u16
+    ensures { result ≡ byte_len width }
+{
+    match width {
+        Width::One => 1,
+        Width::Two => 2,
+        Width::Three => 3,
+        Width::Four => 4,
+        Width::Eight => 8,
+    }
+}
