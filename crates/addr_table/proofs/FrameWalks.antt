@@ -3,3 +3,4 @@ pub mod FrameLaws
 pub mod FrameTurns
 pub mod SiteLaws
 pub mod WalkLaws
+pub mod EmptyNames

@@ -20,19 +20,24 @@ pub struct Frame<'a> {
     /// The index of its scope; `None` if the address has only a row.
     scope: Option<usize>,
     site: FrameSite,
+    /// The first byte of its name. It is read when the frame is found, so that the processor has
+    /// the name when it is printed.
+    initial: Option<u8>,
 }
 
 impl<'a> Model for Frame<'a> {
+    ghost use Rattle.std.specs.Prelude.{◌≡◌};
     ghost use Rattle.addr_table.specs.Frames.{Frame as FrameSeen};
     ghost use Rattle.dwarf_entries.specs.Order.{AreInOrder};
-    ghost use Rattle.addr_table.specs.Private.Views.{frame_view};
+    ghost use Rattle.addr_table.specs.Private.Views.{frame_view, initial_of};
 
     ghost Value = { FrameSeen };
 
     ghost view = { λ f. frame_view f.tables.bytes.now f.tables.lines.now f.tables.scopes.now.scopes
         f.scope f.site };
 
-    ghost invariant = { λ f. AreInOrder f.tables.scopes.now.scopes };
+    ghost invariant = { λ f. AreInOrder f.tables.scopes.now.scopes
+        × (f.initial ≡ initial_of f.tables.bytes.now f.tables.scopes.now.scopes f.scope) };
 }
 
 impl<'a> Frame<'a> {
@@ -40,6 +45,9 @@ impl<'a> Frame<'a> {
     pub fn name(&self) -> Option<&'a [u8]>
         ensures { option_map (λ text. text.now) result ≡ self.now.name }
     {
+        if let Some(0) = self.initial {
+            return Some(&[]);
+        }
         self.tables.name(self.scope?)
     }
 
@@ -142,6 +150,7 @@ impl<'a> FrameWalk<'a> {
                 tables,
                 scope: None,
                 site,
+                initial: None,
             });
         }
         let next = next_in_chain(tables.scopes, self.parents, self.link, self.top, self.scope);
@@ -155,6 +164,7 @@ impl<'a> FrameWalk<'a> {
             tables,
             scope: Some(number),
             site,
+            initial: tables.initial(number),
         })
     }
 }

@@ -1,12 +1,12 @@
 //! The strings, paths and lines of frames.
 
-ghost use Rattle.std.specs.Prelude.{◌≡◌, option_map, slice_get};
+ghost use Rattle.std.specs.Prelude.{◌≡◌, Some, option_map, slice_get};
 ghost use Rattle.std.specs.Option.{option_and_then};
 ghost use Rattle.std.specs.List.{join_with_byte};
 ghost use Rattle.dwarf_bytes.specs.Elf.{layout};
 ghost use Rattle.dwarf_entries.specs.Order.{AreInOrder};
 ghost use Rattle.addr_table.specs.Frames.{text_section, text_bytes, file_path};
-ghost use Rattle.addr_table.specs.Private.Views.{optional_row_site, site_view};
+ghost use Rattle.addr_table.specs.Private.Views.{initial_of, optional_row_site, site_view};
 ghost use Rattle.addr_table.specs.declared.object_tables.FrameSite.TheVariants.{Call};
 
 use crate::path::Path;
@@ -50,6 +50,20 @@ impl<'a> ObjectTables<'a> {
         ensures { result.now ≡ text_bytes self.entry.bytes.now text }
     {
         text_at(self.section(text.section), text.offset as u64).unwrap_or(&[])
+    }
+
+    /// Returns the first byte of the name of the scope with an index. It is the NUL of an empty
+    /// name.
+    pub fn initial(self, number: usize) -> Option<u8>
+        requires { AreInOrder self.scopes.now.scopes }
+        ensures { result ≡ initial_of self.entry.bytes.now self.entry.scopes.now.scopes
+            (Some number) }
+    {
+        if number >= count(self.scopes) {
+            return None;
+        }
+        let name = scope_at(self.scopes, number).name()?;
+        self.section(name.section).get(name.offset).copied()
     }
 
     /// Returns the name of the scope with an index.

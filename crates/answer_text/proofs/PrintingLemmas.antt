@@ -3,7 +3,6 @@ use Rattle.std.proofs.Common.{◌≡◌, ℕ, true, false, List, [], ◌∷◌, 
 use Rattle.std.proofs.Common.{append_assoc, append-nil, Bool, arith}
 use Rattle.std.proofs.lemmas.Fmt.{decimal_digit}
 use Rattle.std.specs.Prelude.{Option, None, Some, Result, Ok, Err, flat_map, if◌then◌else◌}
-use Rattle.std.specs.Prelude.{MatchOption, IfSome}
 use Rattle.answer_text.specs.Pending.{Put, Cut, Puts}
 use Rattle.addr_table.specs.Frames.{Frame, Site, first_site}
 use Rattle.answer_text.specs.Printable.{text_or_unknown}
@@ -11,8 +10,8 @@ use Rattle.answer_text.specs.Text.{frame_text, later_text, frames_text, name_tex
 use Rattle.answer_text.specs.Text.{name_of, after_name}
 use Rattle.answer_text.specs.Text.{file_of, place_text}
 use Rattle.io_streams.specs.declared.options.Options.{Options}
-use Rattle.answer_text.specs.Private.Frames.{IsNamed, with_next}
-use Rattle.answer_text.specs.declared.frame_text.NamedFrame.{NamedFrame}
+use Rattle.answer_text.specs.Private.Frames.{with_next}
+use Rattle.std.specs.Iterator.{YieldsFirstBy}
 use Rattle.answer_text.proofs.PendingLemmas.{cut-more, puts-then, cut-as, put-as, puts-as}
 
 pub cut-same : (a b : Option (List ℕ)) (h : List ℕ) (t t' : Option (List ℕ)) (rest : List ℕ)
@@ -152,9 +151,8 @@ site-text options site fs unnamed alone is =
     first (frame ∷ outer) = rw (unnamed, alone) (sym (append-nil _))
 
 -- the frames before and after the next one was looked up
-pub looked-up : (options : Options) (old new : List Frame) (next : Option NamedFrame)
-    → MatchOption next ((old ≡ []) × (new ≡ []))
-    (λ named. (old ≡ named.frame ∷ new) × IsNamed options named)
-    → (with_next next new ≡ old) × IfSome next (IsNamed options)
-looked-up options old new None h = (sym h.0, tt)
-looked-up options old new (Some named) h = (sym h.0, h.1)
+pub looked-up : (old new : List Frame) (next : Option Frame)
+    → YieldsFirstBy (λ frame. frame) (λ frames. frames) old next new
+    → with_next next new ≡ old
+looked-up old new None h = sym h.0
+looked-up old new (Some frame) h = sym h

@@ -7,50 +7,19 @@ ghost use Rattle.io_streams.specs.Streams.{failures_after};
 ghost use Rattle.answer_text.specs.Pending.{Puts};
 ghost use Rattle.answer_text.specs.Printable.{text_or_unknown};
 ghost use Rattle.answer_text.specs.Printable.{borrowed_text};
-ghost use Rattle.answer_text.specs.Private.Frames.{IsNamed};
 ghost use Rattle.answer_text.specs.Text.{name_of, file_of, after_name, before_later, name_text};
 ghost use Rattle.answer_text.specs.Text.{place_text, frame_text, later_text};
 
 use crate::paths::{put_base_name, put_path};
 use crate::pending::Pending;
-use addr_table::{Frame, Frames, Path};
+use addr_table::{Frame, Path};
 use io_streams::{DeviceFault, Options, Sink};
 use itoa::Buffer;
 
-/// A frame with the name to print. The name is `None` if names are not requested.
-#[derive(Drop)]
-pub struct NamedFrame<'a> {
-    frame: Frame<'a>,
-    name: Option<&'a [u8]>,
-}
-
-impl<'a> NamedFrame<'a> {
-    /// Looks up the name to print of a frame: the linkage name if it is requested and present, else
-    /// the name.
-    fn of(options: &Options, frame: Frame<'a>) -> NamedFrame<'a>
-        ensures frame { result.frame ≡ frame.entry }
-        ensures name { IsNamed options.now result }
-    {
-        let name = printed_name(options, &frame);
-        NamedFrame { frame, name }
-    }
-}
-
-/// Returns the next frame with the name to print.
-pub fn next_frame<'a>(options: &Options, frames: &mut Frames<'a>) -> Option<NamedFrame<'a>>
-    ensures { MatchOption result ((frames.old ≡ []) × (frames.new ≡ []))
-        (λ next. (frames.old ≡ next.frame ∷ frames.new) × IsNamed options.now next) }
-{
-    Some(NamedFrame::of(options, frames.next()?))
-}
-
-/// Returns the name to print, if names are requested.
+/// Returns the name to print: the linkage name if it is requested and present, else the name.
 fn printed_name<'a>(options: &Options, frame: &Frame<'a>) -> Option<&'a [u8]>
-    ensures { options.now.functions ≡ true → borrowed_text result ≡ name_of options.now frame.now }
+    ensures { borrowed_text result ≡ name_of options.now frame.now }
 {
-    if !options.functions {
-        return None;
-    }
     if !options.linkage {
         return frame.name();
     }
@@ -95,19 +64,18 @@ fn put_before_later<W: Sink>(
 /// Appends the name of a frame if names are requested.
 fn put_name<W: Sink>(
     options: &Options,
-    frame: &NamedFrame<'_>,
+    frame: &Frame<'_>,
     pending: &mut Pending,
     writer: &mut W,
 ) -> Result<(), DeviceFault>
-    requires { IsNamed options.now frame.now }
     ensures bytes { Puts (W.written writer.old) (W.written writer.new) pending.old pending.new
-        result (name_text options.now frame.now.frame) }
+        result (name_text options.now frame.now) }
     ensures failures { W.failures writer.new ≡ failures_after (W.failures writer.old) result }
 {
     if !options.functions {
         return Ok(());
     }
-    pending.put_or_unknown(frame.name, writer)?;
+    pending.put_or_unknown(printed_name(options, frame), writer)?;
     put_after_name(options, pending, writer)
 }
 
@@ -163,35 +131,27 @@ pub fn put_place<W: Sink>(
 /// Appends a frame.
 pub fn put_frame<W: Sink>(
     options: &Options,
-    frame: &NamedFrame<'_>,
+    frame: &Frame<'_>,
     pending: &mut Pending,
     writer: &mut W,
 ) -> Result<(), DeviceFault>
-    requires { IsNamed options.now frame.now }
     ensures bytes { Puts (W.written writer.old) (W.written writer.new) pending.old pending.new
-        result (frame_text options.now frame.now.frame) }
+        result (frame_text options.now frame.now) }
     ensures failures { W.failures writer.new ≡ failures_after (W.failures writer.old) result }
 {
     put_name(options, frame, pending, writer)?;
-    put_place(
-        options,
-        frame.frame.path(),
-        frame.frame.line(),
-        pending,
-        writer,
-    )
+    put_place(options, frame.path(), frame.line(), pending, writer)
 }
 
 /// Appends a frame that is not the innermost one.
 pub fn put_later<W: Sink>(
     options: &Options,
-    frame: &NamedFrame<'_>,
+    frame: &Frame<'_>,
     pending: &mut Pending,
     writer: &mut W,
 ) -> Result<(), DeviceFault>
-    requires { IsNamed options.now frame.now }
     ensures bytes { Puts (W.written writer.old) (W.written writer.new) pending.old pending.new
-        result (later_text options.now frame.now.frame) }
+        result (later_text options.now frame.now) }
     ensures failures { W.failures writer.new ≡ failures_after (W.failures writer.old) result }
 {
     put_before_later(options, pending, writer)?;

@@ -1,16 +1,16 @@
 //! Formats and writes answers.
 
-ghost use Rattle.std.specs.Prelude.{◌≡◌, ◌++◌, ◌∷◌, [], List, IfErr, IfSome, flat_map};
-ghost use Rattle.answer_text.specs.Private.Frames.{IsNamed, with_next};
+ghost use Rattle.std.specs.Prelude.{◌≡◌, ◌++◌, ◌∷◌, [], List, IfErr, flat_map};
+ghost use Rattle.answer_text.specs.Private.Frames.{with_next};
 ghost use Rattle.io_streams.specs.Streams.{Writes, failures_after};
 ghost use Rattle.answer_text.specs.Pending.{Puts};
 ghost use Rattle.answer_text.specs.Text.{after_address, nothing_text, later_text, frames_text};
 ghost use Rattle.answer_text.specs.Text.{heading_text, answer_text};
 
-use crate::frame_text::{NamedFrame, next_frame, put_frame, put_later, put_place};
+use crate::frame_text::{put_frame, put_later, put_place};
 use crate::numerals::address_text;
 use crate::pending::Pending;
-use addr_table::Frames;
+use addr_table::{Frame, Frames};
 use io_streams::{DeviceFault, Options, RunFault, Sink};
 use module_map::Answer;
 
@@ -37,20 +37,19 @@ fn nothing_text(options: &Options) -> &'static [u8]
 /// Appends the frames after the innermost one: `next` and `frames`.
 fn put_rest<'a, W: Sink>(
     options: &Options,
-    mut next: Option<NamedFrame<'a>>,
+    mut next: Option<Frame<'a>>,
     mut frames: Frames<'a>,
     pending: &mut Pending,
     writer: &mut W,
 ) -> Result<(), DeviceFault>
-    requires { IfSome next (IsNamed options.now) }
     ensures bytes { Puts (W.written writer.old) (W.written writer.new) pending.old pending.new
         result (flat_map (later_text options.now) (with_next next.entry frames.entry)) }
     ensures failures { W.failures writer.new ≡ failures_after (W.failures writer.old) result }
 {
     while let Some(frame) = next {
-        // The next frame is looked up before this one is printed, so that the processor can wait
-        // for its name meanwhile.
-        next = next_frame(options, &mut frames);
+        // The next frame is looked up before this one is printed, so that the processor can fetch
+        // its name meanwhile.
+        next = frames.next();
         put_later(options, &frame, pending, writer)?;
     }
     Ok(())
@@ -67,13 +66,13 @@ fn put_frames<W: Sink>(
         result (frames_text options.now frames.entry) }
     ensures failures { W.failures writer.new ≡ failures_after (W.failures writer.old) result }
 {
-    let Some(frame) = next_frame(options, &mut frames) else {
+    let Some(frame) = frames.next() else {
         return pending.put(nothing_text(options), writer);
     };
     if !options.inlines {
         return put_frame(options, &frame, pending, writer);
     }
-    let next = next_frame(options, &mut frames);
+    let next = frames.next();
     put_frame(options, &frame, pending, writer)?;
     put_rest(options, next, frames, pending, writer)
 }

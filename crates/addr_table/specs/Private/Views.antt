@@ -10,7 +10,7 @@ use Rattle.dwarf_entries.specs.Scopes.{Scope}
 use Rattle.addr_table.specs.declared.object_tables.FrameSite.{FrameSite}
 use Rattle.addr_table.specs.declared.object_tables.FrameSite.TheVariants.{Row, Call}
 use Rattle.addr_table.specs.Frames.{Frame, Site, nowhere, frame_at, site_of_row, call_site}
-use Rattle.addr_table.specs.Frames.{frames_from}
+use Rattle.addr_table.specs.Frames.{frames_from, text_section}
 use Rattle.dwarf_lines.specs.declared.row.Row.{Row as LineRow}
 use Rattle.addr_table.specs.Private.Walks.{chain_at}
 
@@ -34,6 +34,12 @@ frame_view bytes lines scopes number site =
     let scope = option_and_then (slice_get scopes) number in
     frame_at bytes (option_and_then (λ s. s.name) scope)
     (option_and_then (λ s. s.linkage_name) scope) (site_view bytes lines scopes site)
+
+-- the first byte of the name of the scope with this number, if it has a name
+abbrev pub initial_of : List ℕ → List Scope → Option ℕ → Option ℕ
+initial_of bytes scopes number =
+    option_and_then (λ text. slice_get (text_section bytes text.section) text.offset)
+    (option_and_then (λ s. s.name) (option_and_then (slice_get scopes) number))
 
 -- the frame of a row without a scope
 abbrev pub row_frame : Bool → List ℕ → Site → List Frame
