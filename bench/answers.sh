@@ -1,9 +1,9 @@
 #!/usr/bin/env bash
-# answers.sh [MANY [FEW]] measures answers per second on three objects, for this program and the
-# installed peers: in a batch over a pipe and in ping-pong, with FILE:LINE alone and with functions
-# and inlined callers. The addresses are spread over an object in random order. For this program it
-# also measures sixteen addresses that are looked up repeatedly. MANY is the number of addresses,
-# and FEW is the number for slow peers.
+# answers.sh [MANY [FEW]] measures answers per second on three objects, for this program, plain C and
+# the installed peers: in a batch over a pipe and in ping-pong, with FILE:LINE alone and with
+# functions and inlined callers. The addresses are spread over an object in random order. For this
+# program it also measures sixteen addresses that are looked up repeatedly. MANY is the number of
+# addresses, and FEW is the number for slow peers. It fails if plain C answers differently.
 set -euo pipefail
 cd "$(dirname "$0")/.."
 program=${ADDR2LINE_LIVE:-crates/addr2line_live/out/addr2line_live}
@@ -12,6 +12,7 @@ few=${2:-200}
 tools/build.sh addr2line_live program.log
 [ -f out/objects/large ] || tools/make_objects.sh out/objects
 gcc -O2 -o out/ask bench/ask.c
+bench/build.sh
 
 # spread OBJECT COUNT KINDS prints COUNT addresses of the executable sections in random order, or
 # repeats the first KINDS of them.
@@ -72,11 +73,14 @@ measure() {
     spread "$object" "$many" "$many" > out/spread
     spread "$object" "$many" 16 > out/hot
     head -n "$few" out/spread > out/few
+    cmp <("$program" -e "$object" $options < out/spread) \
+        <(out/replies -e "$object" $options < out/spread)
     for cache in 1024 0 65536; do
         show "addr2line_live --cache $cache, spread" "$how" out/spread \
             "$program" -e "$object" $options --cache $cache
     done
     show 'addr2line_live, sixteen addresses' "$how" out/hot "$program" -e "$object" $options
+    show 'plain C, spread' "$how" out/spread out/replies -e "$object" $options
     if command -v llvm-symbolizer > /dev/null; then
         local style='--functions=none --no-inlines'
         [ -z "$options" ] || style='--functions=short --inlines'

@@ -21,5 +21,6 @@ compile() {
 }
 
 compile bench "$folder"
+g++ "${flags[@]}" -o "$folder/replies" bench/replies.cpp "$folder"/{elf,lines,entries}.o
 compile bench/earlier "$folder/earlier"
 gcc "${flags[@]}" -o "$folder/leb" bench/leb.c

@@ -21,8 +21,9 @@ OURS = "addr2line_live"
 PAGE = Path(__file__).resolve().parent.parent / "docs/MEASURED.md"
 # What the columns of bench/run.sh are, each in one sentence.
 COLUMNS = {
-    "plain C": "Plain C is a program of this repository (`bench/*.c`, `bench/load.cpp`) that makes"
-    " the same checks and stores the same data in the fastest way that we know.",
+    "plain C": "Plain C is a program of this repository (`bench/*.c`, `bench/*.cpp`) that makes"
+    " the same checks, stores the same data and gives the same replies in the fastest way that we"
+    " know.",
     "earlier plain C": "Earlier plain C (`bench/earlier`) makes the same checks and stores the same"
     " data in a simpler and slower way.",
     "huge pages": "Huge pages is addr2line_live with huge pages for its memory"
