@@ -7,7 +7,7 @@ ghost use Rattle.addr_table.specs.Private.Walks.{HaveParents, parent_codes};
 
 use crate::object_tables::{FrameSite, ObjectTables};
 use crate::optional_index::OptionalIndex;
-use crate::parent_walk::{next_in_chain, outer, search_start, top};
+use crate::parent_walk::{has_empty_name, next_in_chain, outer, search_start, top};
 use crate::path::Path;
 use crate::place::Place;
 use crate::scopes::count;
@@ -20,24 +20,22 @@ pub struct Frame<'a> {
     /// The index of its scope; `None` if the address has only a row.
     scope: Option<usize>,
     site: FrameSite,
-    /// The first byte of its name. It is read when the frame is found, so that the processor has
-    /// the name when it is printed.
-    initial: Option<u8>,
+    /// Whether its name may be empty.
+    may_be_empty: bool,
 }
 
 impl<'a> Model for Frame<'a> {
     ghost use Rattle.std.specs.Prelude.{◌≡◌};
     ghost use Rattle.addr_table.specs.Frames.{Frame as FrameSeen};
     ghost use Rattle.dwarf_entries.specs.Order.{AreInOrder};
-    ghost use Rattle.addr_table.specs.Private.Views.{frame_view, initial_of};
+    ghost use Rattle.addr_table.specs.Private.Views.{frame_view};
 
     ghost Value = { FrameSeen };
 
     ghost view = { λ f. frame_view f.tables.bytes.now f.tables.lines.now f.tables.scopes.now.scopes
         f.scope f.site };
 
-    ghost invariant = { λ f. AreInOrder f.tables.scopes.now.scopes
-        × (f.initial ≡ initial_of f.tables.bytes.now f.tables.scopes.now.scopes f.scope) };
+    ghost invariant = { λ f. AreInOrder f.tables.scopes.now.scopes };
 }
 
 impl<'a> Frame<'a> {
@@ -45,10 +43,12 @@ impl<'a> Frame<'a> {
     pub fn name(&self) -> Option<&'a [u8]>
         ensures { option_map (λ text. text.now) result ≡ self.now.name }
     {
-        if let Some(0) = self.initial {
+        let number = self.scope?;
+        // The end of an empty name is not searched for.
+        if self.may_be_empty && self.tables.has_empty_name(number) {
             return Some(&[]);
         }
-        self.tables.name(self.scope?)
+        self.tables.name(number)
     }
 
     /// Returns the linkage name of the function, if it has one.
@@ -87,6 +87,8 @@ pub struct FrameWalk<'a> {
     site: FrameSite,
     /// Whether the address has only a row, whose frame was not returned yet.
     alone: bool,
+    /// Whether the names of frames may be empty.
+    may_be_empty: bool,
 }
 
 impl<'a> Model for FrameWalk<'a> {
@@ -113,8 +115,9 @@ impl<'a> FrameWalk<'a> {
     {
         let link = place.link;
         let started = search_start(count(tables.scopes), place.scope);
-        // The row is read before the walk, so that the processor can wait for both at once.
+        // The row and all names are read first, so that the processor waits for them at once.
         let site = FrameSite::Row(tables.row(place.row));
+        let may_be_empty = has_empty_name(tables, parents, started);
         match top(tables.scopes, parents, link, started) {
             Some(top) => FrameWalk {
                 tables,
@@ -124,6 +127,7 @@ impl<'a> FrameWalk<'a> {
                 top,
                 site,
                 alone: false,
+                may_be_empty,
             },
             None => FrameWalk {
                 tables,
@@ -133,6 +137,7 @@ impl<'a> FrameWalk<'a> {
                 top: 0,
                 site,
                 alone: place.row.is_some(),
+                may_be_empty,
             },
         }
     }
@@ -150,7 +155,7 @@ impl<'a> FrameWalk<'a> {
                 tables,
                 scope: None,
                 site,
-                initial: None,
+                may_be_empty: false,
             });
         }
         let next = next_in_chain(tables.scopes, self.parents, self.link, self.top, self.scope);
@@ -164,7 +169,7 @@ impl<'a> FrameWalk<'a> {
             tables,
             scope: Some(number),
             site,
-            initial: tables.initial(number),
+            may_be_empty: self.may_be_empty,
         })
     }
 }

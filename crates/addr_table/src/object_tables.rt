@@ -1,12 +1,12 @@
 //! The strings, paths and lines of frames.
 
-ghost use Rattle.std.specs.Prelude.{◌≡◌, Some, option_map, slice_get};
+ghost use Rattle.std.specs.Prelude.{◌≡◌, option_map, slice_get};
 ghost use Rattle.std.specs.Option.{option_and_then};
 ghost use Rattle.std.specs.List.{join_with_byte};
 ghost use Rattle.dwarf_bytes.specs.Elf.{layout};
 ghost use Rattle.dwarf_entries.specs.Order.{AreInOrder};
 ghost use Rattle.addr_table.specs.Frames.{text_section, text_bytes, file_path};
-ghost use Rattle.addr_table.specs.Private.Views.{initial_of, optional_row_site, site_view};
+ghost use Rattle.addr_table.specs.Private.Views.{is_empty_name, optional_row_site, site_view};
 ghost use Rattle.addr_table.specs.declared.object_tables.FrameSite.TheVariants.{Call};
 
 use crate::path::Path;
@@ -52,18 +52,21 @@ impl<'a> ObjectTables<'a> {
         text_at(self.section(text.section), text.offset as u64).unwrap_or(&[])
     }
 
-    /// Returns the first byte of the name of the scope with an index. It is the NUL of an empty
-    /// name.
-    pub fn initial(self, number: usize) -> Option<u8>
+    /// Returns whether the scope with an index has an empty name.
+    pub fn has_empty_name(self, number: usize) -> bool
         requires { AreInOrder self.scopes.now.scopes }
-        ensures { result ≡ initial_of self.entry.bytes.now self.entry.scopes.now.scopes
-            (Some number) }
+        ensures { result ≡ is_empty_name self.entry.bytes.now
+            (option_and_then (λ s. s.name) (slice_get self.entry.scopes.now.scopes number)) }
     {
         if number >= count(self.scopes) {
-            return None;
+            return false;
         }
-        let name = scope_at(self.scopes, number).name()?;
-        self.section(name.section).get(name.offset).copied()
+        let Some(name) = scope_at(self.scopes, number).name() else {
+            return false;
+        };
+        self.section(name.section)
+            .get(name.offset)
+            .is_some_and(|byte| *byte == 0)
     }
 
     /// Returns the name of the scope with an index.

@@ -2,7 +2,7 @@
 use Rattle.std.proofs.Common.{◌≡◌, ℕ, true, false, List, [], ◌∷◌, ◌++◌, refl, sym, ap, ◌∙◌, subst}
 use Rattle.std.proofs.Common.{append_assoc, append-nil, Bool, arith}
 use Rattle.std.proofs.lemmas.Fmt.{decimal_digit}
-use Rattle.std.specs.Prelude.{Option, None, Some, Result, Ok, Err, flat_map, if◌then◌else◌}
+use Rattle.std.specs.Prelude.{Option, None, Result, Ok, Err, flat_map, if◌then◌else◌}
 use Rattle.answer_text.specs.Pending.{Put, Cut, Puts}
 use Rattle.addr_table.specs.Frames.{Frame, Site, first_site}
 use Rattle.answer_text.specs.Printable.{text_or_unknown}
@@ -10,8 +10,6 @@ use Rattle.answer_text.specs.Text.{frame_text, later_text, frames_text, name_tex
 use Rattle.answer_text.specs.Text.{name_of, after_name}
 use Rattle.answer_text.specs.Text.{file_of, place_text}
 use Rattle.io_streams.specs.declared.options.Options.{Options}
-use Rattle.answer_text.specs.Private.Frames.{with_next}
-use Rattle.std.specs.Iterator.{YieldsFirstBy}
 use Rattle.answer_text.proofs.PendingLemmas.{cut-more, puts-then, cut-as, put-as, puts-as}
 
 pub cut-same : (a b : Option (List ℕ)) (h : List ℕ) (t t' : Option (List ℕ)) (rest : List ℕ)
@@ -75,14 +73,13 @@ cut-frames a b h options fs f rest e p =
     (cut-more a b h (frame_text options f)
     (if options.inlines then flat_map (later_text options) rest else []) p)
 
-pub puts-one : {E : Type 0} (a b : Option (List ℕ)) (h h' : List ℕ) (options : Options)
-    (fs : List Frame) (f : Frame) (rest : List Frame) (r : Result (Unit {0}) E) → fs ≡ f ∷ rest
-    → options.inlines ≡ false → Puts a b h h' r (frame_text options f)
-    → Puts a b h h' r (frames_text options fs)
-puts-one a b h h' options fs f rest r e off p =
+pub put-one : (a b : Option (List ℕ)) (h h' : List ℕ) (options : Options) (fs : List Frame)
+    (f : Frame) (rest : List Frame) → fs ≡ f ∷ rest → options.inlines ≡ false
+    → Put a b h h' (frame_text options f) → Put a b h h' (frames_text options fs)
+put-one a b h h' options fs f rest e off p =
     let head : frame_text options f ≡ frames_text options (f ∷ rest) =
     rw off (sym (append-nil (frame_text options f))) in
-    puts-as a b h h' _ _ r (head ∙ ap (frames_text options) (sym e)) p
+    put-as a b h h' _ _ (head ∙ ap (frames_text options) (sym e)) p
 
 pub puts-all : {E : Type 0} (a b c : Option (List ℕ)) (h h' h'' : List ℕ) (options : Options)
     (fs : List Frame) (f : Frame)
@@ -149,10 +146,3 @@ site-text options site fs unnamed alone is =
         → place_text options (first_site fs).path (first_site fs).line ≡ frames_text options fs
     first [] = rw (no_file, unnamed, decimal_digit 0 (omega arith)) refl
     first (frame ∷ outer) = rw (unnamed, alone) (sym (append-nil _))
-
--- the frames before and after the next one was looked up
-pub looked-up : (old new : List Frame) (next : Option Frame)
-    → YieldsFirstBy (λ frame. frame) (λ frames. frames) old next new
-    → with_next next new ≡ old
-looked-up old new None h = sym h.0
-looked-up old new (Some frame) h = sym h

@@ -1,7 +1,6 @@
 //! Formats and writes answers.
 
 ghost use Rattle.std.specs.Prelude.{◌≡◌, ◌++◌, ◌∷◌, [], List, IfErr, flat_map};
-ghost use Rattle.answer_text.specs.Private.Frames.{with_next};
 ghost use Rattle.io_streams.specs.Streams.{Writes, failures_after};
 ghost use Rattle.answer_text.specs.Pending.{Puts};
 ghost use Rattle.answer_text.specs.Text.{after_address, nothing_text, later_text, frames_text};
@@ -10,7 +9,7 @@ ghost use Rattle.answer_text.specs.Text.{heading_text, answer_text};
 use crate::frame_text::{put_frame, put_later, put_place};
 use crate::numerals::address_text;
 use crate::pending::Pending;
-use addr_table::{Frame, Frames};
+use addr_table::Frames;
 use io_streams::{DeviceFault, Options, RunFault, Sink};
 use module_map::Answer;
 
@@ -34,22 +33,18 @@ fn nothing_text(options: &Options) -> &'static [u8]
     }
 }
 
-/// Appends the frames after the innermost one: `next` and `frames`.
-fn put_rest<'a, W: Sink>(
+/// Appends the frames after the innermost one.
+fn put_rest<W: Sink>(
     options: &Options,
-    mut next: Option<Frame<'a>>,
-    mut frames: Frames<'a>,
+    frames: Frames<'_>,
     pending: &mut Pending,
     writer: &mut W,
 ) -> Result<(), DeviceFault>
     ensures bytes { Puts (W.written writer.old) (W.written writer.new) pending.old pending.new
-        result (flat_map (later_text options.now) (with_next next.entry frames.entry)) }
+        result (flat_map (later_text options.now) frames.entry) }
     ensures failures { W.failures writer.new ≡ failures_after (W.failures writer.old) result }
 {
-    while let Some(frame) = next {
-        // The next frame is looked up before this one is printed, so that the processor can fetch
-        // its name meanwhile.
-        next = frames.next();
+    for frame in frames {
         put_later(options, &frame, pending, writer)?;
     }
     Ok(())
@@ -69,12 +64,11 @@ fn put_frames<W: Sink>(
     let Some(frame) = frames.next() else {
         return pending.put(nothing_text(options), writer);
     };
-    if !options.inlines {
-        return put_frame(options, &frame, pending, writer);
-    }
-    let next = frames.next();
     put_frame(options, &frame, pending, writer)?;
-    put_rest(options, next, frames, pending, writer)
+    if !options.inlines {
+        return Ok(());
+    }
+    put_rest(options, frames, pending, writer)
 }
 
 /// Appends the address if addresses are requested.

@@ -1,17 +1,20 @@
 -- The values of frames and paths.
 use Rattle.std.specs.Prelude.{ℕ, List, [], ◌∷◌, ◌++◌, map, drop, reverse, Bool, true, false, Option}
-use Rattle.std.specs.Prelude.{None, option_map, unwrap_or, slice_get}
-use Rattle.std.specs.Option.{option_and_then}
+use Rattle.std.specs.Prelude.{Some, None, option_map, unwrap_or, slice_get, ◌==◌}
+use Rattle.std.specs.List.{list_any}
+use Rattle.std.specs.Option.{option_and_then, option_map_or}
 use Rattle.dwarf_bytes.specs.declared.text.Text.{Text}
 use Rattle.dwarf_lines.specs.Sections.{LineSections}
 use Rattle.dwarf_lines.specs.Lines.{Lines}
 use Rattle.dwarf_lines.specs.Paths.{part_bytes}
 use Rattle.dwarf_entries.specs.Scopes.{Scope}
+use Rattle.dwarf_entries.specs.declared.text_offset.TextOffset.{TextOffset}
 use Rattle.addr_table.specs.declared.object_tables.FrameSite.{FrameSite}
 use Rattle.addr_table.specs.declared.object_tables.FrameSite.TheVariants.{Row, Call}
 use Rattle.addr_table.specs.Frames.{Frame, Site, nowhere, frame_at, site_of_row, call_site}
 use Rattle.addr_table.specs.Frames.{frames_from, text_section}
 use Rattle.dwarf_lines.specs.declared.row.Row.{Row as LineRow}
+use Rattle.addr_table.specs.Private.Parents.{enclosing_at}
 use Rattle.addr_table.specs.Private.Walks.{chain_at}
 
 -- the remaining parts of a path
@@ -35,11 +38,16 @@ frame_view bytes lines scopes number site =
     frame_at bytes (option_and_then (λ s. s.name) scope)
     (option_and_then (λ s. s.linkage_name) scope) (site_view bytes lines scopes site)
 
--- the first byte of the name of the scope with this number, if it has a name
-abbrev pub initial_of : List ℕ → List Scope → Option ℕ → Option ℕ
-initial_of bytes scopes number =
-    option_and_then (λ text. slice_get (text_section bytes text.section) text.offset)
-    (option_and_then (λ s. s.name) (option_and_then (slice_get scopes) number))
+-- whether there is a name that is empty: its first byte is the NUL that ends it
+abbrev pub is_empty_name : List ℕ → Option TextOffset → Bool
+is_empty_name bytes None = false
+is_empty_name bytes (Some text) = option_map_or (λ byte. byte == 0)
+    (slice_get (text_section bytes text.section) text.offset) false
+
+-- whether the scope of `code` or one that encloses it has an empty name
+abbrev pub has_empty_name : List ℕ → List Scope → ℕ → Bool
+has_empty_name bytes scopes code =
+    list_any (λ s. is_empty_name bytes s.name) (enclosing_at scopes code)
 
 -- the frame of a row without a scope
 abbrev pub row_frame : Bool → List ℕ → Site → List Frame
