@@ -1,6 +1,7 @@
 pub mod ActiveSet
 pub mod Chains
 pub mod Decoding
+pub mod Elements
 pub mod Endpoints
 pub mod FrameWalks
 pub mod Scanning

@@ -54,8 +54,8 @@ fn is_short_printable(text: &[u8]) -> bool
 }
 
 /// Returns whether a block has no control characters.
-// Inlined, so that the size of the block is known. The loop looks at each byte, so that the compiler
-// can test all of them at once.
+// Inlined, so that the size of the block is known. The loop looks at each byte, so that the
+// compiler can test all of them at once.
 #[inline(always)]
 fn is_block_printable(block: &[u8]) -> bool
     ensures { result ≡ list_all (λ byte. not (is_control byte)) block.now }

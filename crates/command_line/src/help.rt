@@ -1,8 +1,8 @@
 //! The version, and the parts of the help that do not describe options.
 
 /// A description of the program.
-pub const ABOUT: &str =
-    "Converts run-time addresses to functions, files and lines while modules are loaded and unloaded.";
+pub const ABOUT: &str = "\
+Converts run-time addresses to functions, files and lines while modules are loaded and unloaded.";
 
 /// The version of the program.
 pub const VERSION: &str = "0.9.0";

@@ -125,15 +125,9 @@ fn parse_path(text: &[u8]) -> Option<&str>
 fn check_load<'a>(name: &'a [u8], base: &[u8], path: &'a [u8]) -> Result<Command<'a>, BadLine>
     ensures { parse_result result ≡ checked_load name.entry.now (number base.now) path.entry.now }
 {
-    let Some(name) = parse_name(name) else {
-        return Err(BadLine::Name);
-    };
-    let Some(base) = parse_number(base) else {
-        return Err(BadLine::Number);
-    };
-    let Some(path) = parse_path(path) else {
-        return Err(BadLine::Path);
-    };
+    let name = parse_name(name).ok_or(BadLine::Name)?;
+    let base = parse_number(base).ok_or(BadLine::Number)?;
+    let path = parse_path(path).ok_or(BadLine::Path)?;
     Ok(Command::Load(name, base, path))
 }
 
@@ -177,12 +171,8 @@ fn parse_unload<'a>(operands: Option<&'a [u8]>) -> Result<Command<'a>, BadLine>
 fn check_move<'a>(name: &'a [u8], base: &[u8]) -> Result<Command<'a>, BadLine>
     ensures { parse_result result ≡ checked_move name.entry.now (number base.now) }
 {
-    let Some(name) = parse_name(name) else {
-        return Err(BadLine::Name);
-    };
-    let Some(base) = parse_number(base) else {
-        return Err(BadLine::Number);
-    };
+    let name = parse_name(name).ok_or(BadLine::Name)?;
+    let base = parse_number(base).ok_or(BadLine::Number)?;
     Ok(Command::Move(name, base))
 }
 

@@ -93,7 +93,8 @@ fn answers_of_other_objects(rt: HostRuntime) {
         (
             b"fi",
             b"load a 0x10000 A4\n11004\n",
-            b"loaded a 0x0000000000011000-0x0000000000012000\nmid\n/src/a.c:11\nmain\n/src/a.c:20\n",
+            b"loaded a 0x0000000000011000-0x0000000000012000\n\
+            mid\n/src/a.c:11\nmain\n/src/a.c:20\n",
         ),
         // control characters are question marks
         (

@@ -70,7 +70,8 @@ fn commands_after_a_load(rt: HostRuntime) -> Result<(), Fail> {
         (
             b"",
             b"11000\nunload a\nload a 0x10000 B\n11000\n",
-            b"/src/a.c:10\nunloaded a\nloaded a 0x0000000000011000-0x0000000000012000\n/src/a.c:12\n",
+            b"/src/a.c:10\nunloaded a\n\
+            loaded a 0x0000000000011000-0x0000000000012000\n/src/a.c:12\n",
         ),
     ];
     for (letters, input, wanted) in rows {

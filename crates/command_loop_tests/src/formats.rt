@@ -87,7 +87,8 @@ fn formats_and_dead_code(rt: HostRuntime) {
         (
             b"fi",
             b"load a 0x10000 dropped mid\n11004\n",
-            b"loaded a 0x0000000000011000-0x0000000000012000\nleaf\n/src/a.c:11\nmain\n/src/a.c:5\n",
+            b"loaded a 0x0000000000011000-0x0000000000012000\n\
+            leaf\n/src/a.c:11\nmain\n/src/a.c:5\n",
         ),
     ];
     for (letters, input, wanted) in rows {

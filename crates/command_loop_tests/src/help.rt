@@ -81,7 +81,8 @@ fn prints_usage(rt: HostRuntime) -> Result<(), Fail> {
     let refused: [([&str; 2], &[u8]); 3] = [
         (
             ["-x", "10"],
-            b"error: unexpected argument '-x' found\n\n  tip: to pass '-x' as a value, use '-- -x'\n\n\
+            b"error: unexpected argument '-x' found\n\n\
+            \x20 tip: to pass '-x' as a value, use '-- -x'\n\n\
             Usage: addr2line_live [OPTIONS] [ADDR]...\n\nFor more information, try '--help'.\n",
         ),
         (

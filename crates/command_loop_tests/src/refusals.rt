@@ -96,7 +96,8 @@ fn malformed_objects(rt: HostRuntime) -> Result<(), Fail> {
         // units and calls
         (
             b"load c 0 A5\nload c 0 A6\n",
-            b"refused object .debug_info version at 0\nrefused object .debug_info call-file at 54\n",
+            b"refused object .debug_info version at 0\n\
+            refused object .debug_info call-file at 54\n",
         ),
         // lines and references
         (

@@ -168,7 +168,8 @@ sound-unchanged hs loads es es' at d lt sound cached = record {
     past e (inl old) = sound.past e old
     past e (inr new) = subst (λ n. n < loads) new.0 (sound.below (get_or hs at d) there)
 
-    right : (e : CacheKey × Option Place) (h : NumberedModule) → Contains hs h → h.serial ≡ e.0.serial
+    right : (e : CacheKey × Option Place) (h : NumberedModule) → Contains hs h
+        → h.serial ≡ e.0.serial
         → Contains es e ⊎ IsAnswerOf (get_or hs at d) e → e.1 ≡ place_in h.loaded.bytes e.0.link
     right e h k s (inl old) = sound.right e h old k s
     right e h k s (inr new) = new.1 ∙ ap (λ (b : List ℕ). place_in b e.0.link)

@@ -3,7 +3,6 @@ use Rattle.std.proofs.Common.{◌≡◌, ◌∙◌, ℕ, zero, suc, ◌+◌, ◌
 use Rattle.std.proofs.Common.{length, get_or, Bool, true, false, cond, ◌&&◌, ◌⊎◌, refl, sym, ap}
 use Rattle.std.proofs.Common.{subst, inl, inr, arith, append-nil, zero-add}
 use Rattle.std.specs.Prelude.{nat_lt, nat_le, filter}
-use Rattle.std.specs.List.{AllByRecursion}
 use Rattle.std.proofs.lemmas.Bool.Decides.{nat_tests}
 use Rattle.std.proofs.lemmas.List.Elements.{filter-append}
 use Rattle.dwarf_entries.specs.Scopes.{Scope}
@@ -11,6 +10,7 @@ use Rattle.dwarf_entries.specs.Order.{AreNumbered, AreNested, AreInOrder}
 use Rattle.addr_table.proofs.Chains.ChainWalks.{no_scope}
 use Rattle.addr_table.specs.Chains.{encloses, enclosing}
 use Rattle.addr_table.specs.Private.Parents.{enclosing_at, IsParent, AreParents}
+use Rattle.addr_table.proofs.Elements.{each-at}
 use Rattle.addr_table.proofs.Chains.ParentLaws.{ends_past, later-enclose, is_before, itself-last}
 use Rattle.addr_table.proofs.Chains.ParentLaws.{enclosing_at-before}
 
@@ -60,12 +60,6 @@ candidate-parent scopes i k code d h lt parent ends =
     past : (i e : ℕ) → e ≤ i → nat_lt i e ≡ false
     past i e le = grind (arith, nat_tests)
 
-each_at : (P : Scope → Type 0) (xs : List Scope) (i : ℕ) (d : Scope) → AllByRecursion P xs
-    → i < length xs → P (get_or xs i d)
-each_at P [] i d h lt = absurd (omega arith)
-each_at P (x ∷ xs) zero d h lt = h.0
-each_at P (x ∷ xs) (suc i) d h lt = each_at P xs i d h.1 (omega arith)
-
 pub number-there : (m total k : ℕ) (xs : List Scope) (d : Scope) → AreNumbered m total xs
     → k < length xs → (get_or xs k d).number ≡ m + k
 number-there m total k [] d h lt = absurd (omega arith)
@@ -112,7 +106,7 @@ all-past m total (suc k) i (s ∷ xs) d h n lt past =
         let inside : m + suc k < s.«end» =
         inner (m + suc k) s.«end» i (nat_le s.number (m + suc k)) t in
         let within : (get_or xs k d).number < s.«end» → (get_or xs k d).«end» ≤ s.«end» =
-        each_at (λ t. t.number < s.«end» → t.«end» ≤ s.«end») xs k d n.0 (omega arith) in
+        each-at (λ t. t.number < s.«end» → t.«end» ≤ s.«end») xs k d n.0 (omega arith) in
         let le : (get_or xs k d).«end» ≤ s.«end» = within (omega arith) in
         ends i s.«end» (omega arith)
 

@@ -7,7 +7,8 @@ use Rattle.std.proofs.lemmas.List.{drop_more}
 use Rattle.dwarf_lines.specs.declared.row.Row.{Row}
 use Rattle.addr_table.specs.Segments.{is_nonempty}
 use Rattle.addr_table.specs.Rows.{Cover, covers_from}
-use Rattle.addr_table.specs.Private.RowOrder.{covering_from, sequence_from, sequence_at, starts_from}
+use Rattle.addr_table.specs.Private.RowOrder.{covering_from, sequence_from, sequence_at}
+use Rattle.addr_table.specs.Private.RowOrder.{starts_from}
 use Rattle.addr_table.proofs.Scanning.Lists.{in-front}
 
 -- ---- all sequences

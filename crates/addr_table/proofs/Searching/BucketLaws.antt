@@ -9,7 +9,8 @@ use Rattle.std.proofs.lemmas.List.{get_or_default}
 use Rattle.std.proofs.Math.ListN.{get_or-eq_default}
 use Rattle.addr_table.specs.Segments.{Segment, AreDisjoint}
 use Rattle.addr_table.specs.Private.Buckets.{bucket_of, AreBuckets, AreBounds, Fills}
-use Rattle.addr_table.proofs.Searching.SearchLaws.{no_segment, each_at}
+use Rattle.addr_table.proofs.Elements.{each-at}
+use Rattle.addr_table.proofs.Searching.SearchLaws.{no_segment}
 
 by_lt : {X : Type 0} (a b : ℕ) → (a < b → X) → (b ≤ a → X) → X
 by_lt a b f g = elim (cases_lt a b) [ inl lt ↦ f lt | inr le ↦ g le ]
@@ -103,7 +104,7 @@ from-rises [] i m d h le lt = absurd (omega arith)
 from-rises (c ∷ list) zero zero d h le lt = omega arith
 from-rises (c ∷ list) zero (suc m) d h le lt =
     let later : c.to ≤ (get_or list m d).from =
-    each_at (λ e. c.to ≤ e.from) list m d h.1 (omega arith) in
+    each-at (λ e. c.to ≤ e.from) list m d h.1 (omega arith) in
     let some : c.from < c.to = h.0 in omega arith
 from-rises (c ∷ list) (suc i) zero d h le lt = absurd (omega arith)
 from-rises (c ∷ list) (suc i) (suc m) d h le lt = from-rises list i m d h.2 (omega arith)

@@ -1,9 +1,8 @@
 -- The segment that contains an address, by the number of segments that start at or before it.
 use Rattle.std.proofs.Common.{◌≡◌, ℕ, zero, suc, ◌+◌, ◌-◌, ◌*◌, ◌^◌, ◌<◌, ◌≤◌, List, [], ◌∷◌, true}
-use Rattle.std.proofs.Common.{false, ◌&&◌, refl, ap, sym, ◌∙◌}
-use Rattle.std.proofs.Common.{subst, arith, length, get_or, inl, inr}
+use Rattle.std.proofs.Common.{false, ◌&&◌, refl, ap, sym, ◌∙◌, subst, arith, length, get_or, inl}
+use Rattle.std.proofs.Common.{inr}
 use Rattle.std.specs.Prelude.{Option, Some, None, find, option_and_then, nat_lt, nat_le, IfSome}
-use Rattle.std.specs.List.{AllByRecursion}
 use Rattle.std.proofs.lemmas.Bool.Decides.{nat_tests}
 use Rattle.std.proofs.lemmas.Bool.{cases_lt}
 use Rattle.std.proofs.lemmas.Nat.{mul-le, pow-add, pow_below}
@@ -13,14 +12,9 @@ use Rattle.addr_table.specs.Segments.{Segment, is_in, place_among, AreDisjoint}
 use Rattle.addr_table.specs.Places.{place_of}
 use Rattle.addr_table.specs.declared.steps.Steps.{Steps}
 use Rattle.addr_table.specs.Steps.{counted}
+use Rattle.addr_table.proofs.Elements.{each-at}
 use Rattle.addr_table.proofs.Searching.StepLaws.{counted-one, counted-decoded}
 use Rattle.addr_table.specs.Private.Segments.{CountsStarted}
-
-pub each_at : {X : Type 0} (P : X → Type 0) (xs : List X) (k : ℕ) (d : X) → AllByRecursion P xs
-    → k < length xs → P (get_or xs k d)
-each_at P [] k d h lt = absurd (omega arith)
-each_at P (x ∷ xs) zero d h lt = h.0
-each_at P (x ∷ xs) (suc k) d h lt = each_at P xs k d h.1 (omega arith)
 
 pub nonempty-at : (list : List Segment) (k : ℕ) (d : Segment) → AreDisjoint list → k < length list
     → (get_or list k d).from < (get_or list k d).to
@@ -38,7 +32,7 @@ found_at (c ∷ list) zero d a h lt from to =
     let held : (nat_le c.from a && nat_lt a c.to) ≡ true = grind (arith, nat_tests) in rw held refl
 found_at (c ∷ list) (suc k) d a h lt from to =
     let within : k < length list = omega arith in
-    let past : c.to ≤ (get_or list k d).from = each_at (λ e. c.to ≤ e.from) list k d h.1 within in
+    let past : c.to ≤ (get_or list k d).from = each-at (λ e. c.to ≤ e.from) list k d h.1 within in
     let out : (nat_le c.from a && nat_lt a c.to) ≡ false = grind (arith, nat_tests) in
     rw out (found_at list k d a h.2 within from to)
 
@@ -54,7 +48,7 @@ none-at (c ∷ list) zero d a h le before after =
     let out : (nat_le c.from a && nat_lt a c.to) ≡ false = grind (arith, nat_tests) in
     rw out (none-at list zero d a h.2 (omega arith) (λ m none. absurd (omega arith)) (λ some.
     let past : c.to ≤ (get_or list zero d).from =
-    each_at (λ e. c.to ≤ e.from) list zero d h.1 some in omega arith))
+    each-at (λ e. c.to ≤ e.from) list zero d h.1 some in omega arith))
 none-at (c ∷ list) (suc zero) d a h le before after =
     let past : c.to ≤ a = before zero (omega arith) in
     let out : (nat_le c.from a && nat_lt a c.to) ≡ false = grind (arith, nat_tests) in
@@ -63,7 +57,7 @@ none-at (c ∷ list) (suc zero) d a h le before after =
 none-at (c ∷ list) (suc (suc n)) d a h le before after =
     let within : n < length list = omega arith in
     let last : (get_or list n d).to ≤ a = before (suc n) (omega arith) in
-    let past : c.to ≤ (get_or list n d).from = each_at (λ e. c.to ≤ e.from) list n d h.1 within in
+    let past : c.to ≤ (get_or list n d).from = each-at (λ e. c.to ≤ e.from) list n d h.1 within in
     let full : (get_or list n d).from < (get_or list n d).to = nonempty-at list n d h.2 within in
     let out : (nat_le c.from a && nat_lt a c.to) ≡ false = grind (arith, nat_tests) in
     rw out (none-at list (suc n) d a h.2 (omega arith) (λ m is. before (suc m) (omega arith))

@@ -175,7 +175,8 @@ nothing-outside rows scopes a h =
     let same = none_hold h in
     let all = all-agree (holds a) (λ _. false) (row_ranges rows ++ scope_ranges scopes)
     (λ r is. holds-empty a r is) same in
-    let parts = each_append (λ r. holds a r ≡ false) (row_ranges rows) (scope_ranges scopes) all in (
+    let parts =
+    each_append (λ r. holds a r ≡ false) (row_ranges rows) (scope_ranges scopes) all in (
       row-nowhere a rows (covers-agree (holds a) (λ _. false) (covers_of rows) parts.0),
       chain-nowhere a scopes (scopes-agree (holds a) (λ _. false) scopes parts.1),
     )

@@ -39,8 +39,6 @@ use Rattle.dwarf_lines.proofs.Rows.Sequences.{end_row-is}
 use Rattle.dwarf_lines.proofs.Rows.SequenceChains.{program-chain, found_at, lines_in-ok, some-is}
 use Rattle.dwarf_lines.proofs.SectionPrograms.WholePrograms.{program-encoded}
 
--- ---- properties of all elements
-
 abbrev Each : {X : Type 0} → (X → Type 0) → List X → Type 0
 Each P [] = Unit {0}
 Each P (x ∷ xs) = P x × Each P xs

@@ -18,11 +18,11 @@ loop-scope-preserved c =
           (elim c.if-is_scope_at.branch [
             | then-is_scope_at w ↦
                 rw w.found-is
-                (top-more c.args.link c.args.scopes.now.scopes (parent_codes c.args.parents.now) _ _ _
-                true c.requires.have lt here w.if-is_scope_at.ensures)
+                (top-more c.args.link c.args.scopes.now.scopes (parent_codes c.args.parents.now)
+                _ _ _ true c.requires.have lt here w.if-is_scope_at.ensures)
             | else-is_scope_at w ↦
                 rw w.found-is
-                (top-more c.args.link c.args.scopes.now.scopes (parent_codes c.args.parents.now) _ _ _
-                false c.requires.have lt here w.if-is_scope_at.ensures)
+                (top-more c.args.link c.args.scopes.now.scopes (parent_codes c.args.parents.now)
+                _ _ _ false c.requires.have lt here w.if-is_scope_at.ensures)
           ]);
     }

@@ -7,7 +7,8 @@ use Rattle.answer_text.proofs.paths.put_after_slash.Goals as goal
 pub returns-in_err-put_byte-clause-bytes : goal.returns-in_err-put_byte-clause-bytes
 returns-in_err-put_byte-clause-bytes g c =
     let p = err_from_is_err_and c.from_residual.result c.from_residual.ensures.1 in
-    rw (p.1) (cut-more _ _ _ (47 ∷ []) (map printable c.args.part.now) c.in_err-put_byte.ensures.bytes)
+    rw (p.1)
+    (cut-more _ _ _ (47 ∷ []) (map printable c.args.part.now) c.in_err-put_byte.ensures.bytes)
 
 pub returns-clause-bytes : goal.returns-clause-bytes
 returns-clause-bytes g c =

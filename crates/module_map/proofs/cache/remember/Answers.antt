@@ -8,7 +8,8 @@ use Rattle.module_map.proofs.CacheLemmas.{put_or_was, Grows, Grows-put_entries}
 use Rattle.module_map.proofs.cache.remember.Goals as goal
 
 -- after a put that succeeded, or that ran out of memory
-module _ {V T E : Type 0} (c : LruCache CacheKey V) (key : CacheKey) (v : V) (new : LruCache CacheKey V)
+module _ {V T E : Type 0} (c : LruCache CacheKey V) (key : CacheKey) (v : V)
+    (new : LruCache CacheKey V)
   where
     changed : (r : Result T E) → OnOk r (new ≡ lru_cache (put_entries is_key c key v) c.cap)
         → OnErr r (new ≡ c)

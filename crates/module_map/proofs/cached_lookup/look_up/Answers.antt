@@ -6,7 +6,8 @@ use Rattle.module_map.specs.declared.cache.CacheKey.{CacheKey}
 use Rattle.module_map.specs.Private.Serials.{NumberedModule, IsAnswerOf}
 use Rattle.module_map.proofs.cached_lookup.look_up.Goals as goal
 
-answer_of : (h x : NumberedModule) (key : CacheKey) (place : Option Place) (e : CacheKey × Option Place)
+answer_of : (h x : NumberedModule) (key : CacheKey) (place : Option Place)
+    (e : CacheKey × Option Place)
     → x ≡ h → key.serial ≡ x.serial
     → place ≡ place_in x.loaded.bytes key.link → e ≡ (key, place) → IsAnswerOf h e
 answer_of h x key place e same s p is =

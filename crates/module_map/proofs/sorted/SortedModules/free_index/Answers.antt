@@ -19,7 +19,8 @@ last_ends c at d last other = let same : at ≡ c.count_started-started.result -
     elim c.else-started-gt0.branch [
       | else-started-gt0-via-then-started-gt0+then-started-own+else-end-extent w ↦ let ends =
           w.if-end-extent.false in rw (same, ← w.end.ensures d) ends
-      | else-started-gt0-via-then-started-gt0+else-started-own w ↦ let own = w.if-started-own.false in
+      | else-started-gt0-via-then-started-gt0+else-started-own w ↦
+          let own = w.if-started-own.false in
           absurd (not-own c.args.own at other (omega arith))
       | else-started-gt0-via-else-started-gt0 w ↦ let none = w.if-started-gt0.false in
           absurd (omega arith)
