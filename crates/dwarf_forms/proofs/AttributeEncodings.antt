@@ -1,8 +1,9 @@
 -- The attributes of a declaration are read if and only if they are encoded and valid.
-use Rattle.std.proofs.Common.{◌≡◌, ◌≢◌, ℕ, ◌+◌, ℤ, List, [], ◌++◌, length, drop, Bool, true, false}
+use Rattle.std.proofs.Common.{◌≡◌, ◌≢◌, ℕ, ℤ, List, [], ◌++◌, length, drop, Bool, true, false}
 use Rattle.std.proofs.Common.{refl, ap, subst, arith, eq-eqb}
 use Rattle.std.specs.Prelude.{Option, Some, None, IsSome, is_none, Ok, ◌==◌, ◌&&◌, ◌||◌}
 use Rattle.std.specs.List.{list_any}
+use Rattle.std.proofs.lemmas.Bool.{eqb-true, eqb-false}
 use Rattle.dwarf_bytes.specs.declared.fault.Cause.TheVariants as causes
 use Rattle.dwarf_bytes.specs.Bind.{◌>>=◌}
 use Rattle.dwarf_bytes.specs.Numbers.{IsEncodedAt, IsUleb, IsSleb, uleb_at, sleb_at}
@@ -33,12 +34,6 @@ uleb-reads section at value next s = rw (uleb-again section at value next s) ref
 pub unlike : (a b : ℕ) → a ≢ b → (a == b) ≡ false
 unlike a b h = grind arith
 
-pub alike : (a b : ℕ) → (a == b) ≡ true → a ≡ b
-alike a b h = grind arith
-
-pub differ : (a b : ℕ) → (a == b) ≡ false → a ≢ b
-differ a b h = grind arith
-
 -- ---- constants
 
 constant-encoded : (form : ℕ) (section : List ℕ) (at : ℕ) (read : Option ℤ × ℕ)
@@ -56,14 +51,14 @@ constant-encoded form section at read h =
     encoded-from (EncodesConstant form) section at (Some found.0.0) found.0.1 is_encoded.front
     is_encoded.rest
     (stretch-of IsSleb section at found.0.0 found.0.1 is_encoded)
-    (alike form DW_FORM_IMPLICIT_CONST test, is_encoded.encoded) in
+    (eqb-true form DW_FORM_IMPLICIT_CONST test, is_encoded.encoded) in
     subst (λ (r : Option ℤ × ℕ). IsEncodedAt (EncodesConstant form) section at r.0 r.1)
     (same-ok (Some found.0.0, found.0.1) read found.2) there)
     (λ test is. subst (λ (r : Option ℤ × ℕ). IsEncodedAt (EncodesConstant form) section at r.0 r.1)
     (same-ok (None, at) read is)
     (encoded-from (EncodesConstant form) section at None at [] (drop at section)
     (nothing section at)
-    (differ form DW_FORM_IMPLICIT_CONST test, refl)))
+    (eqb-false form DW_FORM_IMPLICIT_CONST test, refl)))
 
 pub constant-reads : (form : ℕ) (section : List ℕ) (at : ℕ) (constant : Option ℤ) (next : ℕ)
     → IsEncodedAt (EncodesConstant form) section at constant next → constant_at form section at
@@ -88,7 +83,7 @@ name_of attribute = attribute.name
 
 refused-parts : (name : ℕ) {X : Type 0} (form : Option X) → ((name == 0) || is_none form) ≡ false
     → (name ≢ 0) × IsSome form
-refused-parts name (Some x) h = (differ name 0 (left (name == 0) h), refl)
+refused-parts name (Some x) h = (eqb-false name 0 (left (name == 0) h), refl)
   where
     left : (b : Bool) → (b || false) ≡ false → b ≡ false
     left true h = cc
@@ -109,7 +104,7 @@ ended-parts name form h = both (name == 0) (form == 0) refl refl h
   where
     both : (a b : Bool) → (name == 0) ≡ a → (form == 0) ≡ b → (a && b) ≡ true
         → (name ≡ 0) × (form ≡ 0)
-    both true true p q h = (alike name 0 p, alike form 0 q)
+    both true true p q h = (eqb-true name 0 p, eqb-true form 0 q)
     both true false p q h = cc
     both false b p q h = cc
 

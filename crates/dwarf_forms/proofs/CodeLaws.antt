@@ -1,47 +1,26 @@
--- The lookup of a code by its index.
-use Rattle.std.proofs.Common.{◌≡◌, ℕ, zero, suc, ◌+◌, ◌-◌, ◌≢◌, ◌⊎◌, inl, inr, List, [], ◌∷◌, ◌++◌}
-use Rattle.std.proofs.Common.{length, ◌<◌, ◌≤◌, get_or, Bool, true, false, cond, eq-eqb, refl, sym}
-use Rattle.std.proofs.Common.{ap, subst, ◌∙◌, arith}
-use Rattle.std.specs.Prelude.{Option, Some, None, find, position, nat_lt, AllPairs, slice_get, ◌==◌}
+-- The index of abbreviation codes.
+use Rattle.std.proofs.Common.{◌≡◌, ℕ, suc, ◌+◌, ◌-◌, ◌≢◌, ◌⊎◌, inl, inr, List, [], ◌∷◌, ◌++◌}
+use Rattle.std.proofs.Common.{length, ◌<◌, get_or, Bool, true, false, cond, eq-eqb, refl, sym, ap}
+use Rattle.std.proofs.Common.{subst, ◌∙◌, arith}
+use Rattle.std.specs.Prelude.{Option, Some, None, position, nat_lt, is_some, not, AllPairs, ◌||◌}
+use Rattle.std.specs.Prelude.{slice_get, ◌==◌}
 use Rattle.std.specs.Option.{option_map_or}
 use Rattle.std.specs.List.{list_any, position_or_len}
 use Rattle.std.specs.Ordering.{nat_cmp}
 use Rattle.std.specs.BTreeMap.{BTreeMap, get}
-use Rattle.std.proofs.lemmas.Option.{get_or_from_slice_get, slice_get_within, slice_get_cases}
-use Rattle.std.proofs.lemmas.Option.{slice_get-get_or, none-some, same_Some}
+use Rattle.std.proofs.lemmas.Grind.{common_steps}
+use Rattle.std.proofs.lemmas.Option.{get_or_from_slice_get, slice_get_within, slice_get-get_or}
+use Rattle.std.proofs.lemmas.Option.{none-some}
 use Rattle.std.proofs.lemmas.List.Quantifiers.{all_pairs_push}
-use Rattle.std.proofs.lemmas.List.Folds.{list_any_at, find_at}
+use Rattle.std.proofs.lemmas.List.Folds.{list_any_at, list_any_none}
 use Rattle.std.proofs.lemmas.List.Sums.{position_or_len_is}
-use Rattle.std.proofs.lemmas.Bool.{false≢true, ltb-true, lt-ltb, eqb-true, eqb-false}
+use Rattle.std.proofs.lemmas.Bool.{false≢true, lt-ltb, eqb-true, eqb-false}
 use Rattle.dwarf_forms.specs.Private.Codes.{AreCodes, is_code_at}
+use Rattle.dwarf_forms.proofs.AttributeEncodings.{unlike}
+use Rattle.dwarf_forms.proofs.Elements.{at-end, at-front, at-last, none-from-false}
 
--- if no element is the code, a search finds nothing
-pub find_none : (xs : List ℕ) (code : ℕ) → ((i : ℕ) (d : ℕ) → slice_get xs i ≡ Some d → d ≢ code)
-    → find (λ other. other == code) xs ≡ None
-find_none [] code h = refl
-find_none (x ∷ xs) code h =
-    let test : (x == code) ≡ false = apart-test x code (h 0 x refl) in
-    rw test (find_none xs code (λ i d at. h (suc i) d at))
-  where
-    apart-test : (a b : ℕ) → a ≢ b → (a == b) ≡ false
-    apart-test a b h = grind arith
-
--- a code that is neither at index code - 1 nor where the map says is not in the list
-pub find-nowhere : (xs : List ℕ) (moved : BTreeMap ℕ ℕ) (code : ℕ) → AreCodes xs moved
-    → ((d : ℕ) → slice_get xs (code - 1) ≡ Some d → d ≢ code)
-    → ((i : ℕ) → get nat_cmp moved code ≡ Some i → (d : ℕ) → slice_get xs i ≡ Some d → d ≢ code)
-    → find (λ other. other == code) xs ≡ None
-find-nowhere xs moved code indexed own by_map = find_none xs code nowhere
-  where
-    nowhere : (i : ℕ) (d : ℕ) → slice_get xs i ≡ Some d → d ≢ code
-    nowhere i d at is = by_place (indexed.found i d at)
-      where
-        by_place : (d ≡ i + 1) ⊎ (get nat_cmp moved d ≡ Some i) → ⊥
-        by_place (inl place) =
-            let same : code - 1 ≡ i = omega (arith, place, is) in
-            own d (ap (λ (k : ℕ). slice_get xs k) same ∙ at) is
-        by_place (inr there) = by_map i (ap (λ (k : ℕ). get nat_cmp moved k) (sym is) ∙ there) d at
-            is
+abbrev pub is_code : ℕ → ℕ → Bool
+is_code code other = other == code
 
 -- no element is a code that the list lacks
 pub lacks : (xs : List ℕ) (code : ℕ) → list_any (λ other. other == code) xs ≡ false
@@ -52,133 +31,127 @@ lacks xs code none i d at is =
     false≢true (sym none ∙ list_any_at (λ (e : ℕ). e == code) xs i d (slice_get_within xs i d at)
     test)
 
--- an entry of the map for a code that the list lacks does not affect the list
-pub index-unchanged : (xs : List ℕ) (moved next : BTreeMap ℕ ℕ) (code : ℕ)
-    → list_any (λ other. other == code) xs ≡ false
-    → ((q : ℕ) → q ≢ code → get nat_cmp next q ≡ get nat_cmp moved q) → AreCodes xs moved
-    → AreCodes xs next
-index-unchanged xs moved next code none others indexed = record {
-  once = indexed.once;
-  found = λ i d at. by_place i d (lacks xs code none i d at) (indexed.found i d at);
-}
+-- ---- the position of a code
+
+before-any : {X : Type 0} (p : X → Bool) (xs : List X) → nat_lt (position_or_len p xs) (length xs)
+    ≡ list_any p xs
+before-any p [] = refl
+before-any p (x ∷ xs) = by_test (p x) (before-any p xs)
   where
-    by_place : (i : ℕ) (d : ℕ) → d ≢ code → (d ≡ i + 1) ⊎ (get nat_cmp moved d ≡ Some i)
+    first : (m : ℕ) → nat_lt 0 (suc m) ≡ true
+    first m = grind (arith, common_steps)
+
+    further : (n m : ℕ) → nat_lt (1 + n) (suc m) ≡ nat_lt n m
+    further n m = grind (arith, common_steps)
+
+    by_test : (b : Bool) → nat_lt (position_or_len p xs) (length xs) ≡ list_any p xs
+        → nat_lt (cond (not b) (1 + position_or_len p xs) 0) (suc (length xs))
+        ≡ (b || list_any p xs)
+    by_test true h = first (length xs)
+    by_test false h = further (position_or_len p xs) (length xs) ∙ h
+
+-- a search finds an index if and only if some element satisfies the predicate
+pub is_some-position : {X : Type 0} (p : X → Bool) (xs : List X)
+    → is_some (position p xs) ≡ list_any p xs
+is_some-position p xs = by_test (nat_lt (position_or_len p xs) (length xs)) ∙ before-any p xs
+  where
+    by_test : (b : Bool) → is_some (cond b (Some (position_or_len p xs)) None) ≡ b
+    by_test true = refl
+    by_test false = refl
+
+pub place-is : (xs : List ℕ) (i code : ℕ) → AllPairs (λ a b. a ≢ b) xs
+    → slice_get xs i ≡ Some code → position (is_code code) xs ≡ Some i
+place-is xs i code once at =
+    subst (λ (k : ℕ). cond (nat_lt k (length xs)) (Some k) None ≡ Some i) (sym first)
+    (rw (lt-ltb i (length xs) within) refl)
+  where
+    within : i < length xs
+    within = slice_get_within xs i code at
+
+    here : get_or xs i code ≡ code
+    here = get_or_from_slice_get xs i code code at
+
+    first : position_or_len (is_code code) xs ≡ i
+    first = position_or_len_is (is_code code) xs i code (omega (arith, within))
+        (λ k lt. unlike (get_or xs k code) code
+        (λ same. once k i code lt within (same ∙ sym here)))
+        (λ _. eq-eqb (get_or xs i code) code here)
+
+-- a code that is neither at index code - 1 nor in the map
+pub place-nowhere : (xs : List ℕ) (moved : BTreeMap ℕ ℕ) (code : ℕ) → AreCodes xs moved
+    → is_code_at xs (code - 1) code ≡ false → get nat_cmp moved code ≡ None
+    → position (is_code code) xs ≡ None
+place-nowhere xs moved code are own none =
+    none-from-false _ (is_some-position (is_code code) xs ∙ list_any_none (is_code code) xs
+    (λ i d lt. unlike (get_or xs i d) code (apart i (get_or xs i d) (slice_get-get_or xs i d lt))))
+  where
+    not_own : (found : Option ℕ) → option_map_or (is_code code) found false ≡ false
+        → found ≡ Some code → ⊥
+    not_own None h is = cc
+    not_own (Some d) h is = eqb-false d code h (same d code is)
+      where
+        same : (a b : ℕ) → (let f : ℕ → Option ℕ = λ n. Some n in f a ≡ f b) → a ≡ b
+        same a b h = cc
+
+    apart : (i d : ℕ) → slice_get xs i ≡ Some d → d ≢ code
+    apart i d at is = by_place (are.found i d at)
+      where
+        by_place : (d ≡ i + 1) ⊎ (get nat_cmp moved d ≡ Some i) → ⊥
+        by_place (inl place) =
+            let same : code - 1 ≡ i = omega (arith, place, is) in
+            not_own (slice_get xs (code - 1)) own (ap (λ (k : ℕ). slice_get xs k) same
+            ∙ (at ∙ ap (λ (k : ℕ). Some k) is))
+        by_place (inr there) =
+            none-some i (sym none ∙ (ap (λ (k : ℕ). get nat_cmp moved k) (sym is) ∙ there))
+
+pub code-there : (xs : List ℕ) (i code : ℕ) → is_code_at xs i code ≡ true
+    → slice_get xs i ≡ Some code
+code-there xs i code here = by_code (slice_get xs i) here
+  where
+    by_code : (found : Option ℕ) → option_map_or (is_code code) found false ≡ true
+        → found ≡ Some code
+    by_code None h = cc
+    by_code (Some d) h = ap (λ (k : ℕ). Some k) (eqb-true d code h)
+
+-- ---- one more code
+
+pub code-push : (xs now : List ℕ) (moved next : BTreeMap ℕ ℕ) (y : ℕ)
+    → list_any (is_code y) xs ≡ false → now ≡ xs ++ y ∷ []
+    → (y ≡ length xs + 1) ⊎ (get nat_cmp next y ≡ Some (length xs))
+    → ((q : ℕ) → q ≢ y → get nat_cmp next q ≡ get nat_cmp moved q)
+    → ((i : ℕ) → get nat_cmp next y ≡ Some i → i ≡ length xs)
+    → AreCodes xs moved → AreCodes now next
+code-push xs now moved next y none more place others index are =
+    subst (λ (ys : List ℕ). AreCodes ys next) (sym more) (record {
+      once = all_pairs_push (λ a b. a ≢ b) xs y are.once
+          (λ k d within. lacks xs y none k (get_or xs k d) (slice_get-get_or xs k d within));
+      found = λ i d at. by_item i d (at-last xs y d i at);
+      placed = λ q i at. by_code q i at (q == y) refl;
+    })
+  where
+    by_item : (i d : ℕ) → (slice_get xs i ≡ Some d) ⊎ ((i ≡ length xs) × (y ≡ d))
         → (d ≡ i + 1) ⊎ (get nat_cmp next d ≡ Some i)
-    by_place i d apart (inl place) = inl place
-    by_place i d apart (inr there) = inr (others d apart ∙ there)
+    by_item i d (inl at) = by_place (are.found i d at)
+      where
+        by_place : (d ≡ i + 1) ⊎ (get nat_cmp moved d ≡ Some i)
+            → (d ≡ i + 1) ⊎ (get nat_cmp next d ≡ Some i)
+        by_place (inl own) = inl own
+        by_place (inr there) = inr (others d (lacks xs y none i d at) ∙ there)
+    by_item i d (inr last) =
+        subst (λ (k : ℕ). (d ≡ k + 1) ⊎ (get nat_cmp next d ≡ Some k)) (sym last.0)
+        (subst (λ (e : ℕ). (e ≡ length xs + 1) ⊎ (get nat_cmp next e ≡ Some (length xs))) last.1
+        place)
 
--- a code is appended whose index is code - 1 or is in the map
-pub index-push : (xs : List ℕ) (moved : BTreeMap ℕ ℕ) (y : ℕ) → list_any (λ other. other == y) xs
-    ≡ false
-    → (y ≡ length xs + 1) ⊎ (get nat_cmp moved y ≡ Some (length xs)) → AreCodes xs moved
-    → AreCodes (xs ++ y ∷ []) moved
-index-push xs moved y none place indexed = record {
-  once = all_pairs_push (λ a b. a ≢ b) xs y indexed.once
-      (λ k d within. lacks xs y none k (get_or xs k d) (slice_get-get_or xs k d within));
-  found = found_at xs (λ i. i) indexed.found place;
-}
-  where
-    found_at : (ys : List ℕ) (number : ℕ → ℕ)
-        → ((i : ℕ) (d : ℕ) → slice_get ys i ≡ Some d
-        → (d ≡ number i + 1) ⊎ (get nat_cmp moved d ≡ Some (number i)))
-        → (y ≡ number (length ys) + 1) ⊎ (get nat_cmp moved y ≡ Some (number (length ys)))
-        → (i : ℕ) (d : ℕ) → slice_get (ys ++ y ∷ []) i ≡ Some d
-        → (d ≡ number i + 1) ⊎ (get nat_cmp moved d ≡ Some (number i))
-    found_at [] number before last zero d at =
-        subst (λ (e : ℕ). (e ≡ number 0 + 1) ⊎ (get nat_cmp moved e ≡ Some (number 0)))
-        (same_Some y d at) last
-    found_at [] number before last (suc i) d at = cc
-    found_at (x ∷ ys) number before last zero d at = before 0 d at
-    found_at (x ∷ ys) number before last (suc i) d at =
-        found_at ys (λ k. number (suc k)) (λ k e is. before (suc k) e is) last i d at
+    by_code : (q i : ℕ) → get nat_cmp next q ≡ Some i → (b : Bool) → (q == y) ≡ b
+        → slice_get (xs ++ y ∷ []) i ≡ Some q
+    by_code q i at true same =
+        let one : q ≡ y = eqb-true q y same in
+        at-end xs y i (index i (ap (λ (k : ℕ). get nat_cmp next k) (sym one) ∙ at))
+        ∙ ap (λ (k : ℕ). Some k) (sym one)
+    by_code q i at false apart = at-front xs (y ∷ []) i q
+        (are.placed q i (sym (others q (eqb-false q y apart)) ∙ at))
 
--- ---- the index of a code
-
-position-none : {X : Type 0} (p : X → Bool) (xs : List X) → find p xs ≡ None → position p xs ≡ None
-position-none {X = X} p xs none = by_test (nat_lt (position_or_len p xs) (length xs)) refl
-  where
-    by_place : nat_lt (position_or_len p xs) (length xs) ≡ true
-        → ((x : X) × (position_or_len p xs < length xs)
-        × (slice_get xs (position_or_len p xs) ≡ Some x) × (get_or xs (position_or_len p xs) x ≡ x))
-        ⊎ ((length xs ≤ position_or_len p xs) × (slice_get xs (position_or_len p xs) ≡ None)) → ⊥
-    by_place within (inl found) = none-some found.0 (sym none ∙ find_at p xs ∙ found.2)
-    by_place within (inr past) = omega (
-      arith,
-      past.0,
-      ltb-true (position_or_len p xs) (length xs)
-          within,
-    )
-
-    by_test : (b : Bool) → nat_lt (position_or_len p xs) (length xs) ≡ b
-        → cond b (Some (position_or_len p xs)) None ≡ None
-    by_test true within = absurd (by_place within (slice_get_cases xs (position_or_len p xs)).1)
-    by_test false past = refl
-
--- an index at which the code is found is its index
-pub place-is : (xs : List ℕ) (i code : ℕ) → AllPairs (λ a b. a ≢ b) xs → is_code_at xs i code ≡ true
-    → position (λ other. other == code) xs ≡ Some i
-place-is xs i code once here = by_declaration (slice_get xs i) refl here
-  where
-    apart-test : (a b : ℕ) → a ≢ b → (a == b) ≡ false
-    apart-test a b h = grind arith
-
-    by_declaration : (found : Option ℕ) → slice_get xs i ≡ found
-        → option_map_or (λ other. other == code) found false ≡ true
-        → position (λ other. other == code) xs ≡ Some i
-    by_declaration None at here = cc
-    by_declaration (Some d) at here =
-        let within = slice_get_within xs i d at in
-        let value : get_or xs i d ≡ d = get_or_from_slice_get xs i d d at in
-        let code_is : (get_or xs i d) ≡ code = ap (λ (e : ℕ). e) value ∙ eqb-true d code here in
-        let first : position_or_len (λ (other : ℕ). other == code) xs ≡ i =
-        position_or_len_is (λ (other : ℕ). other == code) xs i d (omega (arith, within))
-        (λ k lt. apart-test (get_or xs k d) code
-        (λ same. once k i d lt within (same ∙ sym code_is)))
-        (λ _. eq-eqb (get_or xs i d) code code_is) in
-        subst (λ (k : ℕ). cond (nat_lt k (length xs)) (Some k) None ≡ Some i) (sym first)
-        (rw (lt-ltb i (length xs) within) refl)
-
--- an index with another code, or past the end
-has-not : (xs : List ℕ) (i code : ℕ) → is_code_at xs i code ≡ false → (d : ℕ)
-    → slice_get xs i ≡ Some d → d ≢ code
-has-not xs i code none d at =
-    let test : (d == code) ≡ false = subst
-    (λ (found : Option ℕ). option_map_or (λ (other : ℕ). other == code) found false ≡ false) at
-    none in
-    λ same. eqb-false d code test same
-
--- the same with variables for the list
-pub place-here : (xs seen now : List ℕ) (i code : ℕ) → seen ≡ xs → xs ≡ now
-    → AllPairs (λ a b. a ≢ b) xs → is_code_at seen i code ≡ true
-    → Some i ≡ position (λ other. other == code) now
-place-here xs seen now i code same view once here =
-    let there : is_code_at xs i code ≡ true =
-    subst (λ (ys : List ℕ). is_code_at ys i code ≡ true) same here in
-    subst (λ (ys : List ℕ). Some i ≡ position (λ (other : ℕ). other == code) ys) view
-    (sym (place-is xs i code once there))
-
-pub place-nowhere : (xs seen now : List ℕ) (moved : BTreeMap ℕ ℕ) (own code : ℕ) → seen ≡ xs
-    → xs ≡ now → AreCodes xs moved → own ≡ code - 1 → is_code_at seen own code ≡ false
-    → ((i : ℕ) → get nat_cmp moved code ≡ Some i → is_code_at xs i code ≡ false)
-    → None ≡ position (λ other. other == code) now
-place-nowhere xs seen now moved own code same view indexed own_is not_own not_there =
-    let here : is_code_at xs (code - 1) code ≡ false =
-    subst (λ (k : ℕ). is_code_at xs k code ≡ false) own_is
-    (subst (λ (ys : List ℕ). is_code_at ys own code ≡ false) same not_own) in
-    let none = find-nowhere xs moved code indexed (λ d at. has-not xs (code - 1) code here d at)
-    (λ i is d at. has-not xs i code (not_there i is) d at) in
-    subst (λ (ys : List ℕ). None ≡ position (λ (other : ℕ). other == code) ys) view
-    (sym (position-none (λ (other : ℕ). other == code) xs none))
-
-pub place-moved : (xs seen again now : List ℕ) (moved : BTreeMap ℕ ℕ) (own code place : ℕ)
-    → seen ≡ xs → again ≡ xs → xs ≡ now → AreCodes xs moved → own ≡ code - 1
-    → is_code_at seen own code ≡ false
-    → get nat_cmp moved code ≡ Some place → is_code_at again place code ≡ false
-    → None ≡ position (λ other. other == code) now
-place-moved xs seen again now moved own code place same same_again view indexed own_is not_own there
-    not_there =
-    let none : is_code_at xs place code ≡ false =
-    subst (λ (ys : List ℕ). is_code_at ys place code ≡ false) same_again not_there in
-    place-nowhere xs seen now moved own code same view indexed own_is not_own
-    (λ i is. subst (λ (k : ℕ). is_code_at xs k code ≡ false)
-    (same_Some place i (sym there ∙ is)) none)
+-- the map does not have a code that the list lacks
+pub code-unplaced : (xs : List ℕ) (moved : BTreeMap ℕ ℕ) (y i n : ℕ)
+    → list_any (is_code y) xs ≡ false → AreCodes xs moved → get nat_cmp moved y ≡ Some i → i ≡ n
+code-unplaced xs moved y i n none are at = absurd (lacks xs y none i y (are.placed y i at) refl)

@@ -1,6 +1,6 @@
 -- Lookup by index, in a list or in a map.
-use Rattle.std.proofs.Common.{◌≡◌, ℕ, ◌≢◌, List, length, get_or, Bool, true, false, cond, refl, sym}
-use Rattle.std.proofs.Common.{ap, ◌∙◌, arith}
+use Rattle.std.proofs.Common.{◌≡◌, ℕ, ◌≢◌, List, [], length, get_or, Bool, true, false, cond, refl}
+use Rattle.std.proofs.Common.{sym, ap, ◌∙◌, arith}
 use Rattle.std.specs.Prelude.{Option, Some, None, find, position, nat_lt, is_some, slice_get}
 use Rattle.std.specs.Prelude.{IfSome}
 use Rattle.std.specs.Borrow.{Bor}
@@ -8,6 +8,7 @@ use Rattle.std.specs.Option.{option_copied, option_and_then}
 use Rattle.std.specs.List.{position_or_len}
 use Rattle.std.specs.Ordering.{nat_cmp}
 use Rattle.std.specs.BTreeMap.{BTreeMap, get, is_at}
+use Rattle.std.specs.Map.{lookup}
 use Rattle.std.proofs.lemmas.Grind.{common_steps}
 use Rattle.std.proofs.lemmas.Option.{slice_get_past, slice_get-get_or}
 use Rattle.std.proofs.lemmas.List.Folds.{find_at}
@@ -45,3 +46,10 @@ others-stay moved next code place puts q apart =
   where
     not_at : (a b : ℕ) → a ≢ b → is_at (nat_cmp a) b ≡ false
     not_at a b h = grind (arith, common_steps)
+
+pub same-entries : (new old : BTreeMap ℕ ℕ) → new.entries ≡ old.entries → (q : ℕ)
+    → get nat_cmp new q ≡ get nat_cmp old q
+same-entries new old same q = ap (λ (es : List (ℕ × ℕ)). lookup (is_at (nat_cmp q)) es) same
+
+pub no-entries : (m : BTreeMap ℕ ℕ) → m.entries ≡ [] → (q : ℕ) → get nat_cmp m q ≡ None
+no-entries m empty q = ap (λ (es : List (ℕ × ℕ)). lookup (is_at (nat_cmp q)) es) empty

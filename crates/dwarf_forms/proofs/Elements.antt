@@ -1,7 +1,8 @@
 -- Elements of a list while elements are appended.
 use Rattle.std.proofs.Common.{◌≡◌, ◌⊎◌, inl, inr, ℕ, zero, suc, List, [], ◌∷◌, ◌++◌, length, refl}
-use Rattle.std.proofs.Common.{ap}
-use Rattle.std.specs.Prelude.{Some, slice_get, Result, Ok, Err, IfOk}
+use Rattle.std.proofs.Common.{ap, ◌∙◌, take, false}
+use Rattle.std.specs.Prelude.{Option, Some, None, is_some, slice_get, Result, Ok, Err, IfOk}
+use Rattle.std.proofs.Math.Seq.{take-append_seam}
 use Rattle.std.proofs.lemmas.Option.{same_Some}
 
 pub at-last : {X : Type 0} (xs : List X) (y z : X) (i : ℕ) → slice_get (xs ++ y ∷ []) i ≡ Some z
@@ -21,6 +22,25 @@ pub at-front : {X : Type 0} (xs ys : List X) (i : ℕ) (z : X) → slice_get xs 
 at-front [] ys i z at = cc
 at-front (x ∷ xs) ys zero z at = at
 at-front (x ∷ xs) ys (suc i) z at = at-front xs ys i z at
+
+pub at-end : {X : Type 0} (xs : List X) (x : X) (n : ℕ) → n ≡ length xs
+    → slice_get (xs ++ x ∷ []) n ≡ Some x
+at-end {X = X} xs x n is = ap (λ (m : ℕ). slice_get (xs ++ x ∷ []) m) is ∙ seam xs
+  where
+    seam : (ys : List X) → slice_get (ys ++ x ∷ []) (length ys) ≡ Some x
+    seam [] = refl
+    seam (y ∷ ys) = seam ys
+
+-- the list before its last element was appended
+pub popped : {X : Type 0} (xs now after : List X) (x : X) (n : ℕ) → now ≡ xs ++ x ∷ []
+    → after ≡ take n now → n ≡ length xs → after ≡ xs
+popped {X = X} xs now after x n more rest len =
+    rest ∙ (ap (take n) more ∙ (ap (λ (m : ℕ). take m (xs ++ x ∷ [])) len
+    ∙ take-append_seam xs (x ∷ [])))
+
+pub none-from-false : {X : Type 0} (o : Option X) → is_some o ≡ false → o ≡ None
+none-from-false None h = refl
+none-from-false (Some x) h = cc
 
 -- weakens a property of a result
 pub if-ok : {X E : Type 0} (P Q : X → Type 0) (r : Result X E) → IfOk r P → ((x : X) → P x → Q x)

@@ -3,18 +3,17 @@ use Rattle.std.proofs.Common.{◌≡◌, ◌≢◌, ℕ, ◌+◌, ◌<◌, ◌�
 use Rattle.std.proofs.Common.{true, false, cond, refl, ap, ◌∙◌, subst, arith}
 use Rattle.std.specs.Prelude.{Ok, nat_lt, nat_le, ◌==◌, if◌then◌else◌}
 use Rattle.std.specs.List.{list_any}
-use Rattle.std.proofs.lemmas.Bool.{ltb-false, leb-false}
+use Rattle.std.proofs.lemmas.Bool.{eqb-true, eqb-false, ltb-false, leb-false}
 use Rattle.dwarf_bytes.specs.declared.fault.Cause.TheVariants as causes
 use Rattle.dwarf_bytes.specs.Numbers.{IsEncodedAt, IsUleb, u8_at, uleb_at, little_endian}
 use Rattle.dwarf_bytes.specs.Items.{Item, End, reading}
 use Rattle.dwarf_bytes.proofs.Numbers.Advance.{after-bind, after-test, reading-ok, chosen}
 use Rattle.dwarf_forms.specs.declared.declaration.Head.{Head}
-use Rattle.dwarf_forms.specs.Declarations.{Declaration}
 use Rattle.dwarf_forms.specs.Tables.{head_at}
 use Rattle.dwarf_forms.proofs.Stretches.{Stretch, stretch-of, encoded-from, both-parts, first-part}
 use Rattle.dwarf_forms.proofs.Stretches.{second-part, within, fixed-encoded, fixed-again}
 use Rattle.dwarf_bytes.proofs.Numbers.Moves.{same-item, same-end}
-use Rattle.dwarf_forms.proofs.AttributeEncodings.{uleb-read, uleb-reads, unlike, alike, differ}
+use Rattle.dwarf_forms.proofs.AttributeEncodings.{uleb-read, uleb-reads, unlike}
 
 pub record EncodesHead (bytes : List ℕ) (head : Head) : Type 0 where
   pub code : List ℕ
@@ -24,10 +23,10 @@ pub record EncodesHead (bytes : List ℕ) (head : Head) : Type 0 where
   pub tag_is : IsUleb tag head.tag
 
 -- the conditions on a declaration's head that depend on the declarations before it
-pub record HeadFits (budget : ℕ) (before : List Declaration) (code : ℕ) : Type 0 where
+pub record HeadFits (budget : ℕ) (codes : List ℕ) (code : ℕ) : Type 0 where
   pub some : code ≢ 0
-  pub limit-left : length before < budget
-  pub new : list_any (λ declaration. declaration.code == code) before ≡ false
+  pub limit-left : length codes < budget
+  pub new : list_any (λ other. other == code) codes ≡ false
 
 one_byte : (block : List ℕ) (value : ℕ) → length block ≡ 1 → value ≡ little_endian block
     → block ≡ value ∷ []
@@ -40,8 +39,8 @@ flag-of : (value : ℕ) → value ≤ 1 → value ≡ (if value == 1 then 1 else
 flag-of value le = by_test (value == 1) refl
   where
     by_test : (b : Bool) → (value == 1) ≡ b → value ≡ cond b 1 0
-    by_test true is = alike value 1 is
-    by_test false is = let apart = differ value 1 is in omega arith
+    by_test true is = eqb-true value 1 is
+    by_test false is = let apart = eqb-false value 1 is in omega arith
 
 flag-byte : (b : Bool) → little_endian ((if b then 1 else 0) ∷ []) ≡ (if b then 1 else 0)
 flag-byte true = refl
@@ -55,17 +54,17 @@ flag-test : (b : Bool) → ((if b then 1 else 0) == 1) ≡ b
 flag-test true = refl
 flag-test false = refl
 
-pub head-encoded : (budget : ℕ) (section : List ℕ) (before : List Declaration) (at : ℕ)
+pub head-encoded : (budget : ℕ) (section : List ℕ) (codes : List ℕ) (at : ℕ)
     (head : Head)
-    (next : ℕ) → head_at budget section before at ≡ Ok (Item head next)
-    → IsEncodedAt EncodesHead section at head next × HeadFits budget before head.code
-head-encoded budget section before at head next h =
-    let P : Type 0 = IsEncodedAt EncodesHead section at head next × HeadFits budget before head.code
+    (next : ℕ) → head_at budget section codes at ≡ Ok (Item head next)
+    → IsEncodedAt EncodesHead section at head next × HeadFits budget codes head.code
+head-encoded budget section codes at head next h =
+    let P : Type 0 = IsEncodedAt EncodesHead section at head next × HeadFits budget codes head.code
     in
     after-bind (reading (uleb_at section at)) _ (Item head next) h P (λ code code_is h1.
     chosen (code.0 == 0) _ _ (Ok (Item head next)) h1 P (λ _ is. cc) (λ some h2.
-    after-test (nat_le budget (length before)) causes.TooMany _ (Item head next) h2 P (λ fits h3.
-    after-test (list_any (λ declaration. declaration.code == code.0) before) causes.AbbrevTwice _
+    after-test (nat_le budget (length codes)) causes.TooMany _ (Item head next) h2 P (λ fits h3.
+    after-test (list_any (λ other. other == code.0) codes) causes.AbbrevTwice _
     (Item head next) h3 P (λ once h4.
     after-bind (reading (uleb_at section code.1)) _ (Item head next) h4 P (λ tag tag_is h5.
     after-bind (reading (u8_at section tag.1)) _ (Item head next) h5 P (λ children children_is h6.
@@ -94,43 +93,43 @@ head-encoded budget section before at head next h =
       tag_is =
           b.encoded;
     }) in
-    let good : HeadFits budget before it.code =
+    let good : HeadFits budget codes it.code =
     record {
-      some = differ code.0 0 some;
-      limit-left = leb-false budget (length before) fits;
+      some = eqb-false code.0 0 some;
+      limit-left = leb-false budget (length codes) fits;
       new =
           once;
     } in
     let same = same-item it head children.1 next h7 in (
       subst (λ (k : ℕ). IsEncodedAt EncodesHead section at head k) same.1
           (subst (λ (y : Head). IsEncodedAt EncodesHead section at y children.1) same.0 is_encoded),
-      subst (λ (y : Head). HeadFits budget before y.code) same.0 good,
+      subst (λ (y : Head). HeadFits budget codes y.code) same.0 good,
     ))))))))
 
-pub head-end : (budget : ℕ) (section : List ℕ) (before : List Declaration) (at next : ℕ)
-    → head_at budget section before at ≡ Ok (End next) → IsEncodedAt IsUleb section at 0 next
-head-end budget section before at next h =
+pub head-end : (budget : ℕ) (section : List ℕ) (codes : List ℕ) (at next : ℕ)
+    → head_at budget section codes at ≡ Ok (End next) → IsEncodedAt IsUleb section at 0 next
+head-end budget section codes at next h =
     let P : Type 0 = IsEncodedAt IsUleb section at 0 next in
     after-bind (reading (uleb_at section at)) _ (End next) h P (λ code code_is h1.
     chosen (code.0 == 0) _ _ (Ok (End next)) h1 P
     (λ zero is. subst (λ (k : ℕ). IsEncodedAt IsUleb section at 0 k)
     (same-end {X = Head} code.1 next is)
-    (subst (λ (k : ℕ). IsEncodedAt IsUleb section at k code.1) (alike code.0 0 zero)
+    (subst (λ (k : ℕ). IsEncodedAt IsUleb section at k code.1) (eqb-true code.0 0 zero)
     (uleb-read section at code code_is)))
     (λ _ h2.
-    after-test (nat_le budget (length before)) causes.TooMany _ (End next) h2 P (λ fits h3.
-    after-test (list_any (λ declaration. declaration.code == code.0) before) causes.AbbrevTwice _
+    after-test (nat_le budget (length codes)) causes.TooMany _ (End next) h2 P (λ fits h3.
+    after-test (list_any (λ other. other == code.0) codes) causes.AbbrevTwice _
     (End next) h3 P (λ once h4.
     after-bind (reading (uleb_at section code.1)) _ (End next) h4 P (λ tag tag_is h5.
     after-bind (reading (u8_at section tag.1)) _ (End next) h5 P (λ children children_is h6.
     after-test (nat_lt 1 children.0) causes.Children _ (End next) h6 P (λ flag h7. cc)))))))
 
-pub head-read : (budget : ℕ) (section : List ℕ) (before : List Declaration) (at : ℕ) (head : Head)
+pub head-read : (budget : ℕ) (section : List ℕ) (codes : List ℕ) (at : ℕ) (head : Head)
     (next : ℕ) (code tag rest : List ℕ) → Stretch section at
     ((code ++ tag) ++ (if head.children then 1 else 0) ∷ []) next rest → IsUleb code head.code
     → IsUleb tag head.tag
-    → HeadFits budget before head.code → head_at budget section before at ≡ Ok (Item head next)
-head-read budget section before at head next code tag rest s code_is tag_is good =
+    → HeadFits budget codes head.code → head_at budget section codes at ≡ Ok (Item head next)
+head-read budget section codes at head next code tag rest s code_is tag_is good =
     let byte : List ℕ = (if head.children then 1 else 0) ∷ [] in
     let two = first-part section at (code ++ tag) byte next rest s in
     let mid = at + length (code ++ tag) in
@@ -145,8 +144,8 @@ head-read budget section before at head next code tag rest s code_is tag_is good
     omega (arith, within section mid byte next rest last (omega arith), last.next_is) in
     let flagged : reading (u8_at section mid) ≡ Ok (little_endian byte, next) =
     rw (fixed-again 1 section mid byte next rest last refl end) refl in
-    let limit-left : nat_le budget (length before) ≡ false =
-    lt-leb (length before) budget good.limit-left in
+    let limit-left : nat_le budget (length codes) ≡ false =
+    lt-leb (length codes) budget good.limit-left in
     rw (
       coded,
       unlike head.code 0 good.some,

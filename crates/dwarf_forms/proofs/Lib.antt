@@ -11,14 +11,6 @@ pub mod AttributeReads
 pub mod SuffixLaws
 pub mod SuffixLists
 pub mod Elements
-pub mod SetLaws
-pub mod MemoListLaws
-pub mod MemoLaws
-pub mod MemoGrowth
-pub mod MemoCount
-pub mod PlaceLaws
-pub mod SharedLaws
-pub mod SharedTableLaws
 pub mod HeadEncodings
 pub mod TableEncodings
 pub mod EncodedTables

@@ -18,7 +18,7 @@ use Rattle.dwarf_forms.specs.declared.attribute.AttributeSpecification.{Attribut
 use Rattle.dwarf_forms.specs.declared.declaration.Head.{Head}
 use Rattle.dwarf_forms.specs.Declarations.{Declaration}
 use Rattle.dwarf_bytes.specs.declared.constants.TheConstants.{DW_FORM_IMPLICIT_CONST}
-use Rattle.dwarf_forms.specs.Tables.{constant_at, attribute_at, attributes_at, head_at}
+use Rattle.dwarf_forms.specs.Tables.{constant_at, attribute_at, attributes_at, codes_of, head_at}
 use Rattle.dwarf_forms.specs.Tables.{declaration_at}
 use Rattle.dwarf_bytes.proofs.Items.Turns.{Ends, Lists-moves}
 
@@ -89,15 +89,15 @@ attributes_at-moves section at read h =
     Lists-moves (length section) (attribute_at section) (attribute_at-advances section)
     (attribute_at-ends section) [] at read.0 read.1 (attributes_at-lists section at read h)
 
-pub head_at-moves : (budget : ℕ) (section : List ℕ) (before : List Declaration) (at : ℕ)
+pub head_at-moves : (budget : ℕ) (section : List ℕ) (codes : List ℕ) (at : ℕ)
     (head : Head)
-    (after : ℕ) → head_at budget section before at ≡ Ok (Item head after) → MovesOn section at after
-head_at-moves budget section before at head after h =
+    (after : ℕ) → head_at budget section codes at ≡ Ok (Item head after) → MovesOn section at after
+head_at-moves budget section codes at head after h =
     let P : Type 0 = (at < after) × (after ≤ length section) in
     after-bind (reading (uleb_at section at)) _ (Item head after) h P (λ code code_is h1.
     chosen (code.0 == 0) _ _ (Ok (Item head after)) h1 P (λ _ is. cc) (λ _ h2.
-    after-test (nat_le budget (length before)) causes.TooMany _ (Item head after) h2 P (λ _ h3.
-    after-test (list_any (λ declaration. declaration.code == code.0) before) causes.AbbrevTwice _
+    after-test (nat_le budget (length codes)) causes.TooMany _ (Item head after) h2 P (λ _ h3.
+    after-test (list_any (λ other. other == code.0) codes) causes.AbbrevTwice _
     (Item head after) h3 P (λ _ h4.
     after-bind (reading (uleb_at section code.1)) _ (Item head after) h4 P (λ tag tag_is h5.
     after-bind (reading (u8_at section tag.1)) _ (Item head after) h5 P (λ children children_is h6.
@@ -113,9 +113,9 @@ pub declaration_at-advances : (budget : ℕ) (section : List ℕ)
     → Advances (length section) (declaration_at budget section)
 declaration_at-advances budget section before at x after h =
     let P : Type 0 = (at < after) × (after ≤ length section) in
-    after-bind (head_at budget section before at) _ (Item x after) h P by_head
+    after-bind (head_at budget section (codes_of before) at) _ (Item x after) h P by_head
   where
-    by_head : (next : Next Head) → head_at budget section before at ≡ Ok next
+    by_head : (next : Next Head) → head_at budget section (codes_of before) at ≡ Ok next
         → (elim next as (λ _. Result (Next Declaration) Cause) [
           | End end ↦ Ok (End end)
           | Item head mid ↦ attributes_at section mid
@@ -132,7 +132,7 @@ declaration_at-advances budget section before at x after h =
     by_head (Item head mid) is h =
         after-bind (attributes_at section mid) _ (Item x after) h
         ((at < after) × (after ≤ length section)) (λ attributes attributes_are last.
-        let front = head_at-moves budget section before at head mid is in
+        let front = head_at-moves budget section (codes_of before) at head mid is in
         let moved = attributes_at-moves section mid attributes attributes_are in
         let place = (same-item (record {
           code = head.code;

@@ -4,9 +4,8 @@ use Rattle.std.proofs.Common.{◌∙◌, subst, append_assoc, append-nil}
 use Rattle.std.specs.Prelude.{Result, Ok, Err, ◌||◌, if◌then◌else◌}
 use Rattle.std.specs.List.{list_any}
 use Rattle.std.proofs.lemmas.List.Folds.{list_any-append}
-use Rattle.dwarf_bytes.specs.declared.fault.Cause.{Cause}
 use Rattle.dwarf_bytes.specs.declared.fault.Cause.TheVariants as causes
-use Rattle.dwarf_bytes.specs.Items.{At, Item, Lists, refuse_if, without_offset, items_from}
+use Rattle.dwarf_bytes.specs.Items.{At, Lists, without_offset, items_from}
 use Rattle.dwarf_bytes.proofs.Items.ItemLaws.{put_front, with_front, items_from-step}
 use Rattle.dwarf_bytes.proofs.Items.ItemLaws.{items_from-Lists}
 use Rattle.dwarf_bytes.proofs.Numbers.Moves.{same-ok}
@@ -14,7 +13,6 @@ use Rattle.dwarf_bytes.proofs.Items.Turns.{SoFar}
 use Rattle.dwarf_forms.specs.declared.attribute.AttributeSpecification.{AttributeSpecification}
 use Rattle.dwarf_forms.specs.Tables.{attribute_at, attributes_at, shares_name}
 use Rattle.dwarf_forms.proofs.Moves.{attribute_at-advances, attributes_at-lists, attributes-ok}
-use Rattle.dwarf_forms.proofs.Moves.{attributes-err}
 use Rattle.dwarf_forms.proofs.SuffixLaws.{named, attribute-again, attribute-new, end-again}
 use Rattle.dwarf_forms.proofs.SuffixLaws.{attribute-twice, either, shares-cons, shares-none}
 
@@ -38,42 +36,6 @@ lists-again section own before at (x ∷ xs) next listed apart =
       attribute-again section before (own ++ before) at x listed.0 listed.1 new,
       subst (λ (ys : List AttributeSpecification). Lists (attribute_at section) ys listed.0 xs
           next) (sym (append_assoc own before (x ∷ []))) rest,
-    )
-
--- .. and after fewer attributes
-pub lists-fewer : (section : List ℕ) (own before : List AttributeSpecification) (at : ℕ)
-    (xs : List AttributeSpecification) (next : ℕ)
-    → Lists (attribute_at section) (own ++ before) at xs next
-    → Lists (attribute_at section) before at xs next
-lists-fewer section own before at [] next listed =
-    end-again section (own ++ before) before at next listed
-lists-fewer section own before at (x ∷ xs) next listed =
-    let parts = either (list_any (named x.name) own) (list_any (named x.name) before)
-    (sym (list_any-append (named x.name) own before) ∙ attribute-new section (own ++ before) at
-    x listed.0 listed.1) in
-    let rest : Lists (attribute_at section) (own ++ (before ++ x ∷ [])) listed.0 xs next =
-    subst (λ (ys : List AttributeSpecification). Lists (attribute_at section) ys listed.0 xs
-    next) (append_assoc own before (x ∷ [])) listed.2 in (
-      listed.0,
-      attribute-again section (own ++ before) before at x listed.0 listed.1 parts.1,
-      lists-fewer section own (before ++ x ∷ []) listed.0 xs next rest,
-    )
-
--- the rest of a list after its first attribute is a list
-pub attributes-after : (section : List ℕ) (at : ℕ) (x : AttributeSpecification)
-    (xs : List AttributeSpecification) (next : ℕ) → attributes_at section at ≡ Ok (x ∷ xs, next)
-    → (mid : ℕ) × (attribute_at section [] at ≡ Ok (Item x mid))
-    × (attributes_at section mid ≡ Ok (xs, next))
-attributes-after section at x xs next read =
-    let listed = attributes_at-lists section at (x ∷ xs, next) read in
-    let rest : Lists (attribute_at section) [] listed.0 xs next =
-    lists-fewer section (x ∷ []) [] listed.0 xs next listed.2 in (
-      listed.0,
-      listed.1,
-      attributes-ok section listed.0 (xs, next)
-          (items_from-Lists (length section) (attribute_at section) (attribute_at-advances section)
-          []
-          listed.0 xs next rest),
     )
 
 -- a list is refused after other attributes if one of them has a name of the list
@@ -145,43 +107,12 @@ attributes-append section own at rest next read =
         (attribute_at-advances section) (own ++ []) at rest next
         (lists-again section own [] at rest next listed apart)) refl
 
--- .. by the result of the name test
 pub append-ok : (section : List ℕ) (own : List AttributeSpecification) (at : ℕ)
     (rest : List AttributeSpecification) (next : ℕ) → attributes_at section at ≡ Ok (rest, next)
-    → Ok tt ≡ refuse_if (shares_name own rest) causes.AttrTwice
+    → shares_name own rest ≡ false
     → without_offset (items_from (length section) (attribute_at section) own at) ≡ Ok (rest, next)
-append-ok section own at rest next read passed =
-    by_test (shares_name own rest) (attributes-append section own at rest next read) passed
-  where
-    by_test : (b : Bool) → without_offset (items_from (length section) (attribute_at section) own
-        at)
-        ≡ (if b then Err causes.AttrTwice else Ok (rest, next))
-        → Ok tt ≡ refuse_if b causes.AttrTwice
-        → without_offset (items_from (length section) (attribute_at section) own at)
-        ≡ Ok (rest, next)
-    by_test true is h = cc
-    by_test false is h = is
-
-pub append-err : (section : List ℕ) (own : List AttributeSpecification) (at : ℕ)
-    (rest : List AttributeSpecification) (next : ℕ) (cause : Cause)
-    → attributes_at section at ≡ Ok (rest, next)
-    → Err cause ≡ refuse_if (shares_name own rest) causes.AttrTwice
-    → without_offset (items_from (length section) (attribute_at section) own at) ≡ Err cause
-append-err section own at rest next cause read refused =
-    by_test (shares_name own rest) (attributes-append section own at rest next read) refused
-  where
-    by_test : (b : Bool) → without_offset (items_from (length section) (attribute_at section) own
-        at)
-        ≡ (if b then Err causes.AttrTwice else Ok (rest, next))
-        → Err cause ≡ refuse_if b causes.AttrTwice
-        → without_offset (items_from (length section) (attribute_at section) own at) ≡ Err cause
-    by_test true is h = is ∙ sym_cause h
-      where
-        sym_cause : Err cause ≡ refuse_if true causes.AttrTwice
-            → (let f : Cause → Result (List AttributeSpecification × ℕ) Cause = λ c. Err c in
-            f causes.AttrTwice ≡ f cause)
-        sym_cause h = cc
-    by_test false is h = cc
+append-ok section own at rest next read apart =
+    attributes-append section own at rest next read ∙ rw apart refl
 
 -- ---- the list from its first offset on, if its rest after the attributes read so far is memoized
 
@@ -202,16 +133,3 @@ so-far-append section first own at rest next so_far both-parts =
         (let f : List AttributeSpecification × ℕ → Result (List AttributeSpecification × ℕ) At =
         λ z. Ok z in f (own ++ p.0, p.1))) (same-ok found (rest, next) h))
     by_read (Err e) is h = cc
-
-pub so-far-refused : (section : List ℕ) (first : ℕ) (own : List AttributeSpecification) (at : ℕ)
-    (cause : Cause) → SoFar (length section) (attribute_at section) first own at
-    → without_offset (items_from (length section) (attribute_at section) own at) ≡ Err cause
-    → attributes_at section first ≡ Err cause
-so-far-refused section first own at cause so_far refused =
-    by_read (items_from (length section) (attribute_at section) own at) so_far refused
-  where
-    by_read : (r : Result (List AttributeSpecification × ℕ) At)
-        → with_front own r ≡ items_from (length section) (attribute_at section) [] first
-        → without_offset r ≡ Err cause → attributes_at section first ≡ Err cause
-    by_read (Ok found) is h = cc
-    by_read (Err e) is h = attributes-err section first e (sym is) ∙ h

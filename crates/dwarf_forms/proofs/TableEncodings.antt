@@ -1,7 +1,7 @@
 -- Declarations and tables are read if and only if they are encoded and valid.
 use Rattle.std.proofs.Common.{◌≡◌, ◌≢◌, ℕ, ◌+◌, List, [], ◌∷◌, ◌++◌, length, Bool, refl, sym, ap}
 use Rattle.std.proofs.Common.{◌∙◌, subst, arith, append_assoc}
-use Rattle.std.specs.Prelude.{Result, Ok, All, AllPairs, if◌then◌else◌}
+use Rattle.std.specs.Prelude.{Result, Ok, All, AllPairs, if◌then◌else◌, ◌==◌}
 use Rattle.dwarf_bytes.specs.declared.fault.Cause.{Cause}
 use Rattle.dwarf_bytes.specs.Bind.{◌>>=◌}
 use Rattle.dwarf_bytes.specs.Numbers.{IsEncodedAt, IsUleb}
@@ -10,8 +10,10 @@ use Rattle.dwarf_bytes.proofs.Numbers.Advance.{after-bind}
 use Rattle.dwarf_forms.specs.declared.attribute.AttributeSpecification.{AttributeSpecification}
 use Rattle.dwarf_forms.specs.declared.declaration.Head.{Head}
 use Rattle.dwarf_forms.specs.Declarations.{Declaration, EncodesDeclaration, IsValid}
-use Rattle.dwarf_forms.specs.Tables.{attributes_at, head_at, declaration_at}
+use Rattle.dwarf_forms.specs.Tables.{attributes_at, codes_of, head_at, declaration_at}
 use Rattle.dwarf_forms.proofs.Stretches.{stretch-of, encoded-from, both-parts, first-part}
+use Rattle.std.proofs.lemmas.List.{length-map}
+use Rattle.dwarf_forms.proofs.CodeMaps.{any-map}
 use Rattle.dwarf_forms.proofs.Stretches.{second-part}
 use Rattle.dwarf_forms.proofs.Stretches.{respelled}
 use Rattle.dwarf_bytes.proofs.Numbers.Moves.{same-item, same-end}
@@ -23,6 +25,9 @@ use Rattle.dwarf_forms.proofs.AttributeReads.{EncodesAttributes, ValidAttributes
 use Rattle.dwarf_forms.proofs.AttributeReads.{attributes-encoded}
 use Rattle.dwarf_forms.proofs.AttributeReads.{attributes-read}
 use Rattle.dwarf_forms.proofs.HeadEncodings.{EncodesHead, head-encoded, head-end, head-read}
+
+abbrev code : Declaration → ℕ
+code d = d.code
 
 -- the conditions on a declaration that depend on the ones before it
 abbrev pub DeclarationFits : ℕ → List Declaration → Declaration → Type 0
@@ -48,10 +53,11 @@ declaration-encoded budget section = record { item = item; end = end }
     item : (before : List Declaration) (at : ℕ) (x : Declaration) (next : ℕ)
         → declaration_at budget section before at ≡ Ok (Item x next)
         → IsEncodedAt EncodesDeclaration section at x next × DeclarationFits budget before x
-    item before at x next h = after-bind (head_at budget section before at) _ (Item x next) h
+    item before at x next h = after-bind (head_at budget section (codes_of before) at) _
+        (Item x next) h
         (IsEncodedAt EncodesDeclaration section at x next × DeclarationFits budget before x) by_head
       where
-        by_head : (found : Next Head) → head_at budget section before at ≡ Ok found
+        by_head : (found : Next Head) → head_at budget section (codes_of before) at ≡ Ok found
             → (elim found as (λ _. Result (Next Declaration) Cause) [
               | End end ↦ Ok (End end)
               | Item head mid ↦ attributes_at section mid
@@ -70,7 +76,7 @@ declaration-encoded budget section = record { item = item; end = end }
             × DeclarationFits budget before x in
             after-bind (attributes_at section mid) _ (Item x next) h P
             (λ attributes attributes_are last.
-            let front = head-encoded budget section before at head mid is in
+            let front = head-encoded budget section (codes_of before) at head mid is in
             let others = attributes-encoded section mid attributes attributes_are in
             let whole = both-parts section at front.0.front others.0.front mid attributes.1
             front.0.rest
@@ -91,7 +97,10 @@ declaration-encoded budget section = record { item = item; end = end }
                   λ k d h. (facts.0 k d h).1;
               once = facts.1;
             } in
-            let fits : DeclarationFits budget before it = (front.1.limit-left, (good, front.1.new))
+            let fits : DeclarationFits budget before it = (
+              omega (arith, front.1.limit-left, length-map before code),
+              (good, sym (any-map code (λ (other : ℕ). other == head.code) before) ∙ front.1.new),
+            )
             in
             let is_encoded : IsEncodedAt EncodesDeclaration section at it attributes.1 =
             encoded-from EncodesDeclaration section at it attributes.1
@@ -122,10 +131,10 @@ declaration-encoded budget section = record { item = item; end = end }
 
     end : (before : List Declaration) (at next : ℕ) → declaration_at budget section before at
         ≡ Ok (End next) → EndEncoded (λ b. IsUleb b 0) section at next
-    end before at next h = after-bind (head_at budget section before at) _ (End next) h
+    end before at next h = after-bind (head_at budget section (codes_of before) at) _ (End next) h
         (EndEncoded (λ b. IsUleb b 0) section at next) by_head
       where
-        by_head : (found : Next Head) → head_at budget section before at ≡ Ok found
+        by_head : (found : Next Head) → head_at budget section (codes_of before) at ≡ Ok found
             → (elim found as (λ _. Result (Next Declaration) Cause) [
               | End end ↦ Ok (End end)
               | Item head mid ↦ attributes_at section mid
@@ -139,7 +148,7 @@ declaration-encoded budget section = record { item = item; end = end }
             ]) ≡ Ok (End next)
             → EndEncoded (λ b. IsUleb b 0) section at next
         by_head (End last) is h =
-            let zero = head-end budget section before at last is in
+            let zero = head-end budget section (codes_of before) at last is in
             subst (λ (k : ℕ). EndEncoded (λ b. IsUleb b 0) section at k)
             (same-end {X = Declaration} last next h)
             (encoded-from (λ b (u : Unit {0}). IsUleb b 0) section at tt last zero.front zero.rest
@@ -165,11 +174,16 @@ declaration-read budget section = record { item = item; end = end }
         let all = respelled section at s.front (front ++ behind_it) next s.rest regrouped
         (stretch-of EncodesDeclaration section at x next s) in
         let mid = at + length front in
-        let head = head-read budget section before at
+        let head = head-read budget section (codes_of before) at
         (record { code = x.code; tag = x.tag; children = x.children }) mid encoded.code
         encoded.tag (behind_it ++ s.rest)
         (first-part section at front behind_it next s.rest all) encoded.code_is encoded.tag_is
-        (record { some = fits.1.0.code; limit-left = fits.0; new = fits.1.1 }) in
+        (record {
+          some = fits.1.0.code;
+          limit-left = omega (arith, fits.0, length-map before code);
+          new = any-map code
+              (λ (other : ℕ). other == x.code) before ∙ fits.1.1;
+        }) in
         let attributes = attributes-read section mid x.attributes next encoded.attributes
         encoded.end s.rest (second-part section at front behind_it next s.rest all)
         encoded.attributes_are encoded.ends

@@ -3,7 +3,7 @@ use Rattle.std.proofs.Common.{◌≡◌, ℕ, ◌+◌, ◌<◌, ◌≤◌, ◌�
 use Rattle.std.proofs.Common.{true, false, refl, sym, ap, ◌∙◌, subst, arith, length-append}
 use Rattle.std.specs.Prelude.{Result, Ok, Err, nat_le, ◌==◌, IsOk, ◌↔◌}
 use Rattle.std.proofs.lemmas.Bool.{leb-false, cases_lt}
-use Rattle.std.proofs.lemmas.List.{drop_all}
+use Rattle.std.proofs.lemmas.List.{drop_all, length-map}
 use Rattle.std.specs.Result.{is_err}
 use Rattle.dwarf_bytes.specs.declared.fault.ReadFault.TheVariants.{Short}
 use Rattle.dwarf_bytes.specs.declared.fault.Section.{Section}
@@ -19,31 +19,31 @@ use Rattle.dwarf_bytes.specs.Items.{Next, Item, End, reading, items_from}
 use Rattle.dwarf_bytes.proofs.Numbers.Advance.{after-bind, after-test, chosen}
 use Rattle.dwarf_forms.specs.declared.declaration.Head.{Head}
 use Rattle.dwarf_forms.specs.Declarations.{Declaration}
-use Rattle.dwarf_forms.specs.Tables.{attributes_at, head_at, declaration_at, table_at}
+use Rattle.dwarf_forms.specs.Tables.{attributes_at, codes_of, head_at, declaration_at, table_at}
 use Rattle.dwarf_forms.specs.Tables.{declarations_of}
-use Rattle.dwarf_forms.specs.Private.TableSteps.{ExtendsTable}
+use Rattle.dwarf_forms.specs.Steps.{ExtendsTable}
 use Rattle.dwarf_forms.proofs.Moves.{declaration_at-advances}
 use Rattle.dwarf_bytes.proofs.Items.Turns.{SoFar, so-far-none, so-far-item, so-far-end}
 use Rattle.dwarf_bytes.proofs.Items.Turns.{so-far-fault}
 
 -- a declaration is read only if fewer than `budget` precede it
-head_at-budget : (budget : ℕ) (section : List ℕ) (before : List Declaration) (at : ℕ) (head : Head)
-    (after : ℕ) → head_at budget section before at ≡ Ok (Item head after) → length before < budget
-head_at-budget budget section before at head after h =
-    let P : Type 0 = length before < budget in
+head_at-budget : (budget : ℕ) (section : List ℕ) (codes : List ℕ) (at : ℕ) (head : Head)
+    (after : ℕ) → head_at budget section codes at ≡ Ok (Item head after) → length codes < budget
+head_at-budget budget section codes at head after h =
+    let P : Type 0 = length codes < budget in
     after-bind (reading (uleb_at section at)) _ (Item head after) h P (λ code _ h1.
     chosen (code.0 == 0) _ _ (Ok (Item head after)) h1 P (λ _ is. cc) (λ _ h2.
-    after-test (nat_le budget (length before)) causes.TooMany _ (Item head after) h2 P
-    (λ fits _. leb-false budget (length before) fits)))
+    after-test (nat_le budget (length codes)) causes.TooMany _ (Item head after) h2 P
+    (λ fits _. leb-false budget (length codes) fits)))
 
 pub declaration_at-budget : (budget : ℕ) (section : List ℕ) (before : List Declaration) (at : ℕ)
     (x : Declaration) (after : ℕ) → declaration_at budget section before at ≡ Ok (Item x after)
     → length before < budget
 declaration_at-budget budget section before at x after h =
-    after-bind (head_at budget section before at) _ (Item x after) h (length before
+    after-bind (head_at budget section (codes_of before) at) _ (Item x after) h (length before
     < budget) by_head
   where
-    by_head : (next : Next Head) → head_at budget section before at ≡ Ok next
+    by_head : (next : Next Head) → head_at budget section (codes_of before) at ≡ Ok next
         → (elim next as (λ _. Result (Next Declaration) Cause) [
           | End end ↦ Ok (End end)
           | Item head mid ↦ attributes_at section mid
@@ -57,7 +57,12 @@ declaration_at-budget budget section before at x after h =
               attributes.1)
         ]) ≡ Ok (Item x after) → length before < budget
     by_head (End end) is h = cc
-    by_head (Item head mid) is h = head_at-budget budget section before at head mid is
+    by_head (Item head mid) is h =
+        omega (
+          arith,
+          head_at-budget budget section (codes_of before) at head mid is,
+          length-map before (λ (d : Declaration). d.code),
+        )
 
 -- the effect of an iteration that reads a declaration
 pub record Turn (budget first : ℕ) (bytes : List ℕ) (after : List Declaration)

@@ -1,5 +1,6 @@
 -- The read of an abbreviation table (DWARF 5, 7.5.3), up to its first fault.
-use Rattle.std.specs.Prelude.{ℕ, ℤ, List, [], length, Option, Some, None, is_none, Result, Ok, Bool}
+use Rattle.std.specs.Prelude.{ℕ, ℤ, List, [], length, Option, Some, None, is_none, Result, Ok}
+use Rattle.std.specs.Prelude.{Bool, map}
 use Rattle.std.specs.Prelude.{nat_lt, nat_le, ◌==◌, ◌||◌, ◌&&◌, if◌then◌else◌}
 use Rattle.std.specs.List.{list_any}
 use Rattle.dwarf_bytes.specs.declared.fault.Cause.{Cause}
@@ -41,14 +42,18 @@ abbrev pub shares_name : List AttributeSpecification → List AttributeSpecifica
 shares_name own rest =
     list_any (λ attribute. list_any (λ other. other.name == attribute.name) rest) own
 
--- the fields of a declaration before its attributes, after the declarations before it in its table;
--- `budget` is the maximum number of declarations of the table
-abbrev pub head_at : ℕ → List ℕ → List Declaration → ℕ → Result (Next Head) Cause
-head_at budget section before at = do
+-- the codes of declarations
+abbrev pub codes_of : List Declaration → List ℕ
+codes_of declarations = map (λ declaration. declaration.code) declarations
+
+-- the fields of a declaration before its attributes, after declarations with these codes in its
+-- table; `budget` is the maximum number of declarations of the table
+abbrev pub head_at : ℕ → List ℕ → List ℕ → ℕ → Result (Next Head) Cause
+head_at budget section codes at = do
   code ← reading (uleb_at section at)
   if code.0 == 0 then Ok (End code.1) else do
-    _ ← refuse_if (nat_le budget (length before)) causes.TooMany
-    _ ← refuse_if (list_any (λ declaration. declaration.code == code.0) before) causes.AbbrevTwice
+    _ ← refuse_if (nat_le budget (length codes)) causes.TooMany
+    _ ← refuse_if (list_any (λ other. other == code.0) codes) causes.AbbrevTwice
     tag ← reading (uleb_at section code.1)
     children ← reading (u8_at section tag.1)
     _ ← refuse_if (nat_lt 1 children.0) causes.Children
@@ -56,16 +61,17 @@ head_at budget section before at = do
 
 -- the declaration at an offset
 abbrev pub declaration_at : ℕ → List ℕ → List Declaration → ℕ → Result (Next Declaration) Cause
-declaration_at budget section before at = head_at budget section before at >>= λ next. elim next [
-  | End after ↦ Ok (End after)
-  | Item head after ↦ attributes_at section after >>= λ attributes.
-      Ok (Item (record {
-        code = head.code;
-        tag = head.tag;
-        children = head.children;
-        attributes = attributes.0;
-      }) attributes.1)
-]
+declaration_at budget section before at =
+    head_at budget section (codes_of before) at >>= λ next. elim next [
+      | End after ↦ Ok (End after)
+      | Item head after ↦ attributes_at section after >>= λ attributes.
+          Ok (Item (record {
+            code = head.code;
+            tag = head.tag;
+            children = head.children;
+            attributes = attributes.0;
+          }) attributes.1)
+    ]
 
 -- the table at an offset with at most `budget` declarations, and the offset after it
 unfoldable pub table_at : ℕ → List ℕ → ℕ → Result (List Declaration × ℕ) At

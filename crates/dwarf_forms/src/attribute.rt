@@ -1,6 +1,6 @@
 //! The attribute specifications of a declaration (DWARF 5, 7.5.3).
 
-ghost use Rattle.std.specs.Prelude.{◌≡◌, ◌==◌, ◌&&◌, ◌||◌, [], length, drop, is_none};
+ghost use Rattle.std.specs.Prelude.{◌≡◌, ◌==◌, ◌&&◌, ◌||◌, [], length, is_none, List};
 ghost use Rattle.std.specs.List.{list_any};
 ghost use Rattle.dwarf_bytes.specs.Forms.{form_of};
 ghost use Rattle.dwarf_bytes.specs.Items.{items_from, without_offset};
@@ -12,9 +12,6 @@ use dwarf_bytes::constants::DW_FORM_IMPLICIT_CONST;
 use dwarf_bytes::{Cause, Cursor, Form};
 use std::alloc::Global;
 use std::collections::BTreeSet;
-
-/// The number of names of a declaration that are compared one by one. Later names are in a set.
-pub(crate) const FEW: usize = 32;
 
 /// An attribute specification: its name, its form, and the constant of DW_FORM_implicit_const.
 #[derive(Clone, Copy, Debug, PartialEq, Eq)]
@@ -32,25 +29,33 @@ pub(crate) fn attributes(
     ensures { ReadsItems result attributes_at cursor.old cursor.new }
 {
     let mut all = Vec::new(alloc);
-    let mut later = BTreeSet::new(alloc);
-    while let Some(next) = next_attribute(&all, &later, cursor)? {
-        if all.len() >= FEW {
-            later.insert(next.name)?;
-        }
+    let mut names = BTreeSet::new(alloc);
+    while let Some(next) = next_attribute(&names, cursor)? {
+        names.insert(next.name)?;
         all.push(next)?;
     }
     Ok(all)
 }
 
-/// Reads the next attribute specification, or returns `None` at the two zeros that end them.
-/// `later` contains the names of `before` from index `FEW` on.
-pub(crate) fn next_attribute(
-    before: &[AttributeSpecification],
-    later: &BTreeSet<u64>,
+/// Reads the attribute specification at the cursor, as the first of its list. Returns `None` at the
+/// two zeros that end a list.
+pub fn first_attribute(
+    alloc: Global,
     cursor: &mut Cursor,
 ) -> Result<Option<AttributeSpecification>, Cause>
-    requires { ContainsNames later.now (drop FEW before.now) }
-    ensures { ReadsNext result (λ bytes. attribute_at bytes before.now) cursor.old cursor.new }
+    ensures { ReadsNext result (λ bytes. attribute_at bytes []) cursor.old cursor.new }
+{
+    next_attribute(&BTreeSet::new(alloc), cursor)
+}
+
+/// Reads the next attribute specification, or returns `None` at the two zeros that end them.
+/// `names` contains the names of the attributes before it.
+fn next_attribute(
+    names: &BTreeSet<u64>,
+    cursor: &mut Cursor,
+) -> Result<Option<AttributeSpecification>, Cause>
+    ensures { (before : List AttributeSpecification) → ContainsNames names.now before
+        → ReadsNext result (λ bytes. attribute_at bytes before) cursor.old cursor.new }
 {
     let name = cursor.uleb()?;
     let form = cursor.uleb()?;
@@ -60,7 +65,7 @@ pub(crate) fn next_attribute(
     if is_refused(name, form) {
         return Err(Cause::Form);
     }
-    if is_named(before, later, name) {
+    if names.contains(&name) {
         return Err(Cause::AttrTwice);
     }
     let constant = constant(form, cursor)?;
@@ -81,20 +86,6 @@ fn is_refused(name: u64, form: u64) -> bool
     ensures { result ≡ ((name == 0) || is_none (form_of form)) }
 {
     name == 0 || Form::of(form).is_none()
-}
-
-/// Whether one of the attributes has the name.
-fn is_named(before: &[AttributeSpecification], later: &BTreeSet<u64>, name: u64) -> bool
-    requires { ContainsNames later.now (drop FEW before.now) }
-    ensures { result ≡ list_any (λ attribute. attribute.name == name) before.now }
-{
-    has_name(&before[..before.len().min(FEW)], name) || later.contains(&name)
-}
-
-fn has_name(attributes: &[AttributeSpecification], name: u64) -> bool
-    ensures { result ≡ list_any (λ attribute. attribute.name == name) attributes.now }
-{
-    attributes.iter().any(|attribute| attribute.name == name)
 }
 
 /// Reads the constant that follows the form DW_FORM_implicit_const. Other forms have none.

@@ -10,7 +10,7 @@ use std::marker::Model;
 
 /// The codes of a table in order, without duplicates.
 #[derive(Drop)]
-pub(crate) struct CodeIndex {
+pub struct CodeIndex {
     codes: Vec<u64>,
     /// The index, from 0, of each code that differs from its index + 1.
     moved: BTreeMap<u64, usize>,
@@ -28,7 +28,7 @@ impl Model for CodeIndex {
 }
 
 impl CodeIndex {
-    pub(crate) fn new(alloc: Global) -> CodeIndex
+    pub fn new(alloc: Global) -> CodeIndex
         ensures { result ≡ [] }
     {
         CodeIndex {
@@ -46,7 +46,7 @@ impl CodeIndex {
 
     /// Returns the index of a code, from 0. Takes constant time if the codes count up from 1, and
     /// logarithmic time otherwise.
-    pub(crate) fn position(&self, code: u64) -> Option<usize>
+    pub fn position(&self, code: u64) -> Option<usize>
         ensures { result ≡ position (λ other. other == code) self.now }
     {
         let own = code.saturating_sub(1) as usize;
@@ -54,10 +54,7 @@ impl CodeIndex {
             return Some(own);
         }
         let moved = *self.moved.get(&code)?;
-        if is_code_at(&self.codes, moved, code) {
-            return Some(moved);
-        }
-        None
+        Some(moved)
     }
 
     /// Whether the table has the code.
@@ -68,16 +65,20 @@ impl CodeIndex {
     }
 
     /// Appends a code.
-    pub(crate) fn push(&mut self, code: u64) -> Result<(), AllocError>
+    pub fn push(&mut self, code: u64) -> Result<(), AllocError>
         requires { list_any (λ other. other == code) self.old ≡ false }
         ensures ok { OnOk result (self.new ≡ self.old ++ code ∷ []) }
         ensures err { OnErr result (self.new ≡ self.old) }
     {
         let place = self.codes.len();
-        if code != place as u64 + 1 {
-            self.moved.insert(code, place)?;
-        }
         self.codes.push(code)?;
+        if code == place as u64 + 1 {
+            return Ok(());
+        }
+        if let Err(error) = self.moved.insert(code, place) {
+            let _ = self.codes.pop();
+            return Err(error.into());
+        }
         Ok(())
     }
 }

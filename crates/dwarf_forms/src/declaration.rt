@@ -3,7 +3,7 @@
 ghost use Rattle.std.specs.Prelude.{◌≡◌, ◌==◌, false, IfOk, IfSome};
 ghost use Rattle.std.specs.List.{list_any};
 ghost use Rattle.dwarf_bytes.specs.Refusals.{ReadsNext};
-ghost use Rattle.dwarf_forms.specs.Private.Codes.{head_after};
+ghost use Rattle.dwarf_forms.specs.Tables.{head_at};
 
 use crate::attribute::AttributeSpecification;
 use crate::code_index::CodeIndex;
@@ -12,22 +12,18 @@ use std::marker::Model;
 
 /// The fields of a declaration that precede its attributes.
 #[derive(Clone, Copy, Debug)]
-pub(crate) struct Head {
-    pub(crate) code: u64,
-    pub(crate) tag: u64,
-    pub(crate) children: bool,
+pub struct Head {
+    pub code: u64,
+    pub tag: u64,
+    pub children: bool,
 }
 
 impl Head {
     /// Reads the next declaration up to its attributes, or returns `None` at the code 0. `codes`
     /// are the codes of the declarations before it, and `budget` is the maximum number of
     /// declarations.
-    pub(crate) fn next(
-        codes: &CodeIndex,
-        budget: u64,
-        cursor: &mut Cursor,
-    ) -> Result<Option<Head>, Cause>
-        ensures reads { ReadsNext result (λ bytes. head_after budget bytes codes.now)
+    pub fn next(codes: &CodeIndex, budget: u64, cursor: &mut Cursor) -> Result<Option<Head>, Cause>
+        ensures reads { ReadsNext result (λ bytes. head_at budget bytes codes.now)
             cursor.old cursor.new }
         ensures fresh { IfOk result (λ next. IfSome next (λ head.
             list_any (λ other. other == head.code) codes.now ≡ false)) }

@@ -1,12 +1,12 @@
 //! Abbreviation tables (DWARF 5, 7.5.3).
 
 ghost use Rattle.std.specs.Prelude.{◌≡◌, ◌+◌, ◌≤◌, ◌==◌, [], ◌∷◌, ◌++◌, false, length, IfOk, OnOk};
-ghost use Rattle.std.specs.Prelude.{OnErr};
+ghost use Rattle.std.specs.Prelude.{OnErr, IfSome};
 ghost use Rattle.std.specs.List.{list_any};
 ghost use Rattle.dwarf_bytes.specs.declared.fault.Section.TheVariants as sections;
 ghost use Rattle.dwarf_bytes.specs.Refusals.{Decodes, in_section, ReadsNext};
-ghost use Rattle.dwarf_forms.specs.Tables.{head_at, declaration_at, declarations_of};
-ghost use Rattle.dwarf_forms.specs.Private.TableSteps.{ExtendsTable};
+ghost use Rattle.dwarf_forms.specs.Tables.{codes_of, declarations_of, head_at};
+ghost use Rattle.dwarf_forms.specs.Steps.{ExtendsTable};
 
 use crate::attribute::attributes;
 use crate::code_index::CodeIndex;
@@ -109,7 +109,10 @@ impl Abbrevs {
 
     /// Reads the next declaration up to its attributes, or returns `None` at the code 0.
     fn next_head(&self, budget: u64, cursor: &mut Cursor) -> Result<Option<Head>, Cause>
-        ensures { ReadsNext result (λ bytes. head_at budget bytes self.now) cursor.old cursor.new }
+        ensures reads { ReadsNext result (λ bytes. head_at budget bytes (codes_of self.now))
+            cursor.old cursor.new }
+        ensures fresh { IfOk result (λ next. IfSome next (λ head.
+            list_any (λ declaration. declaration.code == head.code) self.now ≡ false)) }
     {
         Head::next(&self.codes, budget, cursor)
     }

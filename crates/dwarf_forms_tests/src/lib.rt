@@ -2,11 +2,7 @@
 #![tactic(auto)]
 
 #[cfg(test)]
-mod both_readers;
-#[cfg(test)]
 mod checks;
-#[cfg(test)]
-mod shared;
 #[cfg(test)]
 mod tables;
 #[cfg(test)]

@@ -1,31 +1,28 @@
-use Rattle.std.proofs.Common.{sym, ◌∙◌}
-use Rattle.std.proofs.lemmas.Option.{none-some}
-use Rattle.dwarf_forms.proofs.CodeLaws.{place-here, place-nowhere, place-moved}
+use Rattle.std.proofs.Common.{◌≡◌, ℕ, List, ◌-◌, false, true, sym, ◌∙◌, subst}
+use Rattle.dwarf_forms.specs.Private.Codes.{is_code_at}
+use Rattle.dwarf_forms.proofs.CodeLaws.{code-there, place-is, place-nowhere}
 use Rattle.dwarf_forms.proofs.code_index.CodeIndex.position.Goals as goal
 
 pub returns-then-is_code_at : goal.returns-then-is_code_at
-returns-then-is_code_at c = place-here c.self.inside.codes.items c.deref.result.now c.args.self.now
-    c.saturating_sub-own.result c.args.code c.deref.ensures.value c.self.view_is
-    c.self.invariant.once (sym c.is_code_at.ensures ∙ c.if-is_code_at.true)
+returns-then-is_code_at c =
+    let here : is_code_at c.self.inside.codes.items c.saturating_sub-own.result c.args.code ≡ true =
+    subst (λ (xs : List ℕ). is_code_at xs c.saturating_sub-own.result c.args.code ≡ true)
+    c.deref.ensures.value (sym c.is_code_at.ensures ∙ c.if-is_code_at.true) in
+    rw (← c.self.view_is) (sym (place-is c.self.inside.codes.items c.saturating_sub-own.result
+    c.args.code c.self.invariant.once (code-there c.self.inside.codes.items _ c.args.code here)))
 
 pub returns-in_err-moved : goal.returns-in_err-moved
 returns-in_err-moved c =
-    rw c.from_residual.ensures
-    (place-nowhere c.self.inside.codes.items c.deref.result.now c.args.self.now c.self.inside.moved
-    c.saturating_sub-own.result c.args.code c.deref.ensures.value c.self.view_is
-    c.self.invariant c.saturating_sub-own.ensures
-    (sym c.is_code_at.ensures ∙ c.if-is_code_at.false)
-    (λ i is. absurd (none-some i (c.in_err-moved.ensures.value ∙ is))))
-
-pub returns-then-is_code_at-2 : goal.returns-then-is_code_at-2
-returns-then-is_code_at-2 c = place-here c.self.inside.codes.items c.deref-2.result.now
-    c.args.self.now c.in_ok-moved.field-0.now c.args.code c.deref-2.ensures.value c.self.view_is
-    c.self.invariant.once (sym c.is_code_at-2.ensures ∙ c.if-is_code_at-2.true)
+    let here : is_code_at c.self.inside.codes.items (c.args.code - 1) c.args.code ≡ false =
+    subst (λ (i : ℕ). is_code_at c.self.inside.codes.items i c.args.code ≡ false)
+    c.saturating_sub-own.ensures (subst (λ (xs : List ℕ). is_code_at xs c.saturating_sub-own.result
+    c.args.code ≡ false) c.deref.ensures.value
+    (sym c.is_code_at.ensures ∙ c.if-is_code_at.false)) in
+    rw (c.from_residual.ensures, ← c.self.view_is) (sym (place-nowhere c.self.inside.codes.items
+    c.self.inside.moved c.args.code c.self.invariant here (sym c.in_err-moved.ensures.value)))
 
 pub returns : goal.returns
 returns c =
-    place-moved c.self.inside.codes.items c.deref.result.now c.deref-2.result.now c.args.self.now
-    c.self.inside.moved c.saturating_sub-own.result c.args.code c.in_ok-moved.field-0.now
-    c.deref.ensures.value c.deref-2.ensures.value c.self.view_is c.self.invariant
-    c.saturating_sub-own.ensures (sym c.is_code_at.ensures ∙ c.if-is_code_at.false)
-    (sym c.in_ok-moved.ensures.value) (sym c.is_code_at-2.ensures ∙ c.if-is_code_at-2.false)
+    rw (← c.self.view_is) (sym (place-is c.self.inside.codes.items c.in_ok-moved.field-0.now
+    c.args.code c.self.invariant.once (c.self.invariant.placed c.args.code _
+    (sym c.in_ok-moved.ensures.value))))

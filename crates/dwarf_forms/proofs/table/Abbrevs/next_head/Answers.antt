@@ -1,7 +1,8 @@
-use Rattle.dwarf_forms.proofs.CodeMaps.{reads-head}
+use Rattle.dwarf_forms.specs.Declarations.{Declaration}
+use Rattle.dwarf_forms.proofs.CodeMaps.{head-fresh}
 use Rattle.dwarf_forms.proofs.table.Abbrevs.next_head.Goals as goal
 
-pub returns : goal.returns
-returns c = reads-head c.args.budget c.self.inside.codes c.self.inside.decls.items c.args.self.now
-    c.next.result c.args.cursor.now c.next.new.cursor c.self.invariant c.self.view_is
-    c.next.ensures.reads
+pub returns-clause-fresh : goal.returns-clause-fresh
+returns-clause-fresh c = head-fresh (λ (d : Declaration). d.code) c.self.inside.decls.items
+    c.args.self.now c.self.inside.codes c.next.result c.self.invariant c.self.view_is
+    c.next.ensures.fresh

@@ -1,0 +1,2 @@
+pub mod NameSets
+pub mod Memo

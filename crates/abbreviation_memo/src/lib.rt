@@ -1,0 +1,16 @@
+//! A memo of abbreviation attributes by their offset in `.debug_abbrev` (DWARF 5, 7.5.3), for
+//! tables that overlap: all tables together take time and memory linear, but for a logarithm, in
+//! the bytes of the section and the declarations that are read.
+#![tactic(auto)]
+
+mod abbreviation_declaration;
+mod abbreviation_table;
+mod memoize;
+mod memoized_lists;
+mod name_sets;
+mod shared;
+
+pub use abbreviation_declaration::AbbreviationDeclaration;
+pub use abbreviation_table::AbbreviationTable;
+pub use memoized_lists::MemoizedLists;
+pub use shared::{SharedList, UNSHARED};

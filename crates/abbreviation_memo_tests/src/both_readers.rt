@@ -1,0 +1,122 @@
+//! A comparison of the reader of a single table and the one that shares attributes between tables.
+
+use crate::checks::are_equal;
+use abbreviation_memo::{AbbreviationDeclaration, AbbreviationTable, MemoizedLists};
+use dwarf_forms::{Abbrevs, AttributeSpecification, Decl};
+use dwarf_samples::inlined;
+use std::process::Abort;
+use std::test::*;
+
+/// Returns the lists of a section, without a memoized attribute.
+pub fn lists_of<'a>(rt: &(impl Abort + AllocGlobal), section: &'a [u8]) -> MemoizedLists<'a> {
+    match MemoizedLists::new(rt.alloc(), section) {
+        Ok(lists) => lists,
+        Err(_) => panic!(rt; "out of memory"),
+    }
+}
+
+/// Appends an attribute.
+pub fn add(
+    rt: &impl Abort,
+    attributes: &mut Vec<AttributeSpecification>,
+    attribute: AttributeSpecification,
+) {
+    if attributes.push(attribute).is_err() {
+        panic!(rt; "out of memory");
+    }
+}
+
+/// Returns the attributes that a declaration stores itself.
+fn own_attributes(
+    rt: &(impl Abort + AllocGlobal),
+    declaration: &AbbreviationDeclaration,
+) -> Vec<AttributeSpecification> {
+    match Vec::from_slice(rt.alloc(), declaration.list().own()) {
+        Ok(attributes) => attributes,
+        Err(_) => panic!(rt; "out of memory"),
+    }
+}
+
+/// Returns the attributes of a declaration, in order: its own, and then the memoized ones.
+pub fn attributes_of(
+    rt: &(impl Abort + AllocGlobal),
+    lists: &MemoizedLists<'_>,
+    declaration: &AbbreviationDeclaration,
+) -> Vec<AttributeSpecification> {
+    let mut attributes = own_attributes(rt, declaration);
+    let mut next = declaration.list().rest();
+    for _ in 0..lists.len() {
+        if let Some(number) = next {
+            if number < lists.len() {
+                add(rt, &mut attributes, *lists.attribute(number));
+                next = lists.next(number);
+            }
+        }
+    }
+    attributes
+}
+
+/// Checks that both readers return the same declaration.
+fn is_same(
+    rt: &(impl Abort + AllocGlobal),
+    decl: &Decl,
+    lists: &MemoizedLists<'_>,
+    shared: &AbbreviationDeclaration,
+) {
+    let head = (shared.code(), shared.tag(), shared.children());
+    are_equal(rt, (decl.code(), decl.tag(), decl.children()), head);
+    let attributes = attributes_of(rt, lists, shared);
+    are_equal(rt, decl.attributes(), attributes.as_slice());
+}
+
+/// Checks that both readers return the same declarations.
+fn are_same(
+    rt: &(impl Abort + AllocGlobal),
+    alone: &Abbrevs,
+    lists: &MemoizedLists<'_>,
+    shared: &AbbreviationTable,
+) {
+    are_equal(rt, alone.decls().len(), shared.declarations().len());
+    for (decl, other) in alone.decls().iter().zip(shared.declarations()) {
+        is_same(rt, decl, lists, other);
+    }
+}
+
+/// Reads the table at an offset with both readers, and checks that they agree.
+pub fn agree_at(rt: &(impl Abort + AllocGlobal), section: &[u8], offset: u64) {
+    let (mut left, mut shared_left) = (3, 3);
+    let mut lists = lists_of(rt, section);
+    let alone = Abbrevs::read(rt.alloc(), section, offset, &mut left);
+    let shared = AbbreviationTable::read(rt.alloc(), &mut lists, offset, &mut shared_left);
+    are_equal(rt, left, shared_left);
+    match (alone, shared) {
+        (Ok(alone), Ok(shared)) => are_same(rt, &alone, &lists, &shared),
+        (alone, shared) => are_equal(rt, alone.err(), shared.err()),
+    }
+}
+
+/// Reads a table, valid or not, at each offset of a section, and checks that both readers agree.
+fn agree(rt: &(impl Abort + AllocGlobal), section: &[u8]) {
+    for offset in 0..section.len() as u64 + 2 {
+        agree_at(rt, section, offset);
+    }
+}
+
+#[test]
+fn readers_agree_at_each_offset(rt: HostRuntime) {
+    let sections: [&[u8]; 4] = [
+        // the sample's
+        &inlined()[120..163],
+        // a constant
+        &[
+            1, 9, 0, 3, 0x21, 0x7f, 0, 0, 2, 9, 1, 0, 0, 3, 9, 0, 0, 0, 0,
+        ],
+        // a repeated code
+        &[1, 9, 0, 0, 0, 2, 9, 0, 0, 0, 1, 9, 0, 0, 0, 0],
+        // a repeated attribute
+        &[1, 9, 0, 3, 8, 4, 8, 3, 8, 0, 0, 0],
+    ];
+    for section in sections {
+        agree(&rt, section);
+    }
+}

@@ -1,0 +1,17 @@
+//! Helpers shared by the tests.
+
+use std::fmt::Debug;
+use std::process::Abort;
+use std::test::*;
+
+/// Checks that two values are equal.
+pub fn are_equal<T: Copy + Debug + PartialEq>(rt: &impl Abort, actual: T, wanted: T) {
+    assert_eq!(rt; actual, wanted);
+}
+
+/// Appends bytes.
+pub fn put(rt: &impl Abort, bytes: &mut Vec<u8>, more: &[u8]) {
+    if bytes.extend_from_slice(more).is_err() {
+        panic!(rt; "out of memory");
+    }
+}

@@ -1,4 +1,0 @@
-use Rattle.dwarf_forms.proofs.name_sets.NameSets.+has.Given as goal
-
-abbrev pub decreases-has : goal.decreases-has
-decreases-has l = l.name
