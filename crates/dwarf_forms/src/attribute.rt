@@ -39,6 +39,8 @@ pub(crate) fn attributes(
 
 /// Reads the attribute specification at the cursor, as the first of its list. Returns `None` at the
 /// two zeros that end a list.
+// Inlined: called for each attribute of a table.
+#[inline(always)]
 pub fn first_attribute(
     alloc: Global,
     cursor: &mut Cursor,
@@ -50,6 +52,8 @@ pub fn first_attribute(
 
 /// Reads the next attribute specification, or returns `None` at the two zeros that end them.
 /// `names` contains the names of the attributes before it.
+// Inlined: called for each attribute of a table.
+#[inline(always)]
 fn next_attribute(
     names: &BTreeSet<u64>,
     cursor: &mut Cursor,
