@@ -1,5 +1,4 @@
 pub mod BaseLaws
-pub mod CoveringLaws
-pub mod RangeLaws
-pub mod RangeTurns
+pub mod EntryLaws
+pub mod ListLaws
 pub mod ScopeBudget

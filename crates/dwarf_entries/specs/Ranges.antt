@@ -12,16 +12,9 @@ use Rattle.dwarf_bytes.specs.Items.{Next, Item, End, reading, refuse_if, without
 use Rattle.dwarf_bytes.specs.Numbers.{u8_at, u64_at, uleb_at}
 use Rattle.dwarf_entries.specs.declared.scope.Range.{Range}
 use Rattle.dwarf_entries.specs.declared.bases.Bases.{Bases}
-use Rattle.dwarf_entries.specs.declared.range_entries.RangeListKind.{RangeListKind}
-use Rattle.dwarf_entries.specs.declared.range_entries.RangeListKind.TheVariants.{
-  BaseAddressx,
-  StartxEndx,
-  StartxLength,
-  OffsetPair,
-  BaseAddress,
-  StartEnd,
-  StartLength,
-}
+use Rattle.dwarf_entries.specs.declared.range_entries.Operand.{Operand}
+use Rattle.dwarf_entries.specs.declared.range_entries.Operand.TheVariants.{Index, Address, Number}
+use Rattle.dwarf_entries.specs.declared.range_entries.Operands.{Operands}
 use Rattle.dwarf_entries.specs.declared.range_entries.RangeListEntry.{RangeListEntry}
 use Rattle.dwarf_entries.specs.declared.range_entries.RangeListEntry.TheVariants.{Base, Covers}
 use Rattle.dwarf_walk.specs.Sections.{Sections}
@@ -51,100 +44,87 @@ abbrev pub live_range_from_base : ℕ → ℕ × ℕ → Result (Option Range) C
 live_range_from_base base offsets =
     if base == tombstone then Ok None else range_between (base + offsets.0, base + offsets.1)
 
--- The kinds by their codes, from DW_RLE_end_of_list to DW_RLE_start_length (7.25, table 7.30). The
--- end of a list is None.
-abbrev pub kinds : List (Option RangeListKind)
-kinds = None ∷ Some BaseAddressx ∷ Some StartxEndx ∷ Some StartxLength ∷ Some OffsetPair
-    ∷ Some BaseAddress ∷ Some StartEnd ∷ Some StartLength ∷ []
+-- The operands of each kind of entry by its code, from DW_RLE_end_of_list to DW_RLE_start_length
+-- (2.17.3 and 7.25, table 7.30). The end of a list is None. Other lengths and offsets are numbers.
+abbrev pub kinds : List (Option Operands)
+kinds =
+    None
+    ∷ Some (record { first = Index; second = None })
+    ∷ Some (record { first = Index; second = Some Index })
+    ∷ Some (record { first = Index; second = Some Number })
+    ∷ Some (record { first = Number; second = Some Number })
+    ∷ Some (record { first = Address; second = None })
+    ∷ Some (record { first = Address; second = Some Address })
+    ∷ Some (record { first = Address; second = Some Number })
+    ∷ []
 
-abbrev pub kind_of : ℕ → Result (Option RangeListKind) Cause
-kind_of number = ok_or (slice_get kinds number) causes.RangeKind
+abbrev pub operands_of : ℕ → Result (Option Operands) Cause
+operands_of code = ok_or (slice_get kinds code) causes.RangeKind
 
--- The current base after these entries of a list: the one set by the last base entry, otherwise
--- the low_pc of the unit.
+-- The current base after an entry, and after these entries of a list: the one set by the last base
+-- entry, otherwise the one before them.
+abbrev pub next_base : RangeListEntry → Option ℕ → Option ℕ
+next_base (Base new) base = Some new
+next_base (Covers range) base = base
+
 abbrev pub base_after : Option ℕ → List RangeListEntry → Option ℕ
-base_after low_pc [] = low_pc
-base_after low_pc (Base base ∷ rest) = base_after (Some base) rest
-base_after low_pc (Covers range ∷ rest) = base_after low_pc rest
+base_after base [] = base
+base_after base (entry ∷ rest) = base_after (next_base entry base) rest
 
 -- The range of an entry of a list, if any.
 abbrev pub ranges_in : RangeListEntry → List Range
 ranges_in (Base base) = []
 ranges_in (Covers range) = option_to_list range
 
--- An operand in .debug_rnglists: an index of .debug_addr, an address, or a number.
-abbrev pub index_at : Sections → Bases → List ℕ → ℕ → Result (ℕ × ℕ) Cause
-index_at sections bases lists at = do
+-- An operand at an offset of .debug_rnglists: the address at an index of .debug_addr, an address,
+-- or a number.
+abbrev pub operand_at : Sections → Bases → Operand → List ℕ → ℕ → Result (ℕ × ℕ) Cause
+operand_at sections bases Index lists at = do
   index ← reading (uleb_at lists at)
   address ← item_at Addr sections.debug_addr bases.addr index.0
   Ok (address, index.1)
+operand_at sections bases Address lists at = reading (u64_at lists at)
+operand_at sections bases Number lists at = reading (uleb_at lists at)
 
-abbrev pub address_at : List ℕ → ℕ → Result (ℕ × ℕ) Cause
-address_at lists at = reading (u64_at lists at)
+-- The end of a range, given its second operand. A number is the length of the range.
+abbrev pub end_of : Operand → ℕ → ℕ → ℕ
+end_of Index start value = value
+end_of Address start value = value
+end_of Number start value = start + value
 
-abbrev pub number_at : List ℕ → ℕ → Result (ℕ × ℕ) Cause
-number_at lists at = reading (uleb_at lists at)
+-- The range of two operands. Two numbers are offsets from the current base.
+abbrev pub range_of : Operand → Operand → Option ℕ → ℕ → ℕ → Result (Option Range) Cause
+range_of Index second base start value = live_range (start, end_of second start value)
+range_of Address second base start value = live_range (start, end_of second start value)
+range_of Number second base start value =
+    ok_or base causes.Base >>= λ from. live_range_from_base from (start, value)
 
--- A start and an end, or a start and a length.
-abbrev pub start_and_end : (List ℕ → ℕ → Result (ℕ × ℕ) Cause) → List ℕ → ℕ
-    → Result ((ℕ × ℕ) × ℕ) Cause
-start_and_end read lists at =
-    read lists at
-    >>= λ start. read lists start.1
-    >>= λ end. Ok ((start.0, end.0), end.1)
-
-abbrev pub start_and_length : (List ℕ → ℕ → Result (ℕ × ℕ) Cause) → List ℕ → ℕ
-    → Result ((ℕ × ℕ) × ℕ) Cause
-start_and_length read lists at =
-    read lists at
-    >>= λ start. number_at lists start.1
-    >>= λ len. Ok ((start.0, start.0 + len.0), len.1)
-
--- The current base and two offsets from it.
-abbrev pub offset_pair : Option ℕ → List ℕ → ℕ → Result ((ℕ × (ℕ × ℕ)) × ℕ) Cause
-offset_pair base lists at = do
-  start ← number_at lists at
-  end ← number_at lists start.1
-  from ← ok_or base causes.Base
-  Ok ((from, (start.0, end.0)), end.1)
-
--- An entry that sets the base, or one that covers the range that its operands define.
-abbrev pub sets_base : Result (ℕ × ℕ) Cause → Result (RangeListEntry × ℕ) Cause
-sets_base read = read >>= λ new. Ok (Base new.0, new.1)
-
-abbrev pub covers : {X : Type 0} → (X → Result (Option Range) Cause) → Result (X × ℕ) Cause
+-- The entry with these operands, which are at an offset. `base` is the current base. An entry with
+-- one operand sets the base. An entry with two covers their range.
+unfoldable pub entry_at : Sections → Bases → Option ℕ → Operands → List ℕ → ℕ
     → Result (RangeListEntry × ℕ) Cause
-covers validate read = read >>= λ operands. validate operands.0
-    >>= λ range. Ok (Covers range, operands.1)
-
--- The entry of a kind, with its operands at an offset. `base` is the current base.
-unfoldable pub entry_at : Sections → Bases → Option ℕ → RangeListKind → List ℕ → ℕ
-    → Result (RangeListEntry × ℕ) Cause
-entry_at sections bases base BaseAddressx lists at = sets_base (index_at sections bases lists at)
-entry_at sections bases base StartxEndx lists at =
-    covers live_range (start_and_end (index_at sections bases) lists at)
-entry_at sections bases base StartxLength lists at =
-    covers live_range (start_and_length (index_at sections bases) lists at)
-entry_at sections bases base OffsetPair lists at =
-    covers (λ pair. live_range_from_base pair.0 pair.1) (offset_pair base lists at)
-entry_at sections bases base BaseAddress lists at = sets_base (address_at lists at)
-entry_at sections bases base StartEnd lists at =
-    covers live_range (start_and_end address_at lists at)
-entry_at sections bases base StartLength lists at =
-    covers live_range (start_and_length address_at lists at)
+entry_at sections bases base operands lists at = do
+  first ← operand_at sections bases operands.first lists at
+  elim operands.second [
+    | None ↦ Ok (Base first.0, first.1)
+    | Some operand ↦ (do
+      second ← operand_at sections bases operand lists first.1
+      range ← range_of operands.first operand base first.0 second.0
+      Ok (Covers range, second.1))
+  ]
 
 -- The entry at an offset. `count` is the number of entries before it in the list, and `budget` is
 -- the maximum number of entries.
 abbrev pub list_entry_of : ℕ → Sections → Bases → ℕ → Option ℕ → List ℕ → ℕ
     → Result (Next RangeListEntry) Cause
 list_entry_of budget sections bases count base lists at = do
-  number ← reading (u8_at lists at)
-  kind ← kind_of number.0
-  elim kind [
-    | None ↦ Ok (End number.1)
-    | Some kind ↦ (do
+  code ← reading (u8_at lists at)
+  operands ← operands_of code.0
+  elim operands [
+    | None ↦ Ok (End code.1)
+    | Some operands ↦ (do
       _ ← refuse_if (nat_le budget count) causes.TooMany
-      entry ← entry_at sections bases base kind lists number.1
+      entry ← entry_at sections bases base operands lists code.1
       Ok (Item entry.0 entry.1))
   ]
 

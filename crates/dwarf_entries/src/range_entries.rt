@@ -2,9 +2,9 @@
 
 ghost use Rattle.std.specs.Prelude.{◌≡◌, ◌<◌, IsSome, IfOk};
 ghost use Rattle.dwarf_bytes.specs.Refusals.{ReadsField, ReadsNext};
-ghost use Rattle.dwarf_entries.specs.Ranges.{kind_of, range_between, live_range};
-ghost use Rattle.dwarf_entries.specs.Ranges.{live_range_from_base, index_at, entry_at};
-ghost use Rattle.dwarf_entries.specs.Ranges.{list_entry_of};
+ghost use Rattle.dwarf_entries.specs.Ranges.{operands_of, range_between, live_range};
+ghost use Rattle.dwarf_entries.specs.Ranges.{live_range_from_base, operand_at, end_of, range_of};
+ghost use Rattle.dwarf_entries.specs.Ranges.{entry_at, list_entry_of};
 ghost use Rattle.dwarf_walk.specs.Sections.{sections_of};
 
 use crate::bases::{Bases, item_at};
@@ -16,35 +16,39 @@ use dwarf_walk::Sections;
 /// The tombstone: the start address of discarded code (2^64-1). No code has this address.
 const DROPPED: u64 = u64::MAX;
 
-/// The kinds of range list entries, except the end of a list.
+/// An operand of an entry: an index of `.debug_addr`, an address, or a number.
 #[derive(Clone, Copy)]
-pub(crate) enum RangeListKind {
-    BaseAddressx,
-    StartxEndx,
-    StartxLength,
-    OffsetPair,
-    BaseAddress,
-    StartEnd,
-    StartLength,
+pub(crate) enum Operand {
+    Index,
+    Address,
+    Number,
 }
 
-impl RangeListKind {
-    /// Returns the kind of a code, or `None` for the end of a list. Fails if the code is unknown.
-    fn of(number: u8) -> Result<Option<RangeListKind>, Cause>
-        ensures { result ≡ kind_of number }
-    {
-        Ok(Some(match number {
-            DW_RLE_END_OF_LIST => return Ok(None),
-            DW_RLE_BASE_ADDRESSX => RangeListKind::BaseAddressx,
-            DW_RLE_STARTX_ENDX => RangeListKind::StartxEndx,
-            DW_RLE_STARTX_LENGTH => RangeListKind::StartxLength,
-            DW_RLE_OFFSET_PAIR => RangeListKind::OffsetPair,
-            DW_RLE_BASE_ADDRESS => RangeListKind::BaseAddress,
-            DW_RLE_START_END => RangeListKind::StartEnd,
-            DW_RLE_START_LENGTH => RangeListKind::StartLength,
-            _ => return Err(Cause::RangeKind),
-        }))
-    }
+/// The operands of an entry. An entry with one operand sets the base. An entry with two covers a
+/// range.
+#[derive(Clone, Copy)]
+pub(crate) struct Operands {
+    pub(crate) first: Operand,
+    pub(crate) second: Option<Operand>,
+}
+
+/// Returns the operands of the kind of entry with a code, or `None` for the end of a list. Fails if
+/// the code is unknown.
+fn operands_of(code: u8) -> Result<Option<Operands>, Cause>
+    ensures { result ≡ operands_of code }
+{
+    let (first, second) = match code {
+        DW_RLE_END_OF_LIST => return Ok(None),
+        DW_RLE_BASE_ADDRESSX => (Operand::Index, None),
+        DW_RLE_STARTX_ENDX => (Operand::Index, Some(Operand::Index)),
+        DW_RLE_STARTX_LENGTH => (Operand::Index, Some(Operand::Number)),
+        DW_RLE_OFFSET_PAIR => (Operand::Number, Some(Operand::Number)),
+        DW_RLE_BASE_ADDRESS => (Operand::Address, None),
+        DW_RLE_START_END => (Operand::Address, Some(Operand::Address)),
+        DW_RLE_START_LENGTH => (Operand::Address, Some(Operand::Number)),
+        _ => return Err(Cause::RangeKind),
+    };
+    Ok(Some(Operands { first, second }))
 }
 
 /// An entry of a range list: the base that it sets, or the range that it covers, if any.
@@ -92,61 +96,73 @@ fn live_range_from_base(base: u64, start: u64, end: u64) -> Result<Option<Range>
     range_between(base + u128::from(start), base + u128::from(end))
 }
 
-/// Reads an index of `.debug_addr` at the cursor and returns its address.
-fn address_at_index(
+/// Reads an operand at the cursor. The value of an index is the address at the index.
+fn operand_value(
+    operand: Operand,
     sections: &Sections<'_>,
     bases: &Bases,
     cursor: &mut Cursor,
 ) -> Result<u64, Cause>
-    ensures { ReadsField (λ address. address) result (index_at
-        (sections_of sections.now) bases.now) cursor.old cursor.new }
+    ensures { ReadsField (λ value. value) result (operand_at
+        (sections_of sections.now) bases.now operand) cursor.old cursor.new }
 {
-    let index = cursor.uleb()?;
-    item_at(TableKind::Addr, sections.debug_addr, bases.addr, index)
+    match operand {
+        Operand::Index => {
+            let index = cursor.uleb()?;
+            item_at(TableKind::Addr, sections.debug_addr, bases.addr, index)
+        }
+        Operand::Address => Ok(cursor.u64()?),
+        Operand::Number => Ok(cursor.uleb()?),
+    }
+}
+
+/// Returns the end of a range, given its second operand. A number is the length of the range.
+fn end_of(second: Operand, start: u64, value: u64) -> u128
+    ensures { result ≡ end_of second start value }
+{
+    match second {
+        Operand::Index | Operand::Address => u128::from(value),
+        Operand::Number => u128::from(start) + u128::from(value),
+    }
+}
+
+/// Returns the range of two operands. Two numbers are offsets from the current base.
+fn range_of(
+    first: Operand,
+    second: Operand,
+    base: Option<u64>,
+    start: u64,
+    value: u64,
+) -> Result<Option<Range>, Cause>
+    ensures { result ≡ range_of first second base start value }
+{
+    match first {
+        Operand::Index | Operand::Address => {
+            live_range(u128::from(start), end_of(second, start, value))
+        }
+        Operand::Number => live_range_from_base(base.ok_or(Cause::Base)?, start, value),
+    }
 }
 
 /// Reads the operands of an entry at the cursor. `base` is the current base.
 #[tactic(auto, unfolding(crate::specs::Ranges::entry_at))]
 fn entry(
-    kind: RangeListKind,
+    operands: Operands,
     base: Option<u64>,
     sections: &Sections<'_>,
     bases: &Bases,
     cursor: &mut Cursor,
 ) -> Result<RangeListEntry, Cause>
     ensures { ReadsField (λ entry. entry) result (entry_at
-        (sections_of sections.now) bases.now base kind) cursor.old cursor.new }
+        (sections_of sections.now) bases.now base operands) cursor.old cursor.new }
 {
-    let (start, end) = match kind {
-        RangeListKind::BaseAddressx => {
-            return Ok(RangeListEntry::Base(address_at_index(sections, bases, cursor)?));
-        }
-        RangeListKind::BaseAddress => return Ok(RangeListEntry::Base(cursor.u64()?)),
-        RangeListKind::StartxEndx => {
-            let start = address_at_index(sections, bases, cursor)?;
-            let end = address_at_index(sections, bases, cursor)?;
-            (u128::from(start), u128::from(end))
-        }
-        RangeListKind::StartxLength => {
-            let start = u128::from(address_at_index(sections, bases, cursor)?);
-            (start, start + u128::from(cursor.uleb()?))
-        }
-        RangeListKind::OffsetPair => {
-            let start = cursor.uleb()?;
-            let end = cursor.uleb()?;
-            let base = base.ok_or(Cause::Base)?;
-            return Ok(RangeListEntry::Covers(live_range_from_base(base, start, end)?));
-        }
-        RangeListKind::StartEnd => {
-            let start = u128::from(cursor.u64()?);
-            (start, u128::from(cursor.u64()?))
-        }
-        RangeListKind::StartLength => {
-            let start = u128::from(cursor.u64()?);
-            (start, start + u128::from(cursor.uleb()?))
-        }
+    let start = operand_value(operands.first, sections, bases, cursor)?;
+    let Some(second) = operands.second else {
+        return Ok(RangeListEntry::Base(start));
     };
-    Ok(RangeListEntry::Covers(live_range(start, end)?))
+    let value = operand_value(second, sections, bases, cursor)?;
+    let range = range_of(operands.first, second, base, start, value)?;
+    Ok(RangeListEntry::Covers(range))
 }
 
 /// Reads the entry at the cursor, or returns `None` at the end of the list. `count` is the number
@@ -163,11 +179,11 @@ pub(crate) fn next_entry(
         (sections_of sections.now) bases.now count base) cursor.old cursor.new }
     ensures budget { IfOk result (λ next. IsSome next → count < budget) }
 {
-    let Some(kind) = RangeListKind::of(cursor.u8()?)? else {
+    let Some(operands) = operands_of(cursor.u8()?)? else {
         return Ok(None);
     };
     if count >= budget {
         return Err(Cause::TooMany);
     }
-    Ok(Some(entry(kind, base, sections, bases, cursor)?))
+    Ok(Some(entry(operands, base, sections, bases, cursor)?))
 }

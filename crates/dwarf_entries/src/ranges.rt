@@ -1,8 +1,8 @@
 //! The address ranges of a scope (DWARF 5, 2.17 and 7.25).
 
-ghost use Rattle.std.specs.Prelude.{◌≡◌};
+ghost use Rattle.std.specs.Prelude.{◌≡◌, ◌≤◌, ◌++◌, IfOk, length};
 ghost use Rattle.dwarf_entries.specs.Ranges.{list_place, list_at, list_of, high_of, pair_range};
-ghost use Rattle.dwarf_entries.specs.Ranges.{pair_at, covers_by};
+ghost use Rattle.dwarf_entries.specs.Ranges.{pair_at, covers_by, next_base, ranges_in};
 ghost use Rattle.dwarf_entries.specs.Private.Shared.{AddsRanges};
 ghost use Rattle.dwarf_walk.specs.Sections.{sections_of};
 
@@ -13,6 +13,7 @@ use dwarf_bytes::constants::DW_FORM_RNGLISTX;
 use dwarf_bytes::{Cause, Cursor, TableKind};
 use dwarf_units::{AttributeValue, is_address};
 use dwarf_walk::{ScopeEntry, Sections};
+use std::alloc::AllocError;
 
 /// Appends the ranges of a scope, given by its low_pc, high_pc and ranges, to `all`. Returns the
 /// number of range items that were read, which is at most `budget`. Fails if the attributes
@@ -38,7 +39,7 @@ pub(crate) fn covers(
 }
 
 /// Appends the ranges of the range list that an attribute refers to.
-#[tactic(auto, using(crate::proofs::RangeLists::RangeTurns::list_outside))]
+#[tactic(auto, using(crate::proofs::RangeLists::ListLaws::list_outside))]
 fn add_list_of(
     budget: u64,
     sections: &Sections<'_>,
@@ -53,7 +54,7 @@ fn add_list_of(
     if place > sections.debug_rnglists.len() as u128 {
         return Err(Cause::Short);
     }
-    add_list(budget, sections, bases, place as u64, all)
+    add_list(budget, sections, bases, place as usize, all)
 }
 
 /// Returns the offset in `.debug_rnglists` of the range list that an attribute refers to.
@@ -72,32 +73,46 @@ fn list_place(sections: &Sections<'_>, bases: &Bases, value: AttributeValue) -> 
 
 /// Appends the ranges of the range list at an offset of `.debug_rnglists`. Reads at most `budget`
 /// entries.
-pub(crate) fn add_list(
+fn add_list(
     budget: u64,
     sections: &Sections<'_>,
     bases: &Bases,
-    place: u64,
+    place: usize,
     all: &mut Vec<Range>,
 ) -> Result<u64, Cause>
+    requires { place ≤ length sections.now.debug_rnglists.now }
     ensures { AddsRanges result all.old.items all.new.items (list_at budget
         (sections_of sections.now) bases.now place) }
 {
     let mut cursor = Cursor::new(sections.debug_rnglists);
-    cursor.seek(place as usize)?;
+    cursor.seek(place)?;
     let mut items = 0;
     let mut base = bases.low_pc;
     while let Some(entry) = next_entry(budget, items, base, sections, bases, &mut cursor)? {
         items += 1;
-        match entry {
-            RangeListEntry::Base(new) => base = Some(new),
-            RangeListEntry::Covers(covered) => {
-                if let Some(range) = covered {
-                    all.push(range)?;
-                }
+        add_entry(entry, &mut base, all)?;
+    }
+    Ok(items)
+}
+
+/// Sets the current base to the base that an entry sets, or appends the range that it covers.
+fn add_entry(
+    entry: RangeListEntry,
+    base: &mut Option<u64>,
+    all: &mut Vec<Range>,
+) -> Result<(), AllocError>
+    ensures base { base.new ≡ next_base entry base.old }
+    ensures ranges { IfOk result (λ _. all.new.items ≡ all.old.items ++ ranges_in entry) }
+{
+    match entry {
+        RangeListEntry::Base(new) => *base = Some(new),
+        RangeListEntry::Covers(covered) => {
+            if let Some(range) = covered {
+                all.push(range)?;
             }
         }
     }
-    Ok(items)
+    Ok(())
 }
 
 /// Returns the end address of a high_pc: an address, or a length added to the start.

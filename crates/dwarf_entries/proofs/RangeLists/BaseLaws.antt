@@ -2,7 +2,7 @@
 use Rattle.std.proofs.Common.{◌≡◌, ℕ, ◌+◌, ◌*◌, ◌<◌, List, true, false, length, refl, arith, []}
 use Rattle.std.proofs.Common.{◌∷◌, ◌++◌, map}
 use Rattle.std.specs.Prelude.{Option, Some, Err, nat_lt, nat_le}
-use Rattle.std.proofs.lemmas.Bool.{lt-ltb}
+use Rattle.std.proofs.lemmas.Bool.{lt-ltb, lt-leb}
 use Rattle.dwarf_bytes.specs.declared.fault.ReadFault.TheVariants.{Short}
 use Rattle.dwarf_bytes.specs.declared.format.Format.{Format}
 use Rattle.dwarf_bytes.specs.declared.format.Format.TheVariants.{Dwarf32, Dwarf64}
@@ -14,10 +14,10 @@ use Rattle.dwarf_entries.specs.Bases.{item_len, item_in, item_at}
 use Rattle.dwarf_entries.specs.declared.scope.Range.{Range}
 use Rattle.dwarf_entries.specs.declared.range_entries.RangeListEntry.{RangeListEntry}
 use Rattle.dwarf_entries.specs.declared.range_entries.RangeListEntry.TheVariants.{Base, Covers}
-use Rattle.dwarf_entries.specs.Ranges.{base_after}
+use Rattle.dwarf_entries.specs.Ranges.{base_after, next_base}
 use Rattle.dwarf_bytes.specs.declared.fault.Cause.TheVariants as causes
 
-fixed-outside : (n : ℕ) (bytes : List ℕ) (at : ℕ) → length bytes < at
+pub fixed-outside : (n : ℕ) (bytes : List ℕ) (at : ℕ) → length bytes < at
     → fixed_at n bytes at ≡ Err Short
 unfolding fixed_at block_at
 fixed-outside n bytes at h =
@@ -37,7 +37,7 @@ pub item_at-outside : (kind : TableKind) (section : List ℕ) (found : Option Ta
     → place ≡ table.base + item_len kind table.format * index → length section < place
     → Err causes.Short ≡ item_at kind section found index
 item_at-outside kind section found table index place is within at past =
-    let inside : nat_le table.head.items index ≡ false = lt-leb index table.head.items within in
+    let inside : nat_le table.head.items index ≡ false = lt-leb table.head.items index within in
     let beyond : length section < table.base + item_len kind table.format * index =
     omega (arith, at, past) in
     rw (
@@ -46,20 +46,17 @@ item_at-outside kind section found table index place is within at past =
       item-outside kind table.format section
           (table.base + item_len kind table.format * index) beyond,
     ) refl
-  where
-    lt-leb : (m n : ℕ) → m < n → nat_le n m ≡ false
-    lt-leb m n h = grind arith
 
 -- ---- the current base
 
-pub base-stays : (low_pc : Option ℕ) (ranges : List (Option Range))
-    → base_after low_pc (map (λ range. Covers range) ranges) ≡ low_pc
-base-stays low_pc [] = refl
-base-stays low_pc (range ∷ ranges) = base-stays low_pc ranges
+pub base-stays : (base : Option ℕ) (ranges : List (Option Range))
+    → base_after base (map (λ range. Covers range) ranges) ≡ base
+base-stays base [] = refl
+base-stays base (range ∷ ranges) = base-stays base ranges
 
 pub base-of_last : (low_pc : Option ℕ) (before : List RangeListEntry) (base : ℕ)
     (ranges : List (Option Range)) → base_after low_pc
     (before ++ Base base ∷ map (λ range. Covers range) ranges) ≡ Some base
 base-of_last low_pc [] base ranges = base-stays (Some base) ranges
-base-of_last low_pc (Base first ∷ before) base ranges = base-of_last (Some first) before base ranges
-base-of_last low_pc (Covers range ∷ before) base ranges = base-of_last low_pc before base ranges
+base-of_last low_pc (first ∷ before) base ranges =
+    base-of_last (next_base first low_pc) before base ranges

@@ -23,8 +23,8 @@ use Rattle.dwarf_entries.specs.Bases.{address_of}
 use Rattle.dwarf_entries.specs.Ranges.{Covering, ranges_in, base_after, list_entry_at, list_place}
 use Rattle.dwarf_entries.specs.Ranges.{list_at, high_of, pair_range, pair_at, covers_by, covers_of}
 use Rattle.dwarf_entries.specs.TreeLaws.{IsValidRange}
-use Rattle.dwarf_entries.proofs.RangeLists.CoveringLaws.{AllHold, MayHold, none-holds, from-holds}
-use Rattle.dwarf_entries.proofs.RangeLists.CoveringLaws.{list-covers}
+use Rattle.dwarf_entries.proofs.RangeLists.EntryLaws.{AllHold, MayHold, none-holds, live-holds}
+use Rattle.dwarf_entries.proofs.RangeLists.EntryLaws.{list_entry-facts}
 use Rattle.dwarf_entries.specs.Private.Shared.{AddsRanges}
 
 pub record Fits (budget : ℕ) (covering : Covering) : Type 0 where
@@ -41,14 +41,14 @@ lists-hold : (budget : ℕ) (sections : Sections) (bases : Bases) (lists : List 
 lists-hold budget sections bases lists before at [] after h le =
     (none-holds, omega arith, omega (arith, le))
 lists-hold budget sections bases lists before at (entry ∷ entries) after h le =
-    let here = list-covers budget sections bases (length before) (base_after bases.low_pc before)
-    lists at entry h.0 h.1 in
+    let here = list_entry-facts budget sections bases (length before)
+    (base_after bases.low_pc before) lists at entry h.0 h.1 in
     let size = length-append before (entry ∷ []) in
     let rest = lists-hold budget sections bases lists (before ++ entry ∷ []) h.0 entries after h.2
-    (omega (arith, size, here.1)) in
+    (omega (arith, size, here.2)) in
     let both = length-append (ranges_in entry) (flat_map ranges_in entries) in (
-      All-append IsValidRange (ranges_in entry) (flat_map ranges_in entries) here.0.0 rest.0,
-      omega (arith, both, here.0.1, rest.1),
+      All-append IsValidRange (ranges_in entry) (flat_map ranges_in entries) here.1.0 rest.0,
+      omega (arith, both, here.1.1, rest.1),
       omega (arith, size, rest.2),
     )
 
@@ -92,7 +92,7 @@ pair-fits budget sections bases low high covering h =
     range-holds range h =
         after-bind (address_of sections bases.addr low) _ range h (MayHold range) (λ start _ h1.
         after-bind (high_of sections bases start high) _ range h1 (MayHold range) (λ end _ last.
-        from-holds (start, end) range last))
+        live-holds (start, end) range last))
 
     at-most : (range : Option Range) → length (option_to_list range) ≤ 1
     at-most None = omega arith

@@ -11,7 +11,7 @@ use Rattle.dwarf_entries.specs.Bases.{CompilationUnit}
 use Rattle.dwarf_entries.specs.Scopes.{Scope, Tree, ScopeSite, ParsedScope, items_limit, tree_of}
 use Rattle.dwarf_entries.specs.TreeLaws.{IsValidRange}
 use Rattle.dwarf_entries.proofs.Results.TreeParts.{AreParsed, is-read}
-use Rattle.dwarf_entries.proofs.RangeLists.CoveringLaws.{AllHold}
+use Rattle.dwarf_entries.proofs.RangeLists.EntryLaws.{AllHold}
 use Rattle.dwarf_entries.specs.Private.Passes.{all_sites}
 use Rattle.dwarf_entries.proofs.RangeLists.ScopeBudget.{covers-fits}
 

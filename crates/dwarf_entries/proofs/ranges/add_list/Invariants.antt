@@ -1,15 +1,12 @@
-use Rattle.std.proofs.Common.{◌≡◌, ◌-◌, length}
+use Rattle.std.proofs.Common.{◌-◌, length}
 use Rattle.dwarf_walk.specs.Sections.{sections_of}
-use Rattle.dwarf_entries.proofs.RangeLists.RangeTurns.{ListSoFar}
+use Rattle.dwarf_entries.proofs.RangeLists.ListLaws.{ListSoFar}
 use Rattle.dwarf_entries.proofs.ranges.add_list.Given as goal
 
 abbrev pub invariant-loop-entry : goal.invariant-loop-entry
-invariant-loop-entry l = record {
-  bytes : l.cursor.bytes ≡ l.sections.debug_rnglists.now;
-  listed : ListSoFar l.budget (sections_of l.sections) l.bases l.sections.debug_rnglists.now
-      l.place
-      l.cursor.place l.items l.base l.fn.all.items l.all.items;
-}
+invariant-loop-entry l =
+    ListSoFar l.budget (sections_of l.sections) l.bases l.place l.fn.all.items l.cursor l.items
+    l.base l.all.items
 
 abbrev pub decreases-loop-entry : goal.decreases-loop-entry
 decreases-loop-entry l = length l.cursor.bytes - l.cursor.place

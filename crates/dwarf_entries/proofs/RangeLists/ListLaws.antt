@@ -1,0 +1,112 @@
+-- The loop over a range list.
+use Rattle.std.proofs.Common.{◌≡◌, ℕ, ◌+◌, ◌<◌, List, [], ◌∷◌, ◌++◌, length, refl, ap, sym}
+use Rattle.std.proofs.Common.{◌∙◌, arith, append_assoc, length-append, append-nil}
+use Rattle.std.specs.Prelude.{Option, Result, Ok, Err, flat_map}
+use Rattle.std.proofs.lemmas.List.Concat.{flat_map-append}
+use Rattle.dwarf_bytes.specs.declared.fault.Cause.{Cause}
+use Rattle.dwarf_bytes.specs.declared.fault.Cause.TheVariants as causes
+use Rattle.dwarf_bytes.specs.Position.{Position}
+use Rattle.dwarf_bytes.specs.Items.{Next, Item, End, Advances}
+use Rattle.dwarf_bytes.proofs.Numbers.Advance.{MovesOn}
+use Rattle.dwarf_bytes.proofs.Items.Turns.{SoFar, so-far-none, so-far-item, so-far-end}
+use Rattle.dwarf_bytes.proofs.Items.Turns.{so-far-fault}
+use Rattle.dwarf_entries.specs.declared.scope.Range.{Range}
+use Rattle.dwarf_entries.specs.declared.bases.Bases.{Bases}
+use Rattle.dwarf_entries.specs.declared.range_entries.RangeListEntry.{RangeListEntry}
+use Rattle.dwarf_walk.specs.Sections.{Sections}
+use Rattle.dwarf_entries.specs.Private.Shared.{AddsRanges}
+use Rattle.dwarf_entries.specs.Ranges.{next_base, base_after, ranges_in, list_entry_of}
+use Rattle.dwarf_entries.specs.Ranges.{list_entry_at, list_at}
+use Rattle.dwarf_entries.proofs.RangeLists.BaseLaws.{fixed-outside}
+use Rattle.dwarf_entries.proofs.RangeLists.EntryLaws.{list_entry_at-advances}
+
+base_after-push : (base : Option ℕ) (before : List RangeListEntry) (x : RangeListEntry)
+    → base_after base (before ++ x ∷ []) ≡ next_base x (base_after base before)
+base_after-push base [] x = refl
+base_after-push base (first ∷ before) x = base_after-push (next_base first base) before x
+
+-- The loop invariant: the count and the base of the loop match the entries before the cursor, and the
+-- ranges of these entries are appended to the earlier ones.
+pub record ListSoFar (budget : ℕ) (sections : Sections) (bases : Bases) (first : ℕ)
+    (known : List Range) (at : Position) (count : ℕ) (base : Option ℕ) (ranges : List Range)
+    : Type 0 where
+  pub bytes_are : at.bytes ≡ sections.debug_rnglists
+  pub before : List RangeListEntry
+  pub counted : count ≡ length before
+  pub base_is : base ≡ base_after bases.low_pc before
+  pub ranges_are : ranges ≡ known ++ flat_map ranges_in before
+  pub read : SoFar (length sections.debug_rnglists)
+      (list_entry_at budget sections bases sections.debug_rnglists) first before at.place
+
+module _ {budget : ℕ} {sections : Sections} {bases : Bases} {first : ℕ} {known : List Range}
+    {at : Position} {count : ℕ} {base : Option ℕ} {ranges : List Range}
+    (so_far : ListSoFar budget sections bases first known at count base ranges) where
+  -- The entry at the cursor, given the entries before it.
+  here : (read : Result (Next RangeListEntry) Cause)
+      → list_entry_of budget sections bases count base at.bytes at.place ≡ read
+      → list_entry_at budget sections bases sections.debug_rnglists so_far.before at.place ≡ read
+  here read is =
+      sym (ap (λ (k : ℕ). list_entry_of budget sections bases k base at.bytes at.place)
+      so_far.counted ∙ (ap (λ (b : Option ℕ). list_entry_of budget sections bases
+      (length so_far.before) b at.bytes at.place) so_far.base_is ∙ ap (λ (bytes : List ℕ).
+      list_entry_at budget sections bases bytes so_far.before at.place) so_far.bytes_are)) ∙ is
+
+  advances : Advances (length sections.debug_rnglists)
+      (list_entry_at budget sections bases sections.debug_rnglists)
+  advances = list_entry_at-advances budget sections bases sections.debug_rnglists
+
+  pub list-next : (new : Position) (x : RangeListEntry)
+      → list_entry_of budget sections bases count base at.bytes at.place ≡ Ok (Item x new.place)
+      → new.bytes ≡ at.bytes
+      → MovesOn at.bytes at.place new.place
+      × ListSoFar budget sections bases first known new (count + 1) (next_base x base)
+      (ranges ++ ranges_in x)
+  list-next new x is same =
+      let read = here (Ok (Item x new.place)) is in (
+        rw so_far.bytes_are (advances so_far.before at.place x new.place read),
+        record {
+          bytes_are = same ∙ so_far.bytes_are;
+          before = so_far.before ++ x ∷ [];
+          counted = omega (arith, so_far.counted, length-append so_far.before (x ∷ []));
+          base_is = ap (next_base x) so_far.base_is
+              ∙ sym (base_after-push bases.low_pc so_far.before x);
+          ranges_are = rw (
+            so_far.ranges_are,
+            flat_map-append ranges_in so_far.before (x ∷ []),
+            append-nil (ranges_in x),
+            append_assoc known (flat_map ranges_in so_far.before) (ranges_in x),
+          ) refl;
+          read = so-far-item _ _ advances first so_far.before at.place x new.place so_far.read
+              read;
+        },
+      )
+
+  pub list-end : (after : ℕ)
+      → list_entry_of budget sections bases count base at.bytes at.place ≡ Ok (End after)
+      → AddsRanges (Ok count) known ranges (list_at budget sections bases first)
+  unfolding list_at
+  list-end after is =
+      let all = so-far-end _ _ advances first so_far.before at.place after so_far.read
+      (here (Ok (End after)) is) in
+      (flat_map ranges_in so_far.before, rw (all, so_far.counted) refl, so_far.ranges_are)
+
+  pub list-fault : (cause : Cause)
+      → list_entry_of budget sections bases count base at.bytes at.place ≡ Err cause
+      → list_at budget sections bases first ≡ Err cause
+  unfolding list_at
+  list-fault cause is = rw (so-far-fault _ _ advances first so_far.before at.place cause
+      so_far.read (here (Err cause) is)) refl
+
+-- ---- a list outside the section
+
+pub list_outside : (budget : ℕ) (sections : Sections) (bases : Bases) (place : ℕ)
+    → length sections.debug_rnglists < place → list_at budget sections bases place
+    ≡ Err causes.Short
+unfolding list_at
+list_outside budget sections bases place h =
+    let lists = sections.debug_rnglists in
+    let here : list_entry_at budget sections bases lists [] place ≡ Err causes.Short =
+    rw (fixed-outside 1 lists place h) refl in
+    rw (so-far-fault (length lists) (list_entry_at budget sections bases lists)
+    (list_entry_at-advances budget sections bases lists) place [] place causes.Short
+    (so-far-none (length lists) (list_entry_at budget sections bases lists) place) here) refl
