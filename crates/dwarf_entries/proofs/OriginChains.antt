@@ -1,5 +1,5 @@
+pub mod BitmapLaws
 pub mod ChainLaws
 pub mod ChainStrings
 pub mod NameStrings
 pub mod ReferenceLaws
-pub mod ReferencedEntries

@@ -1,9 +1,8 @@
-pub mod BasesPass
-pub mod ContiguousUnits
-pub mod EntriesAtOffsets
-pub mod EntriesFaults
+pub mod PassLaws
 pub mod EntriesPass
-pub mod OrderLaws
+pub mod BasesPass
+pub mod StoredUnits
+pub mod HeaderLaws
+pub mod UnitLaws
 pub mod RereadLaws
-pub mod UnitOrder
 pub mod ObjectLaws

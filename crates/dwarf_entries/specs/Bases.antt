@@ -18,6 +18,7 @@ use Rattle.dwarf_bytes.specs.Items.{At, each, reading, refuse_if, with_offset}
 use Rattle.dwarf_bytes.specs.Numbers.{u64_at, offset_len, offset_at}
 use Rattle.dwarf_bytes.specs.Refusals.{in_section}
 use Rattle.dwarf_bytes.specs.Tables.{table_before}
+use Rattle.dwarf_forms.specs.Declarations.{Declaration}
 use Rattle.dwarf_units.specs.declared.unit_headers.UnitHeader.{UnitHeader}
 use Rattle.dwarf_entries.specs.declared.bases.Table.{Table}
 use Rattle.dwarf_entries.specs.declared.bases.Bases.{Bases}
@@ -89,17 +90,29 @@ pub record CompilationUnit : Type 0 where
   pub dies : List Die
   pub bases : Bases
 
-unfoldable pub unit_of : Sections → UnitHeader → List Die → Result CompilationUnit At
-unit_of sections header [] = Ok (record { header = header; dies = []; bases = no_bases })
-unit_of sections header (root ∷ dies) = do
-  bases ← with_offset root.offset (bases_at sections header.format root)
-  Ok (record { header = header; dies = root ∷ dies; bases = bases })
+-- A unit with its entries, before its root is read.
+abbrev pub unit_of : List ℕ → UnitHeader → List Declaration → Result CompilationUnit At
+unit_of info header table =
+    entries_of info header table
+    >>= λ dies. Ok (record { header = header; dies = dies; bases = no_bases })
+
+-- The bases that the first of these entries defines.
+abbrev pub bases_of_first : Sections → Format → List Die → Result Bases At
+bases_of_first sections format [] = Ok no_bases
+bases_of_first sections format (root ∷ dies) =
+    with_offset root.offset (bases_at sections format root)
+
+-- The same unit, with the bases that its root defines.
+abbrev pub with_bases : Sections → CompilationUnit → Result CompilationUnit At
+with_bases sections unit =
+    bases_of_first sections unit.header.format unit.dies
+    >>= λ bases. Ok (record { header = unit.header; dies = unit.dies; bases = bases })
 
 -- The units of an object. The passes over all units read headers, tables, entries and roots.
 unfoldable pub units_read : Sections → Result (List CompilationUnit) LoadFault
 units_read s = do
   headers ← in_section names.DebugInfo (units_of s.debug_info)
   tables ← in_section names.DebugAbbrev (tables_of s.debug_abbrev headers)
-  dies ← in_section names.DebugInfo
-      (each (λ _ p. entries_of s.debug_info p.0 p.1) (zip headers tables))
-  in_section names.DebugInfo (each (λ _ p. unit_of s p.0 p.1) (zip headers dies))
+  units ← in_section names.DebugInfo
+      (each (λ _ p. unit_of s.debug_info p.0 p.1) (zip headers tables))
+  in_section names.DebugInfo (each (λ _ unit. with_bases s unit) units)

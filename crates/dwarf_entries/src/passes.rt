@@ -1,18 +1,16 @@
 //! The passes over all units: their entries, and the bases that their roots define.
 
-ghost use Rattle.std.specs.Prelude.{◌≡◌, List, Ok, OnOk, map};
+ghost use Rattle.std.specs.Prelude.{◌≡◌, List, Ok, map};
 ghost use Rattle.dwarf_bytes.specs.declared.fault.Section.TheVariants as names;
 ghost use Rattle.dwarf_bytes.specs.Refusals.{Decodes, in_section};
 ghost use Rattle.dwarf_forms.specs.Declarations.{Declaration};
-ghost use Rattle.dwarf_units.specs.declared.unit_headers.UnitHeader.{UnitHeader};
-ghost use Rattle.dwarf_units.specs.Entries.{Die};
-ghost use Rattle.dwarf_walk.specs.Sections.{sections_of};
 ghost use Rattle.dwarf_units.specs.Units.{tables_of};
-ghost use Rattle.dwarf_walk.specs.Private.Stored.{stored_of};
+ghost use Rattle.dwarf_walk.specs.Sections.{sections_of};
 ghost use Rattle.dwarf_walk.specs.Private.EntryBitmap.{AddsOffsets};
-ghost use Rattle.dwarf_entries.specs.Private.EntryOffsets.{all_offsets};
-ghost use Rattle.dwarf_entries.specs.Private.Passes.{all_entries, all_stored, stored_units};
-ghost use Rattle.dwarf_entries.specs.Private.Passes.{bases_in, all_bases};
+ghost use Rattle.dwarf_entries.specs.Bases.{CompilationUnit};
+ghost use Rattle.dwarf_entries.specs.Private.EntryOffsets.{AreStored, all_offsets};
+ghost use Rattle.dwarf_entries.specs.Private.Passes.{PassGives, all_entries, all_bases};
+ghost use Rattle.dwarf_entries.specs.Private.Passes.{bases_in, bases_of};
 
 use crate::bases::Bases;
 use crate::roots::bases;
@@ -31,14 +29,11 @@ pub(crate) fn all_entries(
 ) -> Result<Vec<UnitEntries>, LoadFault>
     requires { tables.old.section ≡ sections.now.debug_abbrev.now }
     ensures section { tables.new.section ≡ tables.old.section }
-    ensures decodes { (all : List (List Declaration))
+    ensures units { (all : List (List Declaration))
         → tables_of sections.now.debug_abbrev.now headers.now ≡ Ok all
-        → Decodes (λ units. map stored_of units.items) result (in_section names.DebugInfo
-        (all_stored sections.now.debug_info.now headers.now all)) }
-    ensures bitmap { OnOk result ((all : List (List Declaration)) (dies : List (List Die))
-        → tables_of sections.now.debug_abbrev.now headers.now ≡ Ok all
-        → all_entries sections.now.debug_info.now headers.now all ≡ Ok dies
-        → AddsOffsets bitmap.old bitmap.new (all_offsets dies)) }
+        → PassGives (λ units us. AreStored units.items us
+        × AddsOffsets bitmap.old bitmap.new (all_offsets us)) result
+        (all_entries sections.now.debug_info.now headers.now all) }
 {
     let mut units = Vec::new(alloc);
     for header in headers {
@@ -56,10 +51,9 @@ pub(crate) fn all_bases(
     sections: &Sections<'_>,
     units: &[UnitEntries],
 ) -> Result<Vec<Bases>, LoadFault>
-    ensures { (headers : List UnitHeader) (dies : List (List Die))
-        → map stored_of units.now ≡ stored_units headers dies
-        → Decodes (λ all. all.items) result (in_section names.DebugInfo (all_bases
-        (sections_of sections.now) headers dies)) }
+    ensures { (us : List CompilationUnit) → AreStored units.now us
+        → PassGives (λ bases all. bases.items ≡ map bases_of all) result
+        (all_bases (sections_of sections.now) us) }
 {
     let mut all = Vec::new(alloc);
     for unit in units {

@@ -1,73 +1,64 @@
 -- The entry at an offset of .debug_info is found by its bit, in the unit that contains the offset.
-use Rattle.std.proofs.Common.{◌≡◌, ℕ, zero, suc, ◌<◌, ◌≤◌, ◌⊎◌, inl, inr, List, [], ◌∷◌, length}
-use Rattle.std.proofs.Common.{get_or, Bool, true, false, cond, ◌==◌, refl, sym, ap, ◌∙◌, subst}
-use Rattle.std.proofs.Common.{arith}
-use Rattle.std.specs.Prelude.{Option, Some, None, map, find, slice_get, option_map, option_to_list}
+use Rattle.std.proofs.Common.{◌≡◌, ◌⊎◌, inl, inr, ℕ, zero, suc, ◌+◌, ◌<◌, ◌≤◌, List, [], ◌∷◌, length}
+use Rattle.std.proofs.Common.{map, get_or, Bool, true, false, cond, ◌==◌, refl, sym, ap, ◌∙◌}
+use Rattle.std.proofs.Common.{subst, arith, eq-eqb}
+use Rattle.std.specs.Prelude.{Option, Some, None, Err, find, slice_get, option_map, ok_or}
+use Rattle.std.specs.Prelude.{option_to_list}
+use Rattle.std.specs.Option.{option_or}
 use Rattle.std.specs.List.Sorted.{IsNonDecreasingBy, IsPartitionPoint}
-use Rattle.std.proofs.Math.ListN.{get_or-map}
-use Rattle.std.proofs.lemmas.List.{length-map}
+use Rattle.std.proofs.lemmas.Bool.{ne_eqb, cases_lt, cases_order}
 use Rattle.std.proofs.lemmas.List.Folds.{find-append}
-use Rattle.std.proofs.lemmas.Option.{slice_get-map, slice_get-get_or, same_Some}
-use Rattle.std.proofs.lemmas.Option.{slice_get_within}
-use Rattle.std.proofs.lemmas.Bool.Decides.{nat_tests}
-use Rattle.dwarf_walk.specs.declared.unit_entries.UnitEntries.{UnitEntries}
+use Rattle.std.proofs.lemmas.Option.{same_Some, slice_get-get_or, slice_get_within}
+use Rattle.std.proofs.lemmas.Option.{get_or_from_slice_get}
+use Rattle.dwarf_bytes.specs.declared.constants.TheConstants.{DW_FORM_REF_ADDR}
+use Rattle.dwarf_bytes.specs.declared.fault.Cause.TheVariants as causes
+use Rattle.dwarf_units.specs.declared.attributes.AttributeValue.{AttributeValue}
 use Rattle.dwarf_units.specs.Entries.{Die}
-use Rattle.dwarf_entries.specs.Bases.{CompilationUnit}
-use Rattle.dwarf_entries.specs.Names.{Member, members_of}
-use Rattle.dwarf_entries.specs.Private.EntryOffsets.{AreInOrder, stored_unit_of}
 use Rattle.dwarf_units.specs.Private.Rising.{RiseWithin}
-use Rattle.dwarf_walk.specs.Private.Stored.{StoredUnit, stored_of}
-use Rattle.dwarf_entries.specs.Private.Members.{AreStoredAs}
+use Rattle.dwarf_walk.specs.declared.unit_entries.UnitEntries.{UnitEntries}
+use Rattle.dwarf_walk.specs.Private.Stored.{StoredUnit}
+use Rattle.dwarf_walk.specs.Sections.{Sections}
+use Rattle.dwarf_entries.specs.Bases.{CompilationUnit}
+use Rattle.dwarf_entries.specs.Names.{Member, members_of, member_at, target_of}
+use Rattle.dwarf_entries.specs.Private.EntryOffsets.{AreStored}
+use Rattle.dwarf_entries.specs.Private.Members.{IsWithin, member_in}
+use Rattle.dwarf_entries.proofs.UnitPasses.PassLaws.{element}
+use Rattle.dwarf_entries.proofs.UnitPasses.StoredUnits.{StoredFor, stored-at, stored-index}
+use Rattle.dwarf_entries.proofs.UnitPasses.StoredUnits.{stored-length}
+use Rattle.dwarf_entries.proofs.UnitPasses.UnitLaws.{AreUnitsIn, dies-rise}
 
--- ---- nondecreasing lists of numbers
+-- ---- the entry at an offset of a unit
 
-abbrev RiseFrom : ℕ → List ℕ → Type 0
-RiseFrom low [] = Unit {0}
-RiseFrom low (x ∷ xs) = (low ≤ x) × RiseFrom x xs
+abbrev pub is_at_offset : ℕ → Member → Bool
+is_at_offset offset m = m.die.offset == offset
 
-ordered : (low : ℕ) (xs : List ℕ) → RiseFrom low xs → (i j d : ℕ) → i ≤ j → j < length xs
-    → (low ≤ get_or xs i d) × (get_or xs i d ≤ get_or xs j d)
-ordered low [] rise i j d le lt = absurd (omega (arith, lt))
-ordered low (x ∷ xs) rise zero zero d le lt = (rise.0, omega arith)
-ordered low (x ∷ xs) rise zero (suc j) d le lt = let rest =
-    ordered x xs rise.1 j j d (omega arith) (omega (arith, lt)) in (rise.0, rest.0)
-ordered low (x ∷ xs) rise (suc i) zero d le lt = absurd (omega (arith, le))
-ordered low (x ∷ xs) rise (suc i) (suc j) d le lt =
-    let first = rise.0 in
-    let rest = ordered x xs rise.1 i j d (omega (arith, le)) (omega (arith, lt)) in
-    (let above = rest.0 in omega (arith, first, above), rest.1)
+abbrev pub member_of : CompilationUnit → Die → Member
+member_of u die = record { unit = u; die = die }
 
-rising-by : {X : Type 0} (key : X → ℕ) (xs : List X) (low : ℕ) → RiseFrom low (map key xs)
-    → IsNonDecreasingBy key xs
-rising-by key xs low rise i j d le lt =
-    let len = length-map xs key in
-    let both = (ordered low (map key xs) rise i j (key d) le (omega (arith, len, lt))).1 in
-    let here = get_or-map key xs i d in
-    let there = get_or-map key xs j d in
-    omega (arith, both, here, there)
+abbrev pub die_at : CompilationUnit → ℕ → Option Die
+die_at u offset = find (λ die. die.offset == offset) u.dies
 
 pub within-le : (from end : ℕ) (dies : List Die) → RiseWithin from end dies → from ≤ end
 within-le from end [] h = h
 within-le from end (die ∷ dies) h = let first = h.0 in let rest =
     within-le (suc die.offset) end dies h.1 in omega (arith, first, rest)
 
-units-rise : (from : ℕ) (units : List CompilationUnit) → AreInOrder from units
-    → RiseFrom from (map (λ (u : CompilationUnit). u.header.end) units)
-units-rise from [] h = tt
-units-rise from (u ∷ units) h =
+-- There is no entry of the unit outside its bounds.
+none-outside : (from end : ℕ) (dies : List Die) (offset : ℕ) → RiseWithin from end dies
+    → (offset < from) ⊎ (end ≤ offset) → find (λ die. die.offset == offset) dies ≡ None
+none-outside from end [] offset h out = refl
+none-outside from end (die ∷ dies) offset h out =
     let first = h.0 in
-    let inside = within-le u.header.start u.header.end u.dies h.1 in
-    (omega (arith, first, inside), units-rise u.header.end units h.2)
+    let past = within-le (suc die.offset) end dies h.1 in
+    let differs : (die.offset == offset) ≡ false = ne_eqb die.offset offset (λ e. elim out [
+      | inl below ↦ absurd (omega (arith, below, first, e))
+      | inr above ↦ absurd (omega (arith, above, past, e))
+    ]) in
+    let further : (offset < suc die.offset) ⊎ (end ≤ offset) =
+    elim out [ inl below ↦ inl (omega (arith, below, first)) | inr above ↦ inr above ] in
+    rw differs (none-outside (suc die.offset) end dies offset h.1 further)
 
--- ---- the first element with a key, in a list with nondecreasing keys
-
-is-not : (a b : ℕ) → a < b → (a == b) ≡ false
-is-not a b lt = grind (arith, nat_tests)
-
-pub is-not-above : (a b : ℕ) → b < a → (a == b) ≡ false
-is-not-above a b lt = grind (arith, nat_tests)
-
-pub find-map : {X Y : Type 0} (p : Y → Bool) (f : X → Y) (xs : List X)
+find-map : {X Y : Type 0} (p : Y → Bool) (f : X → Y) (xs : List X)
     → find p (map f xs) ≡ option_map f (find (λ x. p (f x)) xs)
 find-map p f [] = refl
 find-map {X} {Y} p f (x ∷ xs) = by_test (p (f x)) (find-map p f xs)
@@ -78,151 +69,177 @@ find-map {X} {Y} p f (x ∷ xs) = by_test (p (f x)) (find-map p f xs)
     by_test true h = refl
     by_test false h = h
 
+-- The first entry at an offset among those of a unit and of the units after it.
+pub find-units : (u : CompilationUnit) (us : List CompilationUnit) (offset : ℕ)
+    → find (is_at_offset offset) (members_of (u ∷ us))
+    ≡ option_or (option_map (member_of u) (die_at u offset))
+    (find (is_at_offset offset) (members_of us))
+find-units u us offset =
+    find-append (is_at_offset offset) (map (member_of u) u.dies) (members_of us)
+    ∙ ap (λ (o : Option Member). option_or o (find (is_at_offset offset) (members_of us)))
+    (find-map (is_at_offset offset) (member_of u) u.dies)
+
+or-none : {X : Type 0} (o : Option X) → option_or o None ≡ o
+or-none None = refl
+or-none (Some x) = refl
+
+-- The entry at an offset, in the unit at an index.
+pub member-is : (us : List CompilationUnit) (n offset : ℕ) (u : CompilationUnit)
+    → slice_get us n ≡ Some u → member_in us n offset
+    ≡ ok_or (option_map (member_of u) (die_at u offset)) causes.Reference
+member-is us n offset u is =
+    ap (λ (o : Option CompilationUnit). member_at (members_of (option_to_list o)) offset) is
+    ∙ ap (λ (o : Option Member). ok_or o causes.Reference) (find-units u [] offset
+    ∙ or-none (option_map (member_of u) (die_at u offset)))
+
 -- ---- the unit that contains an offset
 
-abbrev pub is_at_offset : ℕ → Member → Bool
-is_at_offset offset m = m.die.offset == offset
+nowhere : (us : List CompilationUnit) (offset : ℕ)
+    → ((i : ℕ) (u : CompilationUnit) → slice_get us i ≡ Some u → die_at u offset ≡ None)
+    → find (is_at_offset offset) (members_of us) ≡ None
+nowhere [] offset none = refl
+nowhere (u ∷ us) offset none = find-units u us offset
+    ∙ rw (none zero u refl, nowhere us offset (λ i v found. none (suc i) v found)) refl
 
-abbrev pub member_of : CompilationUnit → Die → Member
-member_of u die = record { unit = u; die = die }
+-- If no other unit has the entry, it is looked up in the unit at an index.
+only-in : (us : List CompilationUnit) (n offset : ℕ)
+    → ((i : ℕ) (u : CompilationUnit) → slice_get us i ≡ Some u → (i ≡ n → ⊥)
+    → die_at u offset ≡ None)
+    → find (is_at_offset offset) (members_of us)
+    ≡ find (is_at_offset offset) (members_of (option_to_list (slice_get us n)))
+only-in [] n offset none = refl
+only-in (u ∷ us) zero offset none = find-units u us offset
+    ∙ rw (nowhere us offset (λ i v found. none (suc i) v found (λ (e : suc i ≡ zero). cc)))
+    (sym (find-units u [] offset))
+only-in (u ∷ us) (suc n) offset none = find-units u us offset
+    ∙ rw (none zero u refl (λ (e : zero ≡ suc n). cc)) (only-in us n offset (λ i v found differs.
+    none (suc i) v found (λ (e : suc i ≡ suc n). differs (omega (arith, e)))))
 
-pub none-outside : (u : CompilationUnit) (from end : ℕ) (dies : List Die) (offset : ℕ)
-    → RiseWithin from end dies → (offset < from) ⊎ (end ≤ offset)
-    → find (is_at_offset offset) (map (member_of u) dies) ≡ None
-none-outside u from end [] offset h out = refl
-none-outside u from end (die ∷ dies) offset h out =
-    let first = h.0 in
-    let past = within-le (suc die.offset) end dies h.1 in
-    let differs : (die.offset == offset) ≡ false = elim out [
-      | inl below ↦ is-not-above die.offset offset (omega (arith, below, first))
-      | inr above ↦ is-not die.offset offset (omega (arith, above, past))
-    ] in
-    let further : (offset < suc die.offset) ⊎ (end ≤ offset) =
-    elim out [ inl below ↦ inl (omega (arith, below, first)) | inr above ↦ inr above ] in
-    rw differs (none-outside u (suc die.offset) end dies offset h.1 further)
+module _ {s : Sections} {us : List CompilationUnit} (are : AreUnitsIn s us) where
+  -- An entry of any unit is looked up in the first unit that ends after its offset.
+  first-past : (n offset : ℕ)
+      → ((i : ℕ) (u : CompilationUnit) → slice_get us i ≡ Some u → i < n → u.header.end ≤ offset)
+      → ((i : ℕ) (u : CompilationUnit) → slice_get us i ≡ Some u → n ≤ i → offset < u.header.end)
+      → find (is_at_offset offset) (members_of us)
+      ≡ find (is_at_offset offset) (members_of (option_to_list (slice_get us n)))
+  first-past n offset before from = only-in us n offset (λ i u found differs.
+      none-outside u.header.start u.header.end u.dies offset (dies-rise (are.each_is i u found))
+      (by_order i u found (cases_order i n) differs))
+    where
+      by_order : (i : ℕ) (u : CompilationUnit) → slice_get us i ≡ Some u
+          → (i ≡ n) ⊎ ((i < n) ⊎ (n < i)) → (i ≡ n → ⊥)
+          → (offset < u.header.start) ⊎ (u.header.end ≤ offset)
+      by_order i u found (inl e) differs = absurd (differs e)
+      by_order i u found (inr (inl lt)) differs = inr (before i u found lt)
+      by_order i u found (inr (inr lt)) differs =
+          let within = slice_get_within us i u found in
+          let v = element us n (omega (arith, lt, within)) in
+          inl (omega (arith, from n v.0 v.1 (omega arith), are.apart n i v.0 u v.1 found lt))
 
-pub none-before : (from : ℕ) (units : List CompilationUnit) (offset : ℕ) → AreInOrder from units
-    → offset < from → find (is_at_offset offset) (members_of units) ≡ None
-none-before from [] offset h lt = refl
-none-before from (u ∷ units) offset h lt =
-    let first = h.0 in
-    let inside = within-le u.header.start u.header.end u.dies h.1 in
-    let here = none-outside u u.header.start u.header.end u.dies offset h.1
-    (inl (omega (arith, lt, first))) in
-    let there = none-before u.header.end units offset h.2 (omega (arith, lt, first, inside)) in
-    find-append (is_at_offset offset) (map (member_of u) u.dies) (members_of units)
-    ∙ (rw (here, there) refl)
+  -- An entry at an offset within a unit is an entry of that unit.
+  pub in-own : (n offset : ℕ) (u : CompilationUnit) → slice_get us n ≡ Some u
+      → u.header.start ≤ offset → offset < u.header.end
+      → find (is_at_offset offset) (members_of us) ≡ option_map (member_of u) (die_at u offset)
+  in-own n offset u is low high =
+      first-past n offset (λ i v found lt. omega (arith, are.apart i n v u found is lt, low))
+      (λ i v found le. later i v found (cases_lt n i) le)
+      ∙ (ap (λ (o : Option CompilationUnit). find (is_at_offset offset)
+      (members_of (option_to_list o))) is ∙ (find-units u [] offset ∙ or-none _))
+    where
+      later : (i : ℕ) (v : CompilationUnit) → slice_get us i ≡ Some v → (n < i) ⊎ (i ≤ n) → n ≤ i
+          → offset < v.header.end
+      later i v found (inl lt) le =
+          let bounds = (are.each_is i v found).bounds in
+          omega (arith, high, are.apart n i u v is found lt, bounds.first, bounds.last)
+      later i v found (inr ge) le =
+          let at : i ≡ n = omega (arith, ge, le) in
+          let same = same_Some u v (sym is ∙ (ap (slice_get us) (sym at) ∙ found)) in
+          subst (λ (w : CompilationUnit). offset < w.header.end) same high
 
--- An entry of any unit is looked up in the first unit that ends after its offset.
-pub in-unit : (from : ℕ) (units : List CompilationUnit) (offset n : ℕ) → AreInOrder from units
-    → IsPartitionPoint (λ x. x ≤ offset) (λ x. offset < x)
-    (map (λ (u : CompilationUnit). u.header.end) units) n
-    → find (is_at_offset offset) (members_of units)
-    ≡ find (is_at_offset offset) (members_of (option_to_list (slice_get units n)))
-in-unit from [] offset n h parts = refl
-in-unit from (u ∷ units) offset zero h parts =
-    let past : offset < u.header.end = parts.1 0 0 (omega arith) (omega arith) in
-    let there = none-before u.header.end units offset h.2 past in
-    find-append (is_at_offset offset) (map (member_of u) u.dies) (members_of units)
-    ∙ (rw there (sym (find-append (is_at_offset offset) (map (member_of u) u.dies) [])))
-in-unit from (u ∷ units) offset (suc n) h parts =
-    let over : u.header.end ≤ offset = parts.0 0 0 (omega arith) (omega arith) in
-    let here = none-outside u u.header.start u.header.end u.dies offset h.1 (inr over) in
-    find-append (is_at_offset offset) (map (member_of u) u.dies) (members_of units)
-    ∙ (rw here (in-unit u.header.end units offset n h.2 (
-      λ k d low high. parts.0 (suc k) d (omega arith) (omega (arith, high)),
-      λ k d low high. parts.1 (suc k) d (omega (arith, low)) (omega (arith, high)),
-    )))
+  -- ---- the stored units
 
--- ---- the stored data of the units
+  module _ (stored : List UnitEntries) (same : AreStored stored us) where
+    -- The end of a unit is that of its stored header.
+    end-at : (i : ℕ) (u : CompilationUnit) → slice_get us i ≡ Some u
+        → (k : UnitEntries) × (i < length stored) × ((get_or stored i k).header.end ≡ u.header.end)
+    end-at i u found =
+        let within = slice_get_within us i u found in
+        let sizes = stored-length stored us same in
+        let k = element stored i (omega (arith, within, sizes)) in (
+          k.0,
+          omega (arith, within, sizes),
+          ap (λ (x : UnitEntries). x.header.end) (get_or_from_slice_get stored i k.0 k.0 k.1)
+              ∙ ap (λ (x : StoredUnit). x.header.end)
+              (stored-index stored us i k.0 same k.1 u found),
+        )
 
-pub map-twice : {X Y Z : Type 0} (f : Y → Z) (g : X → Y) (xs : List X)
-    → map f (map g xs) ≡ map (λ x. f (g x)) xs
-map-twice f g [] = refl
-map-twice f g (x ∷ xs) = ap (λ (zs : List _). f (g x) ∷ zs) (map-twice f g xs)
-
-pub stored-length : (stored : List UnitEntries) (units : List CompilationUnit)
-    → map stored_of stored ≡ map stored_unit_of units → length stored ≡ length units
-stored-length stored units same = sym (length-map stored stored_of)
-    ∙ (ap length same ∙ length-map units stored_unit_of)
-
-pub ends-stored : (stored : List UnitEntries) (units : List CompilationUnit)
-    → map stored_of stored ≡ map stored_unit_of units
-    → map (λ (k : UnitEntries). k.header.end) stored ≡ map (λ (u : CompilationUnit). u.header.end)
-    units
-ends-stored stored units same =
-    let end : StoredUnit → ℕ = λ k. k.header.end in
-    sym (map-twice end stored_of stored)
-    ∙ (ap (λ (ks : List StoredUnit). map end ks) same ∙ map-twice end stored_unit_of units)
-
-pub ends-rise : (stored : List UnitEntries) (units : List CompilationUnit)
-    → AreStoredAs stored units
-    → IsNonDecreasingBy (λ (k : UnitEntries). k.header.end) stored
-ends-rise stored units are = rising-by (λ (k : UnitEntries). k.header.end) stored 0
-    (subst (λ (xs : List ℕ). RiseFrom 0 xs) (sym (ends-stored stored units are.same))
-    (units-rise 0 units are.order))
-
-within-at : (from : ℕ) (units : List CompilationUnit) → AreInOrder from units
-    → (n : ℕ) (u : CompilationUnit) → slice_get units n ≡ Some u
-    → RiseWithin u.header.start u.header.end u.dies
-within-at from [] h n u is = cc
-within-at from (v ∷ units) h zero u is =
-    subst (λ (w : CompilationUnit). RiseWithin w.header.start w.header.end w.dies)
-    (same_Some v u is) h.1
-within-at from (v ∷ units) h (suc n) u is = within-at v.header.end units h.2 n u is
-
--- The unit that the data was stored for.
-pub record UnitAt (units : List CompilationUnit) (n : ℕ) (k : UnitEntries) : Type 0 where
-  pub unit : CompilationUnit
-  pub is : slice_get units n ≡ Some unit
-  pub stored : stored_of k ≡ stored_unit_of unit
-  pub header : k.header ≡ unit.header
-  pub within : RiseWithin unit.header.start unit.header.end unit.dies
-
-pub unit-at : (stored : List UnitEntries) (units : List CompilationUnit) → AreStoredAs stored units
-    → (n : ℕ) (k : UnitEntries) → n < length stored → ((d : UnitEntries) → k ≡ get_or stored n d)
-    → UnitAt units n k
-unit-at stored units are n k lt is = by_found (slice_get units n) refl
-  where
-    same : Some (stored_of k) ≡ option_map stored_unit_of (slice_get units n)
-    same =
-        let here : slice_get stored n ≡ Some k =
-        slice_get-get_or stored n k lt ∙ ap (λ (x : UnitEntries). Some x) (sym (is k)) in
-        ap (λ (o : Option UnitEntries). option_map stored_of o) (sym here)
-        ∙ (sym (slice_get-map stored_of stored n)
-        ∙ (ap (λ (ks : List StoredUnit). slice_get ks n) are.same
-        ∙ slice_get-map stored_unit_of units n))
-
-    by_found : (found : Option CompilationUnit) → slice_get units n ≡ found → UnitAt units n k
-    by_found None h = absurd (never (same
-        ∙ ap (λ (o : Option CompilationUnit). option_map stored_unit_of o) h))
+    ends-rise : IsNonDecreasingBy (λ (k : UnitEntries). k.header.end) stored
+    ends-rise i j d le lt =
+        let within : i < length stored = omega (arith, le, lt) in
+        by_order (cases_lt i j) (stored-at stored us i (get_or stored i d) same
+        (slice_get-get_or stored i d within)) (stored-at stored us j (get_or stored j d) same
+        (slice_get-get_or stored j d lt))
       where
-        never : Some (stored_of k) ≡ None → ⊥
-        never e = cc
-    by_found (Some u) h =
-        let e : stored_of k ≡ stored_unit_of u = same_Some (stored_of k) (stored_unit_of u)
-        (same ∙ ap (λ (o : Option CompilationUnit). option_map stored_unit_of o) h) in
+        by_order : (i < j) ⊎ (j ≤ i) → StoredFor us i (get_or stored i d)
+            → StoredFor us j (get_or stored j d)
+            → (get_or stored i d).header.end ≤ (get_or stored j d).header.end
+        by_order (inl less) a b =
+            let bounds = (are.each_is j b.unit b.is).bounds in
+            omega (
+              arith,
+              are.apart i j a.unit b.unit a.is b.is less,
+              bounds.first,
+              bounds.last,
+              ap (λ (x : StoredUnit). x.header.end) a.stored,
+              ap (λ (x : StoredUnit). x.header.end) b.stored,
+            )
+        by_order (inr ge) a b =
+            let at : i ≡ j = omega (arith, le, ge) in
+            let ends = ap (λ (k : ℕ). (get_or stored k d).header.end) at in omega (arith, ends)
+
+    pub anywhere : (n offset : ℕ) → (IsNonDecreasingBy (λ (k : UnitEntries). k.header.end) stored
+        → IsPartitionPoint (λ (k : UnitEntries). k.header.end ≤ offset)
+        (λ (k : UnitEntries). offset < k.header.end) stored n)
+        → (u : CompilationUnit) (reference : AttributeValue) → reference.form ≡ DW_FORM_REF_ADDR
+        → reference.number ≡ offset → member_in us n offset ≡ target_of us u reference
+    anywhere n offset search_is u reference form number =
+        let parts = search_is ends-rise in
+        let all : member_at (members_of us) offset ≡ member_in us n offset =
+        ap (λ (o : Option Member). ok_or o causes.Reference) (first-past n offset
+        (λ i v found lt. let k = end-at i v found in
+        omega (arith, parts.0 i k.0 (omega arith) lt, k.2))
+        (λ i v found le. let k = end-at i v found in omega (arith, parts.1 i k.0 le k.1, k.2))) in
+        let is : (reference.form == DW_FORM_REF_ADDR) ≡ true =
+        eq-eqb reference.form DW_FORM_REF_ADDR form in
+        sym (rw (is, number) all)
+
+    pub outside : (n offset : ℕ) (k : UnitEntries) → slice_get stored n ≡ Some k
+        → (offset < k.header.start) ⊎ (k.header.end ≤ offset)
+        → member_in us n offset ≡ Err causes.Reference
+    outside n offset k found out =
+        let at = stored-at stored us n k same found in
+        let u = at.unit in
+        member-is us n offset u at.is
+        ∙ ap (λ (o : Option Die). ok_or (option_map (member_of u) o) causes.Reference)
+        (none-outside u.header.start u.header.end u.dies offset (dies-rise (are.each_is n u at.is))
+        (subst (λ (x : StoredUnit). (offset < x.header.start) ⊎ (x.header.end ≤ offset)) at.stored
+        out))
+
+    pub within-stored : (n offset : ℕ) (k : UnitEntries) → slice_get stored n ≡ Some k
+        → k.header.start ≤ offset → offset < k.header.end
+        → IsWithin us (record { unit = n; offset = offset })
+    within-stored n offset k found low high =
+        let at = stored-at stored us n k same found in
         record {
-          unit = u;
-          is = h;
-          stored = e;
-          header = ap (λ (x : StoredUnit). x.header) e;
-          within = within-at 0 units are.order n u h;
+          of = at.unit;
+          of_is = at.is;
+          low = subst (λ (x : StoredUnit). x.header.start ≤ offset) at.stored low;
+          high = subst (λ (x : StoredUnit). offset < x.header.end) at.stored high;
         }
 
--- The data at an index was stored for the unit at the same index.
-pub stored-index : (stored : List UnitEntries) (units : List CompilationUnit)
-    → map stored_of stored ≡ map stored_unit_of units
-    → (n : ℕ) (k : UnitEntries) → k ≡ get_or stored n k
-    → (u : CompilationUnit) → slice_get units n ≡ Some u → stored_of k ≡ stored_unit_of u
-stored-index stored units same n k is u found =
-    let within = slice_get_within units n u found in
-    let len = stored-length stored units same in
-    let here : slice_get stored n ≡ Some k = slice_get-get_or stored n k
-    (omega (arith, within, len)) ∙ ap (λ (x : UnitEntries). Some x) (sym is) in
-    same_Some (stored_of k) (stored_unit_of u)
-    (ap (λ (o : Option UnitEntries). option_map stored_of o) (sym here)
-    ∙ (sym (slice_get-map stored_of stored n)
-    ∙ (ap (λ (ks : List StoredUnit). slice_get ks n) same
-    ∙ (slice_get-map stored_unit_of units n
-    ∙ ap (λ (o : Option CompilationUnit). option_map stored_unit_of o) found))))
+pub within-unit : (us : List CompilationUnit) (n offset : ℕ) (u : CompilationUnit)
+    (reference : AttributeValue) → (reference.form ≡ DW_FORM_REF_ADDR → ⊥)
+    → slice_get us n ≡ Some u → offset ≡ u.header.start + reference.number
+    → member_in us n offset ≡ target_of us u reference
+within-unit us n offset u reference form at place =
+    rw (ne_eqb reference.form DW_FORM_REF_ADDR form, at, place) refl

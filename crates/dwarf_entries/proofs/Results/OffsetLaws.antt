@@ -1,15 +1,11 @@
 -- The offsets of scopes and of roots are strictly increasing, within .debug_info.
 use Rattle.std.proofs.Common.{◌≡◌, ℕ, zero, suc, ◌+◌, ◌<◌, ◌≤◌, List, [], ◌∷◌, ◌++◌, length, map}
 use Rattle.std.proofs.Common.{refl, ap, sym, ◌∙◌, subst, arith, add-one}
-use Rattle.std.specs.Prelude.{Option, Some, None, Ok, All, zip, count_by}
+use Rattle.std.specs.Prelude.{Option, Some, None, Ok, All, count_by, slice_get}
 use Rattle.std.specs.List.Sorted.{IsStrictlyIncreasing}
 use Rattle.std.proofs.lemmas.List.Elements.{All-nil, All-cons}
-use Rattle.dwarf_bytes.specs.Items.{each_from}
-use Rattle.dwarf_forms.specs.Declarations.{Declaration}
-use Rattle.dwarf_units.specs.declared.unit_headers.UnitHeader.{UnitHeader}
 use Rattle.dwarf_units.specs.Entries.{Die}
 use Rattle.dwarf_units.specs.Private.Rising.{RiseWithin}
-use Rattle.dwarf_units.proofs.EntryOrder.{entries-rise}
 use Rattle.dwarf_entries.specs.declared.scope.Root.{Root}
 use Rattle.dwarf_walk.specs.declared.scope_kind.ScopeKind.{ScopeKind}
 use Rattle.dwarf_walk.specs.Sections.{Sections}
@@ -18,13 +14,9 @@ use Rattle.dwarf_entries.specs.Scopes.{Scope, Tree, ScopeSite, ParsedScope, site
 use Rattle.dwarf_entries.specs.Scopes.{root_of, roots_from, tree_of}
 use Rattle.dwarf_walk.specs.ScopeEntries.{kind_of, is_scope}
 use Rattle.dwarf_entries.specs.TreeLaws.{RiseBelow}
-use Rattle.dwarf_entries.proofs.UnitPasses.OrderLaws.{HeadersInOrder, headers-in-order}
-use Rattle.dwarf_entries.proofs.UnitPasses.UnitOrder.{unit_of-parts}
-use Rattle.dwarf_entries.proofs.Results.TreeParts.{each-cons, each-past}
-use Rattle.dwarf_entries.proofs.Results.TreeParts.{unit-parts, AreParsed, IsRead, is-read}
+use Rattle.dwarf_entries.proofs.UnitPasses.UnitLaws.{AreUnitsIn, dies-rise, units-in}
+use Rattle.dwarf_entries.proofs.Results.TreeParts.{AreParsed, IsRead, is-read}
 use Rattle.dwarf_entries.specs.Private.Passes.{all_sites}
-use Rattle.dwarf_entries.proofs.UnitPasses.EntriesPass.{entries_for}
-use Rattle.dwarf_entries.proofs.UnitPasses.BasesPass.{unit_for}
 use Rattle.dwarf_entries.proofs.OriginChains.ReferenceLaws.{within-le}
 
 -- ---- increasing numbers
@@ -75,40 +67,26 @@ within-from : (low from end : ℕ) (dies : List Die) → low ≤ from → RiseWi
 within-from low from end [] le h = omega (arith, le, h)
 within-from low from end (die ∷ dies) le h = let first = h.0 in (omega (arith, le, first), h.1)
 
-list-rises : (s : Sections) (size from : ℕ) (headers : List UnitHeader)
-    (tables : List (List Declaration)) (before dies : List (List Die))
-    (front units : List CompilationUnit) → from ≤ size → HeadersInOrder from size headers
-    → each_from (entries_for s.debug_info) before (zip headers tables) ≡ Ok dies
-    → each_from (unit_for s) front (zip headers dies) ≡ Ok units → UnitsRise from size units
-list-rises s size from headers tables before dies front [] le order read made = le
-list-rises s size from [] tables before dies front (unit ∷ units) le order read made =
-    absurd (each-past (unit_for s) front unit units made)
-list-rises s size from (header ∷ headers) tables before [] front (unit ∷ units) le order read
-    made = absurd (each-past (unit_for s) front unit units made)
-list-rises s size from (header ∷ headers) [] before (first ∷ dies) front (unit ∷ units) le order
-    read made = absurd (each-past (entries_for s.debug_info) before first dies read)
-list-rises s size from (header ∷ headers) (table ∷ tables) before (first ∷ dies) front
-    (unit ∷ units) le order read made =
-    let entries = each-cons (entries_for s.debug_info) before (header, table)
-    (zip headers tables) first dies
-    read in
-    let here = each-cons (unit_for s) front (header, first) (zip headers dies) unit units made in
-    let parts = unit_of-parts s header first unit here.0 in
-    let rise = within-from from header.start header.end first order.0
-    (entries-rise s.debug_info header table first entries.0 order.1 order.2) in (
-      header.end,
-      subst (λ (ds : List Die). RiseWithin from header.end ds) (sym parts.1) rise,
-      list-rises s size header.end headers tables (before ++ first ∷ []) dies (front ++ unit ∷ [])
-          units order.3 order.4 entries.1 here.1,
+list-rises : (s : Sections) (from : ℕ) (us : List CompilationUnit) → AreUnitsIn s us
+    → from ≤ length s.debug_info
+    → ((i : ℕ) (u : CompilationUnit) → slice_get us i ≡ Some u → from ≤ u.header.start)
+    → UnitsRise from (length s.debug_info) us
+list-rises s from [] are le starts = le
+list-rises s from (u ∷ us) are le starts =
+    let is = are.each_is 0 u refl in (
+      u.header.end,
+      within-from from u.header.start u.header.end u.dies (starts 0 u refl) (dies-rise is),
+      list-rises s u.header.end us (record {
+        each_is = λ i v found. are.each_is (suc i) v found;
+        apart = λ i j v w first second lt.
+            are.apart (suc i) (suc j) v w first second (omega (arith, lt));
+      }) is.bounds.within (λ i v found. are.apart 0 (suc i) u v refl found (omega arith)),
     )
 
 pub units-rise : (s : Sections) (tree : Tree) (read : IsRead s tree)
     → UnitsRise 0 (length s.debug_info) read.units
-units-rise s tree read =
-    let parts = unit-parts s read.units read.units_are in
-    list-rises s (length s.debug_info) 0 parts.headers parts.tables [] parts.dies [] read.units
-    (omega arith) (headers-in-order s.debug_info parts.headers parts.headers_are) parts.dies_are
-    parts.units_are
+units-rise s tree read = list-rises s 0 read.units (units-in s read.units read.units_are)
+    (omega arith) (λ i u found. omega arith)
 
 -- ---- scopes
 

@@ -1,16 +1,12 @@
 -- The parts that a successful result was read from, and the parts of each scope.
 use Rattle.std.proofs.Common.{◌≡◌, List, [], ◌∷◌, ◌++◌, map, ap, subst}
-use Rattle.std.specs.Prelude.{Result, Ok, zip}
+use Rattle.std.specs.Prelude.{Result, Ok}
 use Rattle.dwarf_bytes.specs.declared.fault.Section.TheVariants as names
 use Rattle.dwarf_bytes.specs.Bind.{◌>>=◌}
-use Rattle.dwarf_bytes.specs.Items.{At, each, each_from}
+use Rattle.dwarf_bytes.specs.Items.{At, each_from}
 use Rattle.dwarf_bytes.specs.Refusals.{in_section}
 use Rattle.dwarf_bytes.proofs.Numbers.Advance.{after-bind}
 use Rattle.dwarf_bytes.proofs.Numbers.Moves.{same-ok}
-use Rattle.dwarf_forms.specs.Declarations.{Declaration}
-use Rattle.dwarf_units.specs.declared.unit_headers.UnitHeader.{UnitHeader}
-use Rattle.dwarf_units.specs.Units.{units_of, tables_of}
-use Rattle.dwarf_units.specs.Entries.{Die}
 use Rattle.dwarf_entries.specs.declared.origin_chains.EntryNames.{EntryNames}
 use Rattle.dwarf_walk.specs.Sections.{Sections}
 use Rattle.dwarf_entries.specs.Bases.{CompilationUnit, units_read}
@@ -21,8 +17,6 @@ use Rattle.dwarf_entries.proofs.Results.ScopeOrder.{bind-ok, described-ok}
 use Rattle.dwarf_entries.proofs.Results.ScopePlaces.{made_of, from_units}
 use Rattle.dwarf_entries.specs.Private.Passes.{parse_scope}
 use Rattle.dwarf_entries.specs.Private.Passes.{all_sites}
-use Rattle.dwarf_entries.proofs.UnitPasses.EntriesPass.{entries_for}
-use Rattle.dwarf_entries.proofs.UnitPasses.BasesPass.{unit_for}
 use Rattle.dwarf_units.proofs.TableLaws.{in_section-ok}
 use Rattle.dwarf_entries.proofs.ScopePasses.ScopeLaws.{scope_of_place}
 use Rattle.dwarf_entries.proofs.ScopePasses.ScopeLaws.{covers_there}
@@ -121,36 +115,6 @@ are-parsed sections units before (p ∷ ps) (j ∷ js) h =
     )
 
 -- ---- the parts that the result was read from
-
--- The parts that the units were read from.
-pub record UnitParts (s : Sections) (units : List CompilationUnit) : Type 0 where
-  pub headers : List UnitHeader
-  pub headers_are : units_of s.debug_info ≡ Ok headers
-  pub tables : List (List Declaration)
-  pub tables_are : tables_of s.debug_abbrev headers ≡ Ok tables
-  pub dies : List (List Die)
-  pub dies_are : each (entries_for s.debug_info) (zip headers tables) ≡ Ok dies
-  pub units_are : each (unit_for s) (zip headers dies) ≡ Ok units
-
-pub unit-parts : (s : Sections) (units : List CompilationUnit) → units_read s ≡ Ok units
-    → UnitParts s units
-unfolding units_read
-unit-parts s units h =
-    let a = bind-ok (in_section names.DebugInfo (units_of s.debug_info)) _ units h in
-    let b = bind-ok (in_section names.DebugAbbrev (tables_of s.debug_abbrev a.0)) _ units a.2 in
-    let c = bind-ok (in_section names.DebugInfo
-    (each (entries_for s.debug_info) (zip a.0 b.0))) _ units b.2
-    in
-    record {
-      headers = a.0;
-      headers_are = in_section-ok names.DebugInfo (units_of s.debug_info) a.0 a.1;
-      tables = b.0;
-      tables_are = in_section-ok names.DebugAbbrev (tables_of s.debug_abbrev a.0) b.0 b.1;
-      dies = c.0;
-      dies_are = in_section-ok names.DebugInfo (each (entries_for s.debug_info) (zip a.0 b.0))
-          c.0 c.1;
-      units_are = in_section-ok names.DebugInfo (each (unit_for s) (zip a.0 c.0)) units c.2;
-    }
 
 pub record IsRead (s : Sections) (tree : Tree) : Type 0 where
   pub units : List CompilationUnit

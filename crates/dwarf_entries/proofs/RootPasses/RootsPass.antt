@@ -1,6 +1,6 @@
 -- The iterations of the loop that returns the roots.
 use Rattle.std.proofs.Common.{◌≡◌, ℕ, ◌+◌, ◌<◌, ◌≤◌, List, [], ◌∷◌, ◌++◌, length, take, drop}
-use Rattle.std.proofs.Common.{get_or, map, refl, ap, sym, ◌∙◌, subst, arith, append_assoc}
+use Rattle.std.proofs.Common.{get_or, refl, ap, sym, ◌∙◌, subst, arith, append_assoc}
 use Rattle.std.proofs.Common.{append-nil}
 use Rattle.std.specs.Prelude.{Option, Some, None, All, count_by, slice_get, sum_by, ◌-◌}
 use Rattle.std.specs.List.Sorted.{IsNonDecreasingBy}
@@ -15,13 +15,13 @@ use Rattle.dwarf_units.specs.Entries.{Die}
 use Rattle.dwarf_entries.specs.Bases.{CompilationUnit}
 use Rattle.dwarf_walk.specs.ScopeEntries.{is_scope}
 use Rattle.dwarf_entries.specs.Scopes.{root_of, roots_from}
-use Rattle.dwarf_walk.specs.Private.Stored.{StoredUnit, root_in, stored_of}
-use Rattle.dwarf_entries.specs.Private.EntryOffsets.{scope_count, stored_unit_of}
+use Rattle.dwarf_walk.specs.Private.Stored.{StoredUnit, root_in}
+use Rattle.dwarf_entries.specs.Private.EntryOffsets.{scope_count, AreStored}
 use Rattle.dwarf_entries.specs.Private.Passes.{number_of_scopes, IsFirstNumberOf}
-use Rattle.dwarf_entries.proofs.OriginChains.ReferenceLaws.{stored-index, stored-length}
+use Rattle.std.proofs.lemmas.Option.{slice_get_read}
+use Rattle.dwarf_entries.proofs.UnitPasses.StoredUnits.{stored-at, stored-length}
 use Rattle.dwarf_entries.proofs.RootPasses.RootNumbers.{units-from}
 use Rattle.dwarf_entries.proofs.RootPasses.RootParts.{sites-count}
-use Rattle.dwarf_entries.proofs.ScopePasses.ScopesPass.{unit-there}
 use Rattle.dwarf_entries.proofs.ScopePasses.SiteLaws.{sites-stored}
 
 -- The roots of the units before the index, followed by the roots of the other units, are all
@@ -37,17 +37,16 @@ pub record RootAt (us : List CompilationUnit) (index : ℕ) (unit : UnitEntries)
   pub count : length unit.scopes.items ≡ count_by is_scope u.dies
 
 pub root-at : (units : List UnitEntries) (us : List CompilationUnit) (index : ℕ)
-    (unit : UnitEntries) → map stored_of units ≡ map stored_unit_of us → index < length units
+    (unit : UnitEntries) → AreStored units us → index < length units
     → unit ≡ get_or units index unit → RootAt us index unit
 root-at units us index unit same within is =
-    let sizes = stored-length units us same in
-    let u = unit-there us index (omega (arith, sizes, within)) in
-    let here = stored-index units us same index unit is u.0 u.1 in
+    let at = stored-at units us index unit same
+    (slice_get_read units (length units) index unit refl within is) in
     record {
-      u = u.0;
-      found = u.1;
-      root_is = ap (λ (k : StoredUnit). k.root) here;
-      count = sites-stored unit u.0 here ∙ sites-count u.0 u.0.dies;
+      u = at.unit;
+      found = at.is;
+      root_is = ap (λ (k : StoredUnit). k.root) at.stored;
+      count = sites-stored unit at.unit at.stored ∙ sites-count at.unit at.unit.dies;
     }
 
 -- The units up to an index have at most as many scopes as all.
@@ -116,7 +115,7 @@ root_of-is first past [] roots = refl
 root_of-is first past (root ∷ dies) roots = refl
 
 pub roots-next : (units : List UnitEntries) (us : List CompilationUnit) (index first : ℕ)
-    (unit : UnitEntries) (roots : List Root) → map stored_of units ≡ map stored_unit_of us
+    (unit : UnitEntries) (roots : List Root) → AreStored units us
     → index < length units → unit ≡ get_or units index unit
     → RootsSoFar us index first roots → RootsSoFar us (index + 1) (first + length unit.scopes.items)
     (roots ++ root_list first (first + length unit.scopes.items) unit.root)
@@ -146,7 +145,7 @@ roots-next units us index first unit roots same within is so_far =
 -- An iteration, with machine integers.
 pub roots-turn : (units : List UnitEntries) (us : List CompilationUnit) (index first past : ℕ)
     (unit : UnitEntries) (found : Option RootEntry) (roots : List Root)
-    → map stored_of units ≡ map stored_unit_of us → index < length units
+    → AreStored units us → index < length units
     → unit ≡ get_or units index unit
     → RootsSoFar us index first roots → past ≡ first + unit.scopes.len → unit.root ≡ found
     → RootsSoFar us (index + 1) past (roots ++ root_list first past found)
@@ -159,7 +158,7 @@ roots-turn units us index first past unit found roots same within is so_far past
     past_there (roots-next units us index first unit roots same within is so_far))
 
 pub roots-end : (units : List UnitEntries) (us : List CompilationUnit) (index first : ℕ)
-    (roots : List Root) → map stored_of units ≡ map stored_unit_of us → length units ≤ index
+    (roots : List Root) → AreStored units us → length units ≤ index
     → RootsSoFar us index first roots → roots ≡ roots_from 0 us
 roots-end units us index first roots same past so_far =
     let sizes = stored-length units us same in

@@ -4,6 +4,7 @@ use Rattle.std.proofs.Common.{refl, ap, sym, ◌∙◌, subst}
 use Rattle.std.specs.Prelude.{Result, Ok, Err}
 use Rattle.std.proofs.lemmas.List.{drop_all}
 use Rattle.dwarf_bytes.specs.declared.fault.Cause.{Cause}
+use Rattle.dwarf_bytes.specs.declared.fault.Cause.TheVariants as causes
 use Rattle.dwarf_bytes.specs.declared.fault.Section.TheVariants as names
 use Rattle.dwarf_bytes.specs.declared.fault.LoadFault.{LoadFault}
 use Rattle.dwarf_bytes.specs.Items.{with_offset, each_from}
@@ -14,7 +15,6 @@ use Rattle.dwarf_walk.specs.Sections.{Sections}
 use Rattle.dwarf_entries.specs.Bases.{CompilationUnit}
 use Rattle.dwarf_entries.specs.Scopes.{scope_at, ParsedScope, ScopeSite, sites_in, roots_from}
 use Rattle.dwarf_entries.specs.Private.Passes.{parse_scope, AreParsed, AddsScopes}
-use Rattle.dwarf_entries.proofs.UnitPasses.BasesPass.{at_item_cases}
 use Rattle.dwarf_entries.proofs.ScopePasses.SiteLaws.{SiteAt}
 use Rattle.dwarf_entries.proofs.ScopePasses.ScopesPass.{CheckedSoFar, front-ok, front-err}
 
@@ -36,6 +36,15 @@ checked-end s us u before index lists left so_far past =
       subst (λ (js : List ParsedScope). AreParsed (roots_from 0 us) js lists left)
           (sym parts.2) so_far.are_parsed,
     )
+
+at_item_cases : (cause : Cause) (at : ℕ) → (at_item names.DebugInfo cause at ≡ memory_fault)
+    ⊎ (at_item names.DebugInfo cause at ≡ record {
+      section = names.DebugInfo;
+      cause = cause;
+      at = at;
+    })
+at_item_cases causes.Memory at = inl refl
+at_item_cases cause at = inr refl
 
 pub checked-fault : (s : Sections) (us : List CompilationUnit) (u : CompilationUnit)
     (before : List ParsedScope) (index : ℕ) (lists final : ScopeLists) (left last : ℕ)

@@ -1,10 +1,9 @@
 -- The iterations of the pass over the scopes of all units.
-use Rattle.std.proofs.Common.{◌≡◌, ℕ, ◌+◌, ◌<◌, ◌≤◌, ◌⊎◌, inl, inr, suc, List, [], ◌∷◌, ◌++◌}
-use Rattle.std.proofs.Common.{length, drop, get_or, refl, ap, sym, ◌∙◌, subst, arith, length-append}
-use Rattle.std.specs.Prelude.{Option, Result, Ok, Err, Some, None, slice_get, sum_by, count_by}
+use Rattle.std.proofs.Common.{◌≡◌, ℕ, ◌+◌, ◌<◌, suc, List, [], ◌∷◌, ◌++◌}
+use Rattle.std.proofs.Common.{length, drop, refl, ap, sym, ◌∙◌, subst, arith, length-append}
+use Rattle.std.specs.Prelude.{Option, Result, Ok, Err, Some, slice_get, sum_by, count_by}
 use Rattle.std.proofs.lemmas.List.{map-append, length-map, length-drop}
 use Rattle.std.proofs.lemmas.List.Sums.{sum_by-append}
-use Rattle.std.proofs.lemmas.Option.{slice_get_cases}
 use Rattle.dwarf_bytes.specs.declared.fault.Cause.{Cause}
 use Rattle.dwarf_bytes.specs.Items.{At, with_offset, each_from}
 use Rattle.dwarf_bytes.proofs.Items.EachLaws.{made_front, each-next}
@@ -27,17 +26,6 @@ use Rattle.dwarf_entries.specs.Private.Passes.{IsFirstNumberOf, IsScopeSite, IsS
 use Rattle.dwarf_entries.specs.Private.Passes.{parse_scope, AreParsed}
 use Rattle.dwarf_walk.specs.Private.Stored.{scope_entry}
 use Rattle.dwarf_entries.proofs.ScopePasses.SiteLaws.{SiteAt}
-
--- The unit at an index.
-pub unit-there : (us : List CompilationUnit) (unit : ℕ) → unit < length us
-    → (u : CompilationUnit) × (slice_get us unit ≡ Some u)
-unit-there us unit within = by_case ((slice_get_cases us unit).1)
-  where
-    by_case : ((x : CompilationUnit) × (unit < length us) × (slice_get us unit ≡ Some x)
-        × (get_or us unit x ≡ x)) ⊎ ((length us ≤ unit) × (slice_get us unit ≡ None))
-        → (u : CompilationUnit) × (slice_get us unit ≡ Some u)
-    by_case (inl (x, inside, found, is)) = (x, found)
-    by_case (inr (past, none)) = absurd (omega (arith, within, past))
 
 -- The scopes of a unit before the index, after the scopes of the units before it.
 pub record CheckedSoFar (s : Sections) (us : List CompilationUnit) (u : CompilationUnit)

@@ -1,9 +1,8 @@
 -- The data of scopes in the lists that they share.
-use Rattle.std.proofs.Common.{◌≡◌, ℕ, zero, suc, ◌-◌, ◌<◌, ◌≤◌, List, [], ◌∷◌, length, get_or, take}
-use Rattle.std.proofs.Common.{drop, Bool, false, cond, refl, ap, sym, ◌∙◌, subst, arith}
+use Rattle.std.proofs.Common.{◌≡◌, ℕ, zero, suc, ◌-◌, List, [], ◌∷◌, length, take}
+use Rattle.std.proofs.Common.{drop, Bool, false, cond, refl, ap, sym, ◌∙◌, arith}
 use Rattle.std.specs.Prelude.{Option, Some, None, slice_get, option_map, option_and_then, ◌==◌}
 use Rattle.std.specs.Option.{option_map_or}
-use Rattle.std.proofs.lemmas.Option.{slice_get_read, slice_get_past}
 use Rattle.std.proofs.Math.Dec.{eqb-suc-zero}
 use Rattle.dwarf_entries.specs.declared.calls.CallSite.{CallSite}
 use Rattle.dwarf_entries.specs.declared.scope.Range.{Range}
@@ -14,17 +13,6 @@ use Rattle.dwarf_entries.specs.Scopes.{scopes_from, ranges_at, stmt_list_at}
 use Rattle.dwarf_entries.specs.Private.Shared.{ranges_start}
 
 -- ---- the scope at an index
-
--- The element that a lookup returns.
-pub found-at : {X : Type 0} (list items : List X) (n : ℕ) (x : X) → list ≡ items
-    → (n < length list) × ((d : X) → x ≡ get_or list n d) → slice_get items n ≡ Some x
-found-at list items n x same found = subst (λ (xs : List _). slice_get xs n ≡ Some x) same
-    (slice_get_read list (length list) n x refl found.0 (found.1 x))
-
-pub not-at : {X : Type 0} (list items : List X) (n : ℕ) → list ≡ items → length list ≤ n
-    → slice_get items n ≡ None
-not-at list items n same past = subst (λ (xs : List _). slice_get xs n ≡ None) same
-    (slice_get_past list n past)
 
 start-next : (first : ℕ) (s : StoredScope) (ss : List StoredScope) (n : ℕ) → ranges_start first (s
     ∷ ss) (suc n)

@@ -20,7 +20,8 @@ use Rattle.dwarf_walk.specs.Sections.{Sections}
 use Rattle.dwarf_walk.specs.Private.Rereading.{scope_entry_at}
 use Rattle.dwarf_walk.specs.Private.Stored.{StoredUnit, scope_entry, scope_place, scope_places}
 use Rattle.dwarf_walk.specs.Private.Stored.{stored_of}
-use Rattle.dwarf_entries.specs.Private.EntryOffsets.{AreReadIn, stored_unit_of}
+use Rattle.dwarf_entries.specs.Private.EntryOffsets.{stored_unit_of}
+use Rattle.dwarf_entries.proofs.UnitPasses.UnitLaws.{AreUnitsIn}
 use Rattle.dwarf_entries.proofs.UnitPasses.RereadLaws.{bytes_in, scope-there}
 
 abbrev pub place_in : ScopeSite → ScopePlace
@@ -123,14 +124,14 @@ pub record SiteRead (s : Sections) (u : CompilationUnit) (i : ℕ) (header : Uni
       ≡ Ok (scope_entry site.place.member.die site.place.kind)
 
 pub site-read : (s : Sections) (us : List CompilationUnit) (unit : ℕ) (u : CompilationUnit) (i : ℕ)
-    (k : UnitEntries) (stored : ScopePlace) → AreReadIn s us → slice_get us unit ≡ Some u
+    (k : UnitEntries) (stored : ScopePlace) → AreUnitsIn s us → slice_get us unit ≡ Some u
     → stored_of k ≡ stored_unit_of u → i < length (sites_in u u.dies)
     → stored ≡ get_or k.scopes.items i stored → SiteRead s u i k.header stored
 unfolding site-at
 site-read s us unit u i k stored read found same within here =
     let site = site-at u i within in
     let sites = sites_in u u.dies in
-    let one = read unit u found in
+    let one = read.each_is unit u found in
     let header : k.header ≡ u.header = ap (λ (x : StoredUnit). x.header) same in
     let is : stored ≡ place_in site.place =
     here ∙ (ap (λ (ps : List ScopePlace). get_or ps i stored)

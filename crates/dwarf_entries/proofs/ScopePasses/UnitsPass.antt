@@ -19,7 +19,7 @@ use Rattle.dwarf_entries.specs.Scopes.{roots_from, scopes_of}
 use Rattle.dwarf_entries.specs.Private.Passes.{IsFirstNumberOf, parse_scope, AreParsed}
 use Rattle.dwarf_entries.specs.Private.Passes.{AddsScopes, all_sites, all_scopes}
 use Rattle.dwarf_bytes.proofs.Items.EachPlaces.{each-append, each-length}
-use Rattle.dwarf_entries.proofs.ScopePasses.ScopesPass.{unit-there}
+use Rattle.dwarf_entries.proofs.UnitPasses.PassLaws.{element}
 
 -- ---- the loop over the units
 
@@ -66,7 +66,7 @@ pub scopes-next : (s : Sections) (us : List CompilationUnit) (index : ℕ)
     → AddsScopes (Ok tt) s us (sites_in u u.dies) before lists after)
     → ScopesSoFar s us (index + 1) lists after
 scopes-next s us index old lists left after within so_far adds =
-    let u = unit-there us index within in
+    let u = element us index within in
     let parsed = so_far.parsed in
     let added = adds u.0 parsed u.1 so_far.first so_far.are_parsed in
     let size = length-append parsed added.0 in
@@ -93,7 +93,7 @@ pub scopes-fault : (s : Sections) (us : List CompilationUnit) (index : ℕ)
     → AddsScopes (Err fault) s us (sites_in u u.dies) before lists after)
     → (fault ≡ memory_fault) ⊎ (in_section names.DebugInfo (all_scopes s us) ≡ Err fault)
 scopes-fault s us index old lists left after fault within so_far adds =
-    let u = unit-there us index within in
+    let u = element us index within in
     by_fault u.0 u.1 (adds u.0 so_far.parsed u.1 so_far.first so_far.are_parsed)
   where
     parsed : List ParsedScope

@@ -1,180 +1,130 @@
 -- The iterations of the pass over the entries of all units.
-use Rattle.std.proofs.Common.{◌≡◌, ℕ, ◌+◌, ◌<◌, ◌≤◌, List, [], ◌∷◌, ◌++◌, length, drop, get_or}
-use Rattle.std.proofs.Common.{refl, ap, sym, ◌∙◌, subst, arith, drop-cons, add-one, length-append}
-use Rattle.std.proofs.Common.{append-nil, append_assoc}
-use Rattle.std.specs.Prelude.{Result, Ok, Err, zip}
-use Rattle.std.proofs.lemmas.List.{drop_all}
+use Rattle.std.proofs.Common.{◌≡◌, ◌⊎◌, ℕ, ◌+◌, ◌<◌, ◌≤◌, List, [], ◌∷◌, ◌++◌, length, map}
+use Rattle.std.proofs.Common.{get_or}
+use Rattle.std.proofs.Common.{refl, ap, sym, ◌∙◌, subst, arith, append-nil}
+use Rattle.std.specs.Prelude.{Some, Result, Ok, Err, zip, slice_get, flat_map}
+use Rattle.std.proofs.lemmas.List.{map_push}
+use Rattle.std.proofs.lemmas.List.Concat.{flat_map-append}
+use Rattle.std.proofs.lemmas.Option.{slice_get-get_or}
 use Rattle.std.proofs.lemmas.Slice.Zip.{length-zip, get_or-zip}
 use Rattle.dwarf_bytes.specs.declared.fault.Section.TheVariants as names
+use Rattle.dwarf_bytes.specs.declared.fault.LoadFault.{LoadFault}
 use Rattle.dwarf_bytes.specs.Bind.{◌>>=◌}
-use Rattle.dwarf_bytes.specs.Items.{At, each_from}
-use Rattle.dwarf_bytes.specs.Refusals.{in_section}
-use Rattle.dwarf_bytes.proofs.Items.EachLaws.{made_front, each-next, each-end}
+use Rattle.dwarf_bytes.specs.Items.{At}
+use Rattle.dwarf_bytes.specs.Refusals.{memory_fault, in_section}
+use Rattle.dwarf_bytes.proofs.Items.EachPlaces.{each-length}
+use Rattle.dwarf_bytes.proofs.Numbers.Moves.{same-ok}
 use Rattle.dwarf_forms.specs.Declarations.{Declaration}
 use Rattle.dwarf_forms.specs.Tables.{declarations_of}
 use Rattle.dwarf_units.specs.declared.unit_headers.UnitHeader.{UnitHeader}
 use Rattle.dwarf_units.specs.Units.{declarations_limit, tables_of}
 use Rattle.dwarf_units.specs.Entries.{Die, entries_of}
-use Rattle.dwarf_walk.specs.Private.Stored.{StoredUnit, stored_unit, stored_entries}
+use Rattle.dwarf_units.proofs.TableLaws.{table_for, table_is, in_section-ok}
+use Rattle.dwarf_walk.specs.declared.unit_entries.UnitEntries.{UnitEntries}
 use Rattle.dwarf_walk.specs.declared.entry_bitmap.EntryBitmap.{EntryBitmap}
 use Rattle.dwarf_walk.specs.Private.EntryBitmap.{AddsOffsets, offsets_of}
-use Rattle.dwarf_entries.specs.Private.EntryOffsets.{all_offsets}
-use Rattle.dwarf_entries.specs.Private.Passes.{all_entries, stored_units, all_stored}
+use Rattle.dwarf_walk.specs.Private.Stored.{StoredUnit, stored_unit, stored_entries, stored_of}
 use Rattle.dwarf_walk.proofs.BitmapLaws.{adds-none, adds-more}
-use Rattle.dwarf_bytes.proofs.Items.EachPlaces.{each-length}
-use Rattle.dwarf_units.proofs.TableLaws.{table_for, table_is, in_section-ok}
+use Rattle.dwarf_entries.specs.Bases.{CompilationUnit, no_bases, unit_of}
+use Rattle.dwarf_entries.specs.Private.EntryOffsets.{AreStored, stored_unit_of, all_offsets, dies_of}
+use Rattle.dwarf_entries.specs.Private.Passes.{all_entries}
+use Rattle.dwarf_entries.proofs.UnitPasses.PassLaws.{Faults, first-fault, before-done, after-done}
+use Rattle.dwarf_entries.proofs.UnitPasses.PassLaws.{PassedTo, pass-none, pass-next, pass-end}
+use Rattle.dwarf_entries.proofs.UnitPasses.PassLaws.{pass-fault, only-memory, done}
 
-abbrev pub entries_for : List ℕ → List (List Die) → UnitHeader × List Declaration
-    → Result (List Die) At
-entries_for info before p = entries_of info p.0 p.1
-
--- The entries of the units before the index, and the data that is stored for them.
+-- The units before the index, the data that is stored for them, and the bits of their entries.
 pub record EntriesSoFar (info : List ℕ) (headers : List UnitHeader)
     (tables : List (List Declaration)) (bitmap marked : EntryBitmap) (index : ℕ)
-    (stored : List StoredUnit) : Type 0 where
-  pub made : List (List Die)
-  pub len : length made ≡ index
+    (stored : List UnitEntries) : Type 0 where
+  pub made : List CompilationUnit
+  pub passed : PassedTo (λ _ p. unit_of info p.0 p.1) (zip headers tables) index made
+  pub stored_are : AreStored stored made
   pub marked_so : AddsOffsets bitmap marked (all_offsets made)
-  pub stored_are : stored ≡ stored_units headers made
-  pub read : made_front made (each_from (entries_for info) made (drop index (zip headers tables)))
-      ≡ all_entries info headers tables
 
-pub no-front : {Y : Type 0} (r : Result (List Y) At) → made_front [] r ≡ r
-no-front (Ok x) = refl
-no-front (Err e) = refl
+pub entries-none : {info : List ℕ} {headers : List UnitHeader} {tables : List (List Declaration)}
+    {bitmap : EntryBitmap} → EntriesSoFar info headers tables bitmap bitmap 0 []
+entries-none {bitmap = bitmap} = record {
+  made = [];
+  passed = pass-none;
+  stored_are = refl;
+  marked_so = adds-none bitmap;
+}
 
-stored_none : (headers : List UnitHeader) → [] ≡ stored_units headers []
-stored_none [] = refl
-stored_none (header ∷ headers) = refl
+offsets-push : (made : List CompilationUnit) (u : CompilationUnit)
+    → all_offsets made ++ offsets_of u.dies ≡ all_offsets (made ++ u ∷ [])
+offsets-push made u =
+    ap (λ (offsets : List ℕ). all_offsets made ++ offsets) (sym (append-nil (offsets_of u.dies)))
+    ∙ (sym (flat_map-append offsets_of (map dies_of made) (u.dies ∷ []))
+    ∙ ap (λ (dies : List (List Die)). flat_map offsets_of dies) (sym (map_push dies_of made u)))
 
-pub entries-none : (info : List ℕ) (headers : List UnitHeader) (tables : List (List Declaration))
-    (bitmap : EntryBitmap) → EntriesSoFar info headers tables bitmap bitmap 0 []
-entries-none info headers tables bitmap =
-    record {
-      made = [];
-      len = refl;
-      marked_so = adds-none bitmap;
-      stored_are = stored_none headers;
-      read = no-front (all_entries info headers tables);
-    }
+module _ {info : List ℕ} {headers : List UnitHeader} {tables : List (List Declaration)}
+    {bitmap marked : EntryBitmap} {index : ℕ} {stored : List UnitEntries}
+    (so_far : EntriesSoFar info headers tables bitmap marked index stored) (section : List ℕ)
+    (all : tables_of section headers ≡ Ok tables) (d : UnitHeader)
+    (within : index < length headers) where
+  -- Re-reading a valid table fails only because memory ran out.
+  pub entries-table-fault : (fault : LoadFault) → (fault ≡ memory_fault)
+      ⊎ (in_section names.DebugAbbrev (declarations_of declarations_limit section
+      (get_or headers index d).abbreviations) ≡ Err fault) → fault ≡ memory_fault
+  entries-table-fault fault bad = only-memory names.DebugAbbrev _ (get_or tables index []) fault
+      (table_is section headers tables index d all within) bad
 
--- The data of one more unit is appended.
-stored_more : (headers : List UnitHeader) (made : List (List Die)) (d : UnitHeader)
-    (dies : List Die)
-    → length made < length headers
-    → stored_units headers (made ++ dies ∷ []) ≡ stored_units headers made
-    ++ stored_unit (get_or headers (length made) d) dies ∷ []
-stored_more [] made d dies within = absurd (omega (arith, within))
-stored_more (header ∷ []) [] d dies within = refl
-stored_more (header ∷ next ∷ headers) [] d dies within = refl
-stored_more (header ∷ headers) (first ∷ made) d dies within =
-    ap (λ (us : List StoredUnit). stored_unit header first ∷ us)
-    (stored_more headers made d dies (omega (arith, within)))
+  module _ (table : List Declaration) (table_read : in_section names.DebugAbbrev (declarations_of
+      declarations_limit section (get_or headers index d).abbreviations) ≡ Ok table) where
+    -- The header and the table of the unit at the index.
+    pair-at : slice_get (zip headers tables) index ≡ Some (get_or headers index d, table)
+    unfolding tables_of
+    pair-at =
+        let same : get_or tables index [] ≡ table = same-ok {E = At} (get_or tables index []) table
+        (sym (table_is section headers tables index d all within) ∙ in_section-ok names.DebugAbbrev
+        (declarations_of declarations_limit section (get_or headers index d).abbreviations) table
+        table_read) in
+        let sizes = each-length (table_for section) [] headers tables all in
+        let inside : index < length tables = omega (arith, sizes, within) in
+        let zipped : index < length (zip headers tables) =
+        subst (λ (n : ℕ). index < n) (sym (length-zip headers tables))
+        (omega (arith, within, inside)) in
+        slice_get-get_or (zip headers tables) index (d, []) zipped
+        ∙ ap (λ (p : UnitHeader × List Declaration). Some p)
+        (get_or-zip headers tables index (d, []) within inside
+        ∙ ap (λ (t : List Declaration). (get_or headers index d, t)) same)
 
--- The offsets of the entries of one more unit are appended.
-offsets-more : (made : List (List Die)) (dies : List Die) → all_offsets made ++ offsets_of dies
-    ≡ all_offsets (made ++ dies ∷ [])
-offsets-more [] dies = sym (append-nil (offsets_of dies))
-offsets-more (first ∷ made) dies = append_assoc (offsets_of first) (all_offsets made)
-    (offsets_of dies) ∙ ap (λ (places : List ℕ). offsets_of first ++ places)
-    (offsets-more made dies)
-
--- The header and the table of a unit.
-pub pair-at : (section : List ℕ) (headers : List UnitHeader) (tables : List (List Declaration))
-    (index : ℕ) (d : UnitHeader) (table : List Declaration)
-    → tables_of section headers ≡ Ok tables → index < length headers
-    → in_section names.DebugAbbrev (declarations_of declarations_limit section
-    (get_or headers index d).abbreviations) ≡ Ok table
-    → drop index (zip headers tables) ≡ (get_or headers index d, table)
-    ∷ drop (index + 1) (zip headers tables)
-unfolding tables_of
-pair-at section headers tables index d table all within read =
-    let header = get_or headers index d in
-    let same : get_or tables index [] ≡ table =
-    same_list (sym (table_is section headers tables index d all within)
-    ∙ in_section-ok names.DebugAbbrev (declarations_of declarations_limit section
-    header.abbreviations) table read) in
-    let sizes : length tables ≡ length headers =
-    each-length (table_for section) [] headers tables all in
-    let inside : index < length tables = omega (arith, sizes, within) in
-    let pair : get_or (zip headers tables) index (d, []) ≡ (header, get_or tables index []) =
-    get_or-zip headers tables index (d, []) within inside in
-    let zipped : index < length (zip headers tables) =
-    subst (λ (n : ℕ). index < n) (sym (length-zip headers tables))
-    (omega (arith, within, inside)) in
-    rw (add-one, drop-cons (zip headers tables) index (d, []) zipped, pair, same) refl
-  where
-    same_list : {x y : List Declaration}
-        → (let f : List Declaration → Result (List Declaration) At = λ z. Ok z in f x ≡ f y) → x ≡ y
-    same_list h = cc
-
-pub entries-next : (info section : List ℕ) (headers : List UnitHeader)
-    (tables : List (List Declaration)) (bitmap marked after : EntryBitmap) (index : ℕ)
-    (stored : List StoredUnit) (d : UnitHeader) (table : List Declaration) (unit : StoredUnit)
-    → EntriesSoFar info headers tables bitmap marked index stored
-    → tables_of section headers ≡ Ok tables → index < length headers
-    → in_section names.DebugAbbrev (declarations_of declarations_limit section
-    (get_or headers index d).abbreviations) ≡ Ok table
-    → in_section names.DebugInfo (stored_entries info (get_or headers index d) table) ≡ Ok unit
-    → ((dies : List Die) → entries_of info (get_or headers index d) table ≡ Ok dies
-    → AddsOffsets marked after (offsets_of dies))
-    → EntriesSoFar info headers tables bitmap after (index + 1) (stored ++ unit ∷ [])
-entries-next info section headers tables bitmap marked after index stored d table unit so_far all
-    within table_read unit_read adds =
-    by_dies (entries_of info (get_or headers index d) table) refl
-    (in_section-ok names.DebugInfo (stored_entries info (get_or headers index d) table) unit
-    unit_read) (pair-at section headers tables index d table all within table_read)
-  where
-    by_dies : (r : Result (List Die) At) → entries_of info (get_or headers index d) table ≡ r
-        → (r >>= λ dies. Ok (stored_unit (get_or headers index d) dies)) ≡ Ok unit
-        → drop index (zip headers tables) ≡ (get_or headers index d, table)
-        ∷ drop (index + 1) (zip headers tables)
+    pub entries-next : (after : EntryBitmap) (unit : UnitEntries) → in_section names.DebugInfo
+        (stored_entries info (get_or headers index d) table) ≡ Ok (stored_of unit)
+        → ((dies : List Die) → entries_of info (get_or headers index d) table ≡ Ok dies
+        → AddsOffsets marked after (offsets_of dies))
         → EntriesSoFar info headers tables bitmap after (index + 1) (stored ++ unit ∷ [])
-    by_dies (Err e) is h rest = cc
-    by_dies (Ok dies) is h rest =
+    entries-next after unit unit_read adds =
         let made = so_far.made in
         let header = get_or headers index d in
-        let more : stored_units headers (made ++ dies ∷ []) ≡ stored_units headers made
-        ++ stored_unit header dies ∷ [] =
-        subst (λ (k : ℕ). stored_units headers (made ++ dies ∷ []) ≡ stored_units headers made
-        ++ stored_unit (get_or headers k d) dies ∷ []) so_far.len
-        (stored_more headers made d dies (omega (arith, so_far.len, within))) in
+        let found = after-done (entries_of info header table) (stored_unit header)
+        (stored_of unit) unit_read in
+        let u : CompilationUnit = record { header = header; dies = found.0; bases = no_bases } in
         record {
-          made = made ++ dies ∷ [];
-          len = omega (arith, so_far.len, length-append made (dies ∷ []));
-          marked_so = subst (λ (places : List ℕ). AddsOffsets bitmap after places)
-              (offsets-more made dies) (adds-more bitmap marked after (all_offsets made)
-              (offsets_of dies) so_far.marked_so (adds dies is));
-          stored_are = ap (λ (us : List StoredUnit). us ++ unit ∷ []) so_far.stored_are
-              ∙ (ap (λ (u : StoredUnit). stored_units headers made ++ u ∷ []) (sym (same_unit h))
-              ∙ sym more);
-          read = sym (each-next (entries_for info) made (header, table)
-              (drop (index + 1) (zip headers tables)) dies is)
-              ∙ (ap (λ (ps : List (UnitHeader × List Declaration)). made_front made
-              (each_from (entries_for info) made ps)) (sym rest) ∙ so_far.read);
+          made = made ++ u ∷ [];
+          passed = pass-next so_far.passed (header, table) u pair-at
+              (ap (λ (r : Result (List Die) At). r >>= λ dies. done {Y = CompilationUnit}
+              (record { header = header; dies = dies; bases = no_bases })) found.1);
+          stored_are = map_push stored_of stored unit
+              ∙ (ap (λ (us : List StoredUnit). us ++ stored_of unit ∷ []) so_far.stored_are
+              ∙ (ap (λ (x : StoredUnit). map stored_unit_of made ++ x ∷ []) (sym found.2)
+              ∙ sym (map_push stored_unit_of made u)));
+          marked_so = subst (λ (offsets : List ℕ). AddsOffsets bitmap after offsets)
+              (offsets-push made u) (adds-more bitmap marked after (all_offsets made)
+              (offsets_of found.0) so_far.marked_so (adds found.0 found.1));
         }
-      where
-        same_unit : {x y : StoredUnit} → (let f : StoredUnit → Result StoredUnit At = λ z. Ok z in
-            f x ≡ f y) → x ≡ y
-        same_unit h = cc
 
-pub entries-made : (info : List ℕ) (headers : List UnitHeader) (tables : List (List Declaration))
-    (bitmap marked : EntryBitmap) (index : ℕ) (stored : List StoredUnit)
-    → (so_far : EntriesSoFar info headers tables bitmap marked index stored) → length headers
-    ≤ index
-    → all_entries info headers tables ≡ Ok so_far.made
-entries-made info headers tables bitmap marked index stored so_far past =
-    let made = so_far.made in
-    let none : drop index (zip headers tables) ≡ [] =
-    drop_all index (zip headers tables)
-    (subst (λ (n : ℕ). n ≤ index) (sym (length-zip headers tables)) (omega (arith, past))) in
-    sym so_far.read ∙ (ap (λ (ps : List (UnitHeader × List Declaration)). made_front made
-    (each_from (entries_for info) made ps)) none ∙ each-end (entries_for info) made)
+    pub entries-fault : {fault : LoadFault}
+        → Faults fault (stored_entries info (get_or headers index d) table)
+        → Faults fault (all_entries info headers tables)
+    entries-fault bad = pass-fault so_far.passed (get_or headers index d, table) pair-at
+        (first-fault _ _ (before-done (entries_of info (get_or headers index d) table)
+        (stored_unit (get_or headers index d)) bad))
 
-pub entries-end : (info : List ℕ) (headers : List UnitHeader) (tables : List (List Declaration))
-    (bitmap marked : EntryBitmap) (index : ℕ) (stored : List StoredUnit)
-    → EntriesSoFar info headers tables bitmap marked index stored → length headers ≤ index
-    → in_section names.DebugInfo (all_stored info headers tables) ≡ Ok stored
-entries-end info headers tables bitmap marked index stored so_far past =
-    rw (entries-made info headers tables bitmap marked index stored so_far past)
-    (ap (λ (us : List StoredUnit). Ok us) (sym so_far.stored_are))
+pub entries-end : {info : List ℕ} {headers : List UnitHeader} {tables : List (List Declaration)}
+    {bitmap marked : EntryBitmap} {index : ℕ} {stored : List UnitEntries}
+    → (so_far : EntriesSoFar info headers tables bitmap marked index stored)
+    → length headers ≤ index → all_entries info headers tables ≡ Ok so_far.made
+entries-end {headers = headers} {tables = tables} {index = index} so_far past =
+    pass-end so_far.passed (subst (λ (n : ℕ). n ≤ index) (sym (length-zip headers tables))
+    (omega (arith, past)))

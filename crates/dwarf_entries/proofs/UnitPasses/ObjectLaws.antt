@@ -8,7 +8,7 @@ use Rattle.dwarf_entries.specs.declared.name_cache.NameCache.{NameCache}
 use Rattle.dwarf_entries.specs.declared.string_sections.StringSections.{StringSections}
 use Rattle.dwarf_walk.specs.Sections.{Sections}
 use Rattle.dwarf_walk.specs.Private.Rereading.{IsReaderOf}
-use Rattle.dwarf_entries.specs.Private.Members.{AreStoredAs}
+use Rattle.dwarf_entries.specs.Private.EntryOffsets.{AreStored}
 use Rattle.dwarf_entries.specs.Private.NameCache.{IsCacheOf}
 use Rattle.dwarf_entries.specs.Private.ObjectUnits.{ObjectUnits, AreUnitsOf}
 
@@ -24,10 +24,9 @@ seen {units = units} {bitmap} {bases} {strings} {reader} {cache} are same =
 pub seen-units : {v w : ObjectUnits} {units : List UnitEntries} {bitmap : EntryBitmap}
     {bases : List Bases} {strings : StringSections} {reader : EntryReader} {cache : NameCache}
     {slice : List UnitEntries} → AreUnitsOf v units bitmap bases strings reader cache → v ≡ w
-    → slice ≡ units → AreStoredAs slice w.units
+    → slice ≡ units → AreStored slice w.units
 seen-units {w = w} are same slice_is =
-    subst (λ (us : List UnitEntries). AreStoredAs us w.units) (sym slice_is)
-    (seen are same).stored_are
+    subst (λ (us : List UnitEntries). AreStored us w.units) (sym slice_is) (seen are same).stored_are
 
 -- ---- the parts that change
 
@@ -40,7 +39,6 @@ with-reader {v = v} new are stays = record {
   stored_are = are.stored_are;
   bitmap_is = are.bitmap_is;
   bases_are = are.bases_are;
-  read_in = are.read_in;
   strings_are = are.strings_are;
   reader_is = stays v.sections are.reader_is;
   cache_is = are.cache_is;
@@ -54,7 +52,6 @@ with-cache new are same cache_is = record {
   stored_are = are.stored_are;
   bitmap_is = are.bitmap_is;
   bases_are = are.bases_are;
-  read_in = are.read_in;
   strings_are = are.strings_are;
   reader_is = are.reader_is;
   cache_is = subst (λ (v : ObjectUnits). IsCacheOf v.sections v.units new) (sym same) cache_is;

@@ -24,13 +24,17 @@ use Rattle.dwarf_walk.specs.Sections.{Sections}
 use Rattle.dwarf_entries.specs.declared.references.UnitPlace.{UnitPlace}
 use Rattle.dwarf_entries.specs.Bases.{CompilationUnit}
 use Rattle.dwarf_entries.specs.Names.{Member}
+use Rattle.dwarf_walk.specs.declared.unit_entries.UnitEntries.{UnitEntries}
+use Rattle.dwarf_entries.specs.Private.EntryOffsets.{AreStored}
 use Rattle.dwarf_entries.specs.Private.Members.{IsPlaceOf}
+use Rattle.dwarf_entries.proofs.UnitPasses.StoredUnits.{stored-index}
 use Rattle.dwarf_forms.specs.Tables.{declarations_of}
 use Rattle.dwarf_units.specs.Units.{declarations_limit}
 use Rattle.dwarf_walk.specs.ScopeEntries.{kind_of}
-use Rattle.dwarf_walk.specs.Private.Stored.{named_entry, scope_entry, scope_entry_of}
+use Rattle.dwarf_walk.specs.Private.Stored.{StoredUnit, named_entry, scope_entry, scope_entry_of}
 use Rattle.dwarf_walk.specs.Private.Rereading.{scope_entry_at}
-use Rattle.dwarf_entries.specs.Private.EntryOffsets.{IsReadIn, AreReadIn}
+use Rattle.dwarf_units.proofs.RereadLaws.{entries-again}
+use Rattle.dwarf_entries.proofs.UnitPasses.UnitLaws.{IsUnitIn, AreUnitsIn}
 use Rattle.dwarf_walk.specs.Private.Named.{entry_with, used_at, named_entry_at}
 use Rattle.dwarf_walk.proofs.StoredNodes.{value-stored, stored_die, names_at-stored}
 use Rattle.dwarf_walk.proofs.RereadLaws.{without_place, inside-is}
@@ -65,11 +69,11 @@ entry-within format table unit at x h =
 abbrev pub bytes_in : Sections → UnitHeader → List ℕ
 bytes_in s header = take header.end s.debug_info
 
-used-there : (s : Sections) (u : CompilationUnit) (k : ℕ) (die : Die) → (read : IsReadIn s u)
+used-there : (s : Sections) (u : CompilationUnit) (k : ℕ) (die : Die) → (read : IsUnitIn s u)
     → slice_get u.dies k ≡ Some die → used_at u.header.format read.table (bytes_in s u.header)
     die.offset ≡ Ok (die.tag, stored_attributes true die.attributes)
 used-there s u k die read there =
-    let again = read.again k die there in
+    let again = entries-again s.debug_info u.header read.table u.dies read.dies_are k die there in
     inside-is u.header.format read.table (bytes_in s u.header) die.offset
     (entry-within u.header.format read.table (bytes_in s u.header) die.offset
     ((die.tag, die.attributes), again.0) again.1)
@@ -77,7 +81,7 @@ used-there s u k die read there =
 
 -- A scope of a unit can be re-read.
 pub scope-there : (s : Sections) (u : CompilationUnit) (k : ℕ) (die : Die) (kind : ScopeKind)
-    → (read : IsReadIn s u) → slice_get u.dies k ≡ Some die → kind_of die.tag ≡ Some kind
+    → (read : IsUnitIn s u) → slice_get u.dies k ≡ Some die → kind_of die.tag ≡ Some kind
     → scope_entry_at u.header.format read.table (bytes_in s u.header) die.offset
     ≡ Ok (scope_entry die kind)
 scope-there s u k die kind read there is =
@@ -88,7 +92,7 @@ scope-there s u k die kind read there is =
 
 -- The names and the reference of an entry of a unit can be re-read.
 pub names_at-there : (s : Sections) (u : CompilationUnit) (k : ℕ) (die : Die)
-    → (read : IsReadIn s u)
+    → (read : IsUnitIn s u)
     → slice_get u.dies k ≡ Some die
     → named_entry_at u.header.format read.table (bytes_in s u.header) die.offset
     ≡ Ok (named_entry die)
@@ -105,18 +109,21 @@ pub record Reread (s : Sections) (header : UnitHeader) (offset : ℕ) (m : Membe
   pub there : named_entry_at header.format table (bytes_in s header) offset
       ≡ Ok (named_entry m.die)
 
-pub reread : (s : Sections) (us : List CompilationUnit) (place : UnitPlace) (m : Member)
-    (header : UnitHeader) → AreReadIn s us → IsPlaceOf us place m → header ≡ m.unit.header
-    → Reread s header place.offset m
-reread s us place m header read at same =
-    let one = read place.unit m.unit at.unit_is in
+pub reread : (s : Sections) (us : List CompilationUnit) (stored : List UnitEntries)
+    (place : UnitPlace) (m : Member) (k : UnitEntries) → AreUnitsIn s us → AreStored stored us
+    → slice_get stored place.unit ≡ Some k → IsPlaceOf us place m
+    → Reread s k.header place.offset m
+reread s us stored place m k are same found at =
     let u = m.unit in
+    let one = are.each_is place.unit u at.unit_is in
+    let header = ap (λ (x : StoredUnit). x.header)
+    (stored-index stored us place.unit k same found u at.unit_is) in
     record {
       table = one.table;
       table_is = ap (λ (h : UnitHeader). declarations_of declarations_limit s.debug_abbrev
-          h.abbreviations) same ∙ one.table_is;
+          h.abbreviations) header ∙ one.table_is;
       there = ap (λ (h : UnitHeader). named_entry_at h.format one.table (bytes_in s h)
-          place.offset) same
+          place.offset) header
           ∙ (ap (λ (o : ℕ). named_entry_at u.header.format one.table (bytes_in s u.header) o)
           (sym at.offset_is) ∙ names_at-there s u at.index m.die one at.there);
     }

@@ -1,11 +1,10 @@
 -- Entries with their units, as the program stores them, for the contracts of origin chains.
-use Rattle.std.specs.Prelude.{◌≡◌, ℕ, ◌<◌, ◌≤◌, List, Option, Some, None, Result, Ok, Err, map}
+use Rattle.std.specs.Prelude.{◌≡◌, ℕ, ◌<◌, ◌≤◌, List, Option, Some, None, Result, Ok, Err}
 use Rattle.std.specs.Prelude.{slice_get, option_to_list}
 use Rattle.dwarf_bytes.specs.declared.constants.TheConstants.{DW_AT_LINKAGE_NAME, DW_AT_NAME}
 use Rattle.dwarf_bytes.specs.declared.fault.Cause.{Cause}
 use Rattle.dwarf_bytes.specs.declared.fault.Cause.TheVariants as causes
 use Rattle.dwarf_walk.specs.declared.unit_entries.NamedEntry.{NamedEntry}
-use Rattle.dwarf_walk.specs.declared.unit_entries.UnitEntries.{UnitEntries}
 use Rattle.dwarf_entries.specs.declared.origin_chains.UnitEntry.{UnitEntry}
 use Rattle.dwarf_entries.specs.declared.references.UnitPlace.{UnitPlace}
 use Rattle.dwarf_entries.specs.declared.origin_chains.UnitAttribute.{UnitAttribute}
@@ -14,13 +13,7 @@ use Rattle.dwarf_units.specs.declared.attributes.AttributeValue.{AttributeValue}
 use Rattle.dwarf_entries.specs.Bases.{CompilationUnit}
 use Rattle.dwarf_entries.specs.Names.{Member, members_of, member_at, first_on}
 use Rattle.dwarf_bytes.specs.Refusals.{Fails}
-use Rattle.dwarf_walk.specs.Private.Stored.{named_entry, stored_of}
-use Rattle.dwarf_entries.specs.Private.EntryOffsets.{AreInOrder, stored_unit_of}
-
--- The stored units are these units, which are in order.
-pub record AreStoredAs (stored : List UnitEntries) (units : List CompilationUnit) : Type 0 where
-  pub same : map stored_of stored ≡ map stored_unit_of units
-  pub order : AreInOrder 0 units
+use Rattle.dwarf_walk.specs.Private.Stored.{named_entry}
 
 -- The entry, in the unit at an index, is the stored form of the member.
 pub record IsMember (units : List CompilationUnit) (number : ℕ) (entry : NamedEntry) (m : Member)

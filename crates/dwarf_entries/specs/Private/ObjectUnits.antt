@@ -10,8 +10,7 @@ use Rattle.dwarf_entries.specs.declared.name_cache.NameCache.{NameCache}
 use Rattle.dwarf_entries.specs.declared.string_sections.StringSections.{StringSections}
 use Rattle.dwarf_bytes.specs.declared.fault.LoadFault.{LoadFault}
 use Rattle.dwarf_entries.specs.Bases.{CompilationUnit, units_read}
-use Rattle.dwarf_entries.specs.Private.EntryOffsets.{IsBitmapOf, AreReadIn}
-use Rattle.dwarf_entries.specs.Private.Members.{AreStoredAs}
+use Rattle.dwarf_entries.specs.Private.EntryOffsets.{AreStored, IsBitmapOf}
 use Rattle.dwarf_entries.specs.Private.NameCache.{IsCacheOf}
 use Rattle.dwarf_entries.specs.Private.Passes.{bases_of}
 use Rattle.dwarf_entries.specs.Private.StringSections.{AreStringSections}
@@ -35,10 +34,9 @@ units_of_object s = record { sections = s; units = units_or_none (units_read s) 
 pub record AreUnitsOf (object : ObjectUnits) (stored : List UnitEntries) (bitmap : EntryBitmap)
     (bases : List Bases) (strings : StringSections) (reader : EntryReader) (cache : NameCache)
     : Type 0 where
-  pub stored_are : AreStoredAs stored object.units
+  pub stored_are : AreStored stored object.units
   pub bitmap_is : IsBitmapOf bitmap object.units
   pub bases_are : bases ≡ map bases_of object.units
-  pub read_in : AreReadIn object.sections object.units
   pub strings_are : AreStringSections object.sections strings
   pub reader_is : IsReaderOf object.sections reader
   pub cache_is : IsCacheOf object.sections object.units cache

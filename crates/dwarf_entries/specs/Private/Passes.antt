@@ -18,30 +18,26 @@ use Rattle.dwarf_entries.specs.declared.scope_lists.ScopeLists.{ScopeLists}
 use Rattle.dwarf_entries.specs.declared.origin_chains.EntryNames.{EntryNames}
 use Rattle.dwarf_entries.specs.declared.unit_scopes.ScopeNumbers.{ScopeNumbers}
 use Rattle.dwarf_walk.specs.Sections.{Sections}
-use Rattle.dwarf_units.specs.Entries.{Die, entries_of}
-use Rattle.dwarf_entries.specs.Bases.{CompilationUnit, no_bases, bases_by, unit_of}
+use Rattle.dwarf_entries.specs.Bases.{CompilationUnit, no_bases, bases_by, unit_of, with_bases}
 use Rattle.dwarf_entries.specs.Scopes.{ParsedScope, ScopeSite, Scope, items_limit, sites_in}
 use Rattle.dwarf_entries.specs.Scopes.{roots_from, stmt_list_by_number, scopes_of, scope_at}
 use Rattle.dwarf_entries.specs.Scopes.{stmt_list_of}
 use Rattle.dwarf_walk.specs.declared.unit_entries.ScopeEntry.{ScopeEntry}
 use Rattle.dwarf_walk.specs.ScopeEntries.{is_scope}
-use Rattle.dwarf_walk.specs.Private.Stored.{StoredUnit, scope_entry, stored_unit}
+use Rattle.dwarf_walk.specs.Private.Stored.{scope_entry}
 use Rattle.dwarf_entries.specs.Private.Shared.{AreConsecutive}
 
--- The entries of each unit.
+-- The result of a pass, related to the outcome, or the fault of the outcome. The call may also fail
+-- because memory ran out.
+abbrev pub PassGives : {X Y : Type 0} → (X → Y → Type 0) → Result X LoadFault → Result Y At → Type 0
+PassGives {X} {Y} are (Ok x) outcome = (y : Y) × (outcome ≡ Ok y) × are x y
+PassGives are (Err fault) outcome =
+    (fault ≡ memory_fault) ⊎ (in_section names.DebugInfo outcome ≡ Err fault)
+
+-- The units with their entries.
 abbrev pub all_entries : List ℕ → List UnitHeader → List (List Declaration)
-    → Result (List (List Die)) At
-all_entries info headers tables = each (λ _ p. entries_of info p.0 p.1) (zip headers tables)
-
--- The data that is stored for each unit.
-abbrev pub stored_units : List UnitHeader → List (List Die) → List StoredUnit
-stored_units headers dies = map (λ p. stored_unit p.0 p.1) (zip headers dies)
-
--- The data that is stored for all units.
-abbrev pub all_stored : List ℕ → List UnitHeader → List (List Declaration)
-    → Result (List StoredUnit) At
-all_stored info headers tables =
-    all_entries info headers tables >>= λ dies. Ok (stored_units headers dies)
+    → Result (List CompilationUnit) At
+all_entries info headers tables = each (λ _ p. unit_of info p.0 p.1) (zip headers tables)
 
 -- The bases that a root defines. A fault is reported at the offset of the root.
 abbrev pub bases_in : Sections → Format → Option RootEntry → Result Bases At
@@ -50,16 +46,11 @@ bases_in s format (Some root) = with_offset root.offset
     (bases_by s format root.str_offsets_base root.addr_base root.rnglists_base root.low_pc)
 
 -- The units with the bases that their roots define.
-abbrev pub all_units : Sections → List UnitHeader → List (List Die)
-    → Result (List CompilationUnit) At
-all_units s headers dies = each (λ _ p. unit_of s p.0 p.1) (zip headers dies)
+abbrev pub all_bases : Sections → List CompilationUnit → Result (List CompilationUnit) At
+all_bases s us = each (λ _ unit. with_bases s unit) us
 
 abbrev pub bases_of : CompilationUnit → Bases
 bases_of unit = unit.bases
-
--- The bases that all roots define.
-abbrev pub all_bases : Sections → List UnitHeader → List (List Die) → Result (List Bases) At
-all_bases s headers dies = all_units s headers dies >>= λ units. Ok (map bases_of units)
 
 -- The number of scopes of some units.
 abbrev pub number_of_scopes : List CompilationUnit → ℕ

@@ -1,8 +1,8 @@
-use Rattle.dwarf_walk.specs.Sections.{sections_of}
-use Rattle.dwarf_entries.proofs.UnitPasses.BasesPass.{root-fault}
+use Rattle.std.proofs.Common.{inr, sym}
+use Rattle.dwarf_entries.proofs.UnitPasses.PassLaws.{item-fault}
 use Rattle.dwarf_entries.proofs.passes.unit_bases.Goals as goal
 
 pub returns-in-Err : goal.returns-in-Err
 returns-in-Err c =
-    root-fault (sections_of c.args.sections.now) c.args.unit.now.header.format c.args.unit.now.root
-    c.in-Some.root c.in-Err.cause c.at_item.result c.in-Some.is c.in-Err.ensures c.at_item.ensures
+    rw (c.at_item.ensures, c.in-Some.is) (item-fault _ c.in-Err.cause c.in-Some.root.offset
+    (inr (sym c.in-Err.ensures)))

@@ -1,4 +1,4 @@
-use Rattle.dwarf_entries.proofs.UnitPasses.ContiguousUnits.{units-contiguous}
+use Rattle.dwarf_entries.proofs.UnitPasses.HeaderLaws.{units-contiguous}
 use Rattle.dwarf_entries.proofs.tree_laws.units_are_contiguous.Goals as goal
 
 pub returns : goal.returns

@@ -2,7 +2,8 @@ use Rattle.std.proofs.Common.{List, refl, sym, ap, ◌∙◌}
 use Rattle.std.specs.Prelude.{Some, None}
 use Rattle.dwarf_entries.specs.declared.calls.CallSite.{CallSite}
 use Rattle.dwarf_entries.specs.Scopes.{Scope, call_site}
-use Rattle.dwarf_entries.proofs.ScopePasses.SharedLaws.{found-at, not-at, call-there}
+use Rattle.dwarf_entries.proofs.ScopePasses.SharedLaws.{call-there}
+use Rattle.dwarf_entries.proofs.UnitPasses.PassLaws.{found-at, not-at}
 use Rattle.dwarf_entries.proofs.scopes.Scopes.call_of.Goals as goal
 
 pub returns-in-Some-clause-file : goal.returns-in-Some-clause-file

@@ -2,7 +2,8 @@ use Rattle.std.proofs.Common.{ℕ, sym, ap, ◌∙◌}
 use Rattle.std.specs.Prelude.{Some, None}
 use Rattle.dwarf_entries.specs.Scopes.{stmt_list_by_number}
 use Rattle.dwarf_entries.proofs.RootPasses.RootNumbers.{by_search}
-use Rattle.dwarf_entries.proofs.ScopePasses.SharedLaws.{found-at, not-at, stmt_list-there}
+use Rattle.dwarf_entries.proofs.UnitPasses.PassLaws.{found-at, not-at}
+use Rattle.dwarf_entries.proofs.ScopePasses.SharedLaws.{stmt_list-there}
 use Rattle.dwarf_entries.proofs.scopes.Scopes.stmt_list_of.Goals as goal
 
 pub returns-in_err-scope : goal.returns-in_err-scope

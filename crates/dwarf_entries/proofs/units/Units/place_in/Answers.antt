@@ -2,19 +2,21 @@ use Rattle.std.proofs.Common.{◌≡◌, ℕ, refl, sym, subst}
 use Rattle.std.specs.Prelude.{Option}
 use Rattle.dwarf_entries.specs.declared.references.UnitPlace.{UnitPlace}
 use Rattle.dwarf_entries.specs.Private.Members.{LeadsTo, member_in}
-use Rattle.dwarf_entries.proofs.UnitPasses.EntriesAtOffsets.{outside, within-stored}
+use Rattle.dwarf_entries.proofs.OriginChains.ReferenceLaws.{outside, within-stored}
 use Rattle.dwarf_entries.proofs.UnitPasses.ObjectLaws.{seen-units}
+use Rattle.dwarf_entries.proofs.UnitPasses.PassLaws.{found-at}
+use Rattle.dwarf_entries.proofs.UnitPasses.UnitLaws.{object-units}
 use Rattle.dwarf_entries.proofs.units.Units.place_in.Goals as goal
 
 pub returns-in_err-offset-clause-leads : goal.returns-in_err-offset-clause-leads
 returns-in_err-offset-clause-leads c =
     let us = c.args.self.now.units in
     let are = seen-units c.self.invariant c.self.view_is c.deref.ensures.value in
-    let unit = c.in_ok-stored.ensures.lookup.3 in
+    let k = c.in_ok-stored.stored.now in
     subst (λ (found : Option UnitPlace). LeadsTo us found (member_in us c.args.unit c.args.offset))
     (sym c.from_residual-in_err-offset.ensures)
-    (outside c.deref.result.now us are c.args.unit c.args.offset c.in_ok-stored.stored.now unit.0
-    unit.1 c.in_err-offset.ensures)
+    (outside (object-units _ _ c.self.view_is) c.deref.result.now are c.args.unit c.args.offset k
+    (found-at _ _ c.args.unit k refl c.in_ok-stored.ensures.lookup.3) c.in_err-offset.ensures)
 
 pub returns-clause-leads : goal.returns-clause-leads
 returns-clause-leads c =
@@ -25,7 +27,8 @@ returns-clause-leads c =
 pub returns-clause-within : goal.returns-clause-within
 returns-clause-within c =
     let are = seen-units c.self.invariant c.self.view_is c.deref.ensures.value in
-    let unit = c.in_ok-stored.ensures.lookup.3 in
+    let k = c.in_ok-stored.stored.now in
     let place = c.in_ok-offset.ensures in
-    within-stored c.deref.result.now c.args.self.now.units are c.args.unit c.in_ok-offset.offset
-    c.in_ok-stored.stored.now unit.0 unit.1 place.1 place.2
+    within-stored (object-units _ _ c.self.view_is) c.deref.result.now are c.args.unit
+    c.in_ok-offset.offset k (found-at _ _ c.args.unit k refl c.in_ok-stored.ensures.lookup.3) place.1
+    place.2

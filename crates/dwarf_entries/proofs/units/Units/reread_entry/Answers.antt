@@ -1,12 +1,14 @@
-use Rattle.std.proofs.Common.{ap, sym, ◌∙◌, arith}
+use Rattle.std.proofs.Common.{refl, sym, ◌∙◌, arith}
 use Rattle.std.proofs.lemmas.Option.{slice_get_within}
 use Rattle.std.proofs.lemmas.Result.{err_from_is_err_and}
 use Rattle.dwarf_bytes.proofs.Numbers.Moves.{same-ok}
-use Rattle.dwarf_walk.specs.Private.Stored.{StoredUnit, named_entry}
+use Rattle.dwarf_walk.specs.Private.Stored.{named_entry}
 use Rattle.dwarf_walk.proofs.RereadLaws.{again-memory}
-use Rattle.dwarf_entries.proofs.OriginChains.ReferenceLaws.{stored-length, stored-index}
-use Rattle.dwarf_entries.proofs.UnitPasses.RereadLaws.{reread}
 use Rattle.dwarf_entries.proofs.UnitPasses.ObjectLaws.{seen, seen-units, with-reader}
+use Rattle.dwarf_entries.proofs.UnitPasses.PassLaws.{found-at}
+use Rattle.dwarf_entries.proofs.UnitPasses.RereadLaws.{reread}
+use Rattle.dwarf_entries.proofs.UnitPasses.StoredUnits.{stored-length}
+use Rattle.dwarf_entries.proofs.UnitPasses.UnitLaws.{object-units}
 use Rattle.dwarf_entries.proofs.units.Units.reread_entry.Goals as goal
 
 pub returns-in_default-clause-member : goal.returns-in_default-clause-member
@@ -15,7 +17,7 @@ returns-in_default-clause-member c m at =
     let are = seen-units c.self.invariant c.self.view_is c.deref.ensures.value in
     let past = c.in_default.ensures.lookup.3 in
     let inside = slice_get_within us c.args.place.unit m.unit at.unit_is in
-    let len = stored-length c.deref.result.now us are.same in
+    let len = stored-length c.deref.result.now us are in
     absurd (omega (arith, past, inside, len))
 
 pub invariant_of-self : goal.invariant_of-self
@@ -25,15 +27,13 @@ pub returns-in_err-entry-clause-member : goal.returns-in_err-entry-clause-member
 returns-in_err-entry-clause-member c m at =
     let q = err_from_is_err_and c.from_residual.result c.from_residual.ensures.1 in
     let object = c.args.self.now in
-    let are = seen c.self.invariant c.self.view_is in
-    let unit = c.in-Some.ensures.lookup.3 in
-    let header = ap (λ (k : StoredUnit). k.header) (stored-index c.deref.result.now object.units
-    (seen-units c.self.invariant c.self.view_is c.deref.ensures.value).same c.args.place.unit
-    c.in-Some.stored.now (unit.1 c.in-Some.stored.now) m.unit at.unit_is) in
-    let r = reread object.sections object.units c.args.place m c.in-Some.stored.now.header
-    are.read_in at header in
+    let r = reread object.sections object.units c.deref.result.now c.args.place m
+    c.in-Some.stored.now (object-units _ _ c.self.view_is)
+    (seen-units c.self.invariant c.self.view_is c.deref.ensures.value)
+    (found-at _ _ c.args.place.unit _ refl c.in-Some.ensures.lookup.3) at in
     rw (q.1, q.2) (again-memory c.in_err-entry.field-0.0 _ (named_entry m.die) r.there
-    (c.in_err-entry.ensures.names_at object.sections r.table are.reader_is r.table_is))
+    (c.in_err-entry.ensures.names_at object.sections r.table
+    (seen c.self.invariant c.self.view_is).reader_is r.table_is))
 
 pub invariant_of-self-2 : goal.invariant_of-self-2
 invariant_of-self-2 c = with-reader _ c.self.invariant c.in_ok-entry.ensures.reader
@@ -41,16 +41,13 @@ invariant_of-self-2 c = with-reader _ c.self.invariant c.in_ok-entry.ensures.rea
 pub returns-clause-member : goal.returns-clause-member
 returns-clause-member c m at =
     let object = c.args.self.now in
-    let are = seen c.self.invariant c.self.view_is in
-    let unit = c.in-Some.ensures.lookup.3 in
-    let header = ap (λ (k : StoredUnit). k.header) (stored-index c.deref.result.now object.units
-    (seen-units c.self.invariant c.self.view_is c.deref.ensures.value).same c.args.place.unit
-    c.in-Some.stored.now (unit.1 c.in-Some.stored.now) m.unit at.unit_is) in
-    let r = reread object.sections object.units c.args.place m c.in-Some.stored.now.header
-    are.read_in at header in
+    let r = reread object.sections object.units c.deref.result.now c.args.place m
+    c.in-Some.stored.now (object-units _ _ c.self.view_is)
+    (seen-units c.self.invariant c.self.view_is c.deref.ensures.value)
+    (found-at _ _ c.args.place.unit _ refl c.in-Some.ensures.lookup.3) at in
     record {
       unit_is = at.unit_is;
       entry_is = same-ok c.in_ok-entry.entry (named_entry m.die)
-          (sym (c.in_ok-entry.ensures.names_at object.sections r.table are.reader_is r.table_is)
-          ∙ r.there);
+          (sym (c.in_ok-entry.ensures.names_at object.sections r.table
+          (seen c.self.invariant c.self.view_is).reader_is r.table_is) ∙ r.there);
     }

@@ -16,7 +16,7 @@ overflow_add-past c =
     let us = c.args.self.now.units in
     let are = seen-units c.self.invariant c.self.view_is c.deref-unit-items.ensures.value in
     let here = root-at c.deref-unit-items.result.now us c.loop-unit.unit-index c.unit-item.result
-    are.same c.loop-unit-test.true c.unit-item.is in
+    are c.loop-unit-test.true c.unit-item.is in
     let next = first-next us here.u c.loop-unit.unit-index c.loop-unit.first _ here.found
     c.loop-unit.invariant.first_is refl in
     let fits = count-fits us _ _ next in
@@ -31,7 +31,7 @@ loop-unit-preserved c =
     let roots = c.loop-unit.roots.items in
     let unit = c.unit-item.result in
     let are = seen-units c.self.invariant c.self.view_is c.deref-unit-items.ensures.value in
-    let here = root-at units us index unit are.same c.loop-unit-test.true c.unit-item.is in
+    let here = root-at units us index unit are c.loop-unit-test.true c.unit-item.is in
     let next = first-next us here.u index first (first + c.len.result) here.found
     c.loop-unit.invariant.first_is
     (omega (arith, here.count, c.len.ensures, unit.scopes.ok.0)) in
@@ -40,7 +40,7 @@ loop-unit-preserved c =
         first_is = rw w.first-is next;
         so_far = rw (w.roots-is, w.in_ok-push.ensures.items, w.first-is)
             (roots-turn units us index first (first + c.len.result) unit (Some w.in-Some.root)
-            roots are.same c.loop-unit-test.true c.unit-item.is c.loop-unit.invariant.so_far
+            roots are c.loop-unit-test.true c.unit-item.is c.loop-unit.invariant.so_far
             (ap (λ n. first + n) c.len.ensures) w.in-Some.is);
         order = rw (w.roots-is, w.in_ok-push.ensures.items, w.first-is)
             (ends-push roots first _ c.loop-unit.invariant.order (omega arith));
@@ -48,7 +48,7 @@ loop-unit-preserved c =
       | in_default w ↦ record {
         first_is = rw w.first-is next;
         so_far = rw (w.roots-is, w.first-is, ← append-nil roots)
-            (roots-turn units us index first (first + c.len.result) unit None roots are.same
+            (roots-turn units us index first (first + c.len.result) unit None roots are
             c.loop-unit-test.true c.unit-item.is c.loop-unit.invariant.so_far
             (ap (λ n. first + n) c.len.ensures) w.in_default.is);
         order = rw (w.roots-is, w.first-is)
@@ -63,5 +63,5 @@ pub returns-clause-roots : goal.returns-clause-roots
 returns-clause-roots c =
     let are = seen-units c.self.invariant c.self.view_is c.deref-unit-items.ensures.value in
     roots-end c.deref-unit-items.result.now c.args.self.now.units c.loop-unit.unit-index
-    c.loop-unit.first c.loop-unit.roots.items are.same c.loop-unit-test.false
+    c.loop-unit.first c.loop-unit.roots.items are c.loop-unit-test.false
     c.loop-unit.invariant.so_far

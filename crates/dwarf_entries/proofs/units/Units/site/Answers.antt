@@ -5,10 +5,11 @@ use Rattle.dwarf_bytes.specs.Refusals.{at_item}
 use Rattle.dwarf_bytes.proofs.Numbers.Moves.{same-ok}
 use Rattle.dwarf_walk.specs.Private.Stored.{scope_entry}
 use Rattle.dwarf_walk.proofs.RereadLaws.{again-memory}
-use Rattle.dwarf_entries.proofs.OriginChains.ReferenceLaws.{stored-index}
-use Rattle.dwarf_entries.proofs.ScopePasses.ScopesPass.{unit-there}
 use Rattle.dwarf_entries.proofs.ScopePasses.SiteLaws.{sites-stored, site-read}
 use Rattle.dwarf_entries.proofs.UnitPasses.ObjectLaws.{seen, with-reader}
+use Rattle.dwarf_entries.proofs.UnitPasses.PassLaws.{element}
+use Rattle.dwarf_entries.proofs.UnitPasses.StoredUnits.{stored-here, stored-index}
+use Rattle.dwarf_entries.proofs.UnitPasses.UnitLaws.{object-units}
 use Rattle.dwarf_entries.proofs.units.Units.site.Goals as goal
 
 pub index-place-requires : goal.index-place-requires
@@ -16,9 +17,10 @@ index-place-requires c =
     let are = seen c.self.invariant c.self.view_is in
     let us = c.args.self.now.units in
     let k = c.index-stored.result.now in
-    let u = unit-there us c.args.unit c.requires.unit in
-    let sizes = sites-stored k u.0 (stored-index c.self.inside.units.items us are.stored_are.same
-    c.args.unit k c.index-stored.ensures u.0 u.1) in
+    let u = element us c.args.unit c.requires.unit in
+    let sizes = sites-stored k u.0 (stored-index _ us c.args.unit k are.stored_are
+    (stored-here _ us c.args.unit k are.stored_are c.requires.unit c.index-stored.ensures) u.0 u.1)
+    in
     let within = c.requires.index u.0 u.1 in
     omega (arith, sizes, within, k.scopes.ok.0)
 
@@ -30,11 +32,11 @@ returns-in-Err-clause-site c u found =
     let are = seen c.self.invariant c.self.view_is in
     let object = c.args.self.now in
     let k = c.index-stored.result.now in
-    let same = stored-index c.self.inside.units.items object.units are.stored_are.same c.args.unit k
-    c.index-stored.ensures u found in
+    let same = stored-index _ object.units c.args.unit k are.stored_are (stored-here _ object.units
+    c.args.unit k are.stored_are c.requires.unit c.index-stored.ensures) u found in
     let r = site-read object.sections object.units c.args.unit u c.args.index k
-    c.index-place.result.now are.read_in found same (c.requires.index u found) c.index-place.ensures
-    in
+    c.index-place.result.now (object-units _ _ c.self.view_is) found same
+    (c.requires.index u found) c.index-place.ensures in
     c.at_item.ensures ∙ ap (λ (e : Cause). at_item names.DebugInfo e c.from-at.result)
     (again-memory c.in-Err.cause _ _ r.there
     (c.in-Err.ensures.scope object.sections r.table are.reader_is r.table_is))
@@ -47,11 +49,11 @@ returns-clause-site c u found =
     let are = seen c.self.invariant c.self.view_is in
     let object = c.args.self.now in
     let k = c.index-stored.result.now in
-    let same = stored-index c.self.inside.units.items object.units are.stored_are.same c.args.unit k
-    c.index-stored.ensures u found in
+    let same = stored-index _ object.units c.args.unit k are.stored_are (stored-here _ object.units
+    c.args.unit k are.stored_are c.requires.unit c.index-stored.ensures) u found in
     let r = site-read object.sections object.units c.args.unit u c.args.index k
-    c.index-place.result.now are.read_in found same (c.requires.index u found) c.index-place.ensures
-    in
+    c.index-place.result.now (object-units _ _ c.self.view_is) found same
+    (c.requires.index u found) c.index-place.ensures in
     rw r.site.here (
       same-ok c.in-Ok.entry (scope_entry r.site.place.member.die r.site.place.kind)
           (sym (c.in-Ok.ensures.scope object.sections r.table are.reader_is r.table_is)

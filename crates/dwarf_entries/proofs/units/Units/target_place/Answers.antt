@@ -1,13 +1,15 @@
-use Rattle.std.proofs.Common.{◌+◌, subst, sym, ap, arith}
+use Rattle.std.proofs.Common.{◌+◌, refl, subst, sym, ap, arith}
 use Rattle.std.specs.Prelude.{Result}
 use Rattle.std.proofs.lemmas.Option.{slice_get_within}
 use Rattle.dwarf_bytes.specs.declared.fault.Cause.{Cause}
 use Rattle.dwarf_entries.specs.Names.{Member}
 use Rattle.dwarf_entries.specs.Private.Members.{LeadsTo}
 use Rattle.dwarf_walk.specs.Private.Stored.{StoredUnit}
-use Rattle.dwarf_entries.proofs.OriginChains.ReferenceLaws.{stored-length, stored-index}
-use Rattle.dwarf_entries.proofs.OriginChains.ReferencedEntries.{anywhere, within-unit}
+use Rattle.dwarf_entries.proofs.OriginChains.ReferenceLaws.{anywhere, within-unit}
 use Rattle.dwarf_entries.proofs.UnitPasses.ObjectLaws.{seen-units}
+use Rattle.dwarf_entries.proofs.UnitPasses.PassLaws.{found-at}
+use Rattle.dwarf_entries.proofs.UnitPasses.StoredUnits.{stored-length, stored-index}
+use Rattle.dwarf_entries.proofs.UnitPasses.UnitLaws.{object-units}
 use Rattle.dwarf_entries.proofs.units.Units.target_place.Goals as goal
 
 pub returns-then-reference-eq-DW_FORM_REF_ADDR-clause-leads :
@@ -16,8 +18,8 @@ returns-then-reference-eq-DW_FORM_REF_ADDR-clause-leads c u at =
     let us = c.args.self.now.units in
     let are = seen-units c.self.invariant c.self.view_is c.deref.ensures.value in
     subst (λ (outcome : Result Member Cause). LeadsTo us c.place_in.result outcome)
-    (anywhere c.deref.result.now us are c.ends_by.result c.from-number.result
-    c.ends_by.ensures.within c.ends_by.ensures.parts u c.args.reference
+    (anywhere (object-units _ _ c.self.view_is) c.deref.result.now are c.ends_by.result
+    c.from-number.result c.ends_by.ensures.parts u c.args.reference
     c.if-reference-eq-DW_FORM_REF_ADDR.true (sym c.from-number.ensures)) c.place_in.ensures.leads
 
 pub returns-in_err-start-clause-leads : goal.returns-in_err-start-clause-leads
@@ -26,17 +28,17 @@ returns-in_err-start-clause-leads c u at =
     let are = seen-units c.self.invariant c.self.view_is c.deref-2.ensures.value in
     let past = c.in_err-start.ensures.lookup.3 in
     let inside = slice_get_within us c.args.unit u at in
-    let len = stored-length c.deref-2.result.now us are.same in
+    let len = stored-length c.deref-2.result.now us are in
     absurd (omega (arith, past, inside, len))
 
 pub returns-clause-leads : goal.returns-clause-leads
 returns-clause-leads c u at =
     let us = c.args.self.now.units in
     let are = seen-units c.self.invariant c.self.view_is c.deref-2.ensures.value in
-    let unit = c.in_ok-start.ensures.lookup.3 in
-    let start = ap (λ (k : StoredUnit). k.header.start)
-    (stored-index c.deref-2.result.now us are.same c.args.unit c.in_ok-start.field-0.now
-    (unit.1 c.in_ok-start.field-0.now) u at) in
+    let k = c.in_ok-start.field-0.now in
+    let start = ap (λ (x : StoredUnit). x.header.start)
+    (stored-index c.deref-2.result.now us c.args.unit k are
+    (found-at _ _ c.args.unit k refl c.in_ok-start.ensures.lookup.3) u at) in
     let number = c.from-number.ensures in
     subst (λ (outcome : Result Member Cause). LeadsTo us c.place_in-2.result outcome)
     (within-unit us c.args.unit (c.in_ok-start.field-0.now.header.start + c.from-number.result) u

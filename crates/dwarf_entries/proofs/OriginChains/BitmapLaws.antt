@@ -1,0 +1,98 @@
+-- An entry is at an offset of a unit if its bit is set.
+use Rattle.std.proofs.Common.{◌≡◌, ℕ, suc, List, [], ◌∷◌, Bool, true, false, cond, ◌==◌, ◌||◌}
+use Rattle.std.proofs.Common.{refl, sym, ap, ◌∙◌, subst}
+use Rattle.std.specs.Prelude.{Option, Some, None, is_some, find, slice_get, option_map, ok_or}
+use Rattle.std.specs.Option.{option_or}
+use Rattle.std.specs.List.{list_any}
+use Rattle.std.proofs.lemmas.Bool.{eqb-true}
+use Rattle.std.proofs.lemmas.List.Folds.{list_any-append}
+use Rattle.std.proofs.lemmas.Option.{same_Some}
+use Rattle.dwarf_bytes.specs.declared.fault.Cause.TheVariants as causes
+use Rattle.dwarf_units.specs.Entries.{Die}
+use Rattle.dwarf_walk.specs.declared.entry_bitmap.EntryBitmap.{EntryBitmap}
+use Rattle.dwarf_walk.specs.Private.EntryBitmap.{has_entry, offsets_of}
+use Rattle.dwarf_walk.specs.Sections.{Sections}
+use Rattle.dwarf_entries.specs.declared.references.UnitPlace.{UnitPlace}
+use Rattle.dwarf_entries.specs.Bases.{CompilationUnit}
+use Rattle.dwarf_entries.specs.Names.{Member, members_of}
+use Rattle.dwarf_entries.specs.Private.EntryOffsets.{IsBitmapOf, all_offsets}
+use Rattle.dwarf_entries.specs.Private.Members.{IsWithin, Finds, member_in}
+use Rattle.dwarf_entries.proofs.UnitPasses.UnitLaws.{AreUnitsIn}
+use Rattle.dwarf_entries.proofs.OriginChains.ReferenceLaws.{is_at_offset, member_of, die_at}
+use Rattle.dwarf_entries.proofs.OriginChains.ReferenceLaws.{find-units, member-is, in-own}
+
+any-dies : (u : CompilationUnit) (offset : ℕ) (dies : List Die)
+    → list_any (λ place. place == offset) (offsets_of dies)
+    ≡ is_some (option_map (member_of u) (find (λ die. die.offset == offset) dies))
+any-dies u offset [] = refl
+any-dies u offset (die ∷ dies) = by_test (die.offset == offset) (any-dies u offset dies)
+  where
+    found : Option Die
+    found = find (λ die. die.offset == offset) dies
+
+    by_test : (b : Bool) → list_any (λ place. place == offset) (offsets_of dies)
+        ≡ is_some (option_map (member_of u) found)
+        → (b || list_any (λ place. place == offset) (offsets_of dies))
+        ≡ is_some (option_map (member_of u) (cond b (Some die) found))
+    by_test true h = refl
+    by_test false h = h
+
+is_some-or : {X : Type 0} (a b : Option X) → (is_some a || is_some b) ≡ is_some (option_or a b)
+is_some-or None b = refl
+is_some-or (Some x) b = refl
+
+any-members : (offset : ℕ) (us : List CompilationUnit)
+    → list_any (λ place. place == offset) (all_offsets us)
+    ≡ is_some (find (is_at_offset offset) (members_of us))
+any-members offset [] = refl
+any-members offset (u ∷ us) =
+    list_any-append (λ (place : ℕ). place == offset) (offsets_of u.dies) (all_offsets us)
+    ∙ (rw (any-dies u offset u.dies, any-members offset us)
+    (is_some-or (option_map (member_of u) (die_at u offset))
+    (find (is_at_offset offset) (members_of us)))
+    ∙ ap (λ (o : Option Member). is_some o) (sym (find-units u us offset)))
+
+-- The element that is found is in the list and passes the test.
+find-index : (p : Die → Bool) (dies : List Die) (die : Die) → find p dies ≡ Some die
+    → (i : ℕ) × (slice_get dies i ≡ Some die) × (p die ≡ true)
+find-index p [] die h = cc
+find-index p (d ∷ dies) die h = by_test (p d) refl h (λ later. find-index p dies die later)
+  where
+    by_test : (b : Bool) → p d ≡ b → cond b (Some d) (find p dies) ≡ Some die
+        → (find p dies ≡ Some die → (i : ℕ) × (slice_get dies i ≡ Some die) × (p die ≡ true))
+        → (i : ℕ) × (slice_get (d ∷ dies) i ≡ Some die) × (p die ≡ true)
+    by_test true passes h later = (0, h, subst (λ (e : Die). p e ≡ true) (same_Some d die h) passes)
+    by_test false passes h later = let behind = later h in (suc behind.0, behind.1, behind.2)
+
+pub finds-inside : {s : Sections} {us : List CompilationUnit} → AreUnitsIn s us
+    → (bitmap : EntryBitmap) → IsBitmapOf bitmap us → (place : UnitPlace) → IsWithin us place
+    → (marked : Bool) → marked ≡ has_entry bitmap place.offset
+    → Finds us (cond marked (Some place) None) (member_in us place.unit place.offset)
+finds-inside {us = us} are bitmap all place within marked marked_is =
+    by_die (die_at u place.offset) refl marked (marked_is ∙ (all place.offset
+    ∙ (any-members place.offset us ∙ ap (λ (o : Option Member). is_some o)
+    (in-own are place.unit place.offset u within.of_is within.low within.high))))
+    (member-is us place.unit place.offset u within.of_is)
+  where
+    u : CompilationUnit
+    u = within.of
+
+    by_die : (die : Option Die) → die_at u place.offset ≡ die → (marked : Bool)
+        → marked ≡ is_some (option_map (member_of u) die) → member_in us place.unit place.offset
+        ≡ ok_or (option_map (member_of u) die) causes.Reference
+        → Finds us (cond marked (Some place) None) (member_in us place.unit place.offset)
+    by_die None here false same outcome = outcome
+    by_die None here true same outcome = cc
+    by_die (Some d) here false same outcome = cc
+    by_die (Some d) here true same outcome =
+        let there = find-index (λ die. die.offset == place.offset) u.dies d here in (
+          member_of u d,
+          outcome,
+          record {
+            unit_is = within.of_is;
+            offset_is = eqb-true d.offset place.offset there.2;
+            index = there.0;
+            there = there.1;
+            found = outcome;
+          },
+        )

@@ -1,0 +1,201 @@
+-- The units of .debug_info are contiguous, and so are the nodes of a unit up to its end.
+use Rattle.std.proofs.Common.{◌≡◌, ℕ, ◌+◌, ◌<◌, ◌≤◌, List, [], ◌∷◌, ◌++◌, length, take, ap, sym}
+use Rattle.std.proofs.Common.{◌∙◌, subst, arith, length-take}
+use Rattle.std.specs.Prelude.{Ok, All, Contains, nat_lt, nat_le, ◌==◌, not, ok_or, filter}
+use Rattle.std.specs.List.{AllPairs, filter_map, list_any}
+use Rattle.std.proofs.lemmas.Bool.{leb-true}
+use Rattle.std.proofs.lemmas.List.Elements.{All-nil, All-cons, All-contains, All-weaker, All-filter}
+use Rattle.std.proofs.lemmas.List.Kept.{AllPairs-cons, AllPairs-filter}
+use Rattle.dwarf_bytes.specs.declared.fault.Cause.TheVariants as causes
+use Rattle.dwarf_bytes.specs.declared.format.Format.{Format}
+use Rattle.dwarf_bytes.specs.Numbers.{u8_at, u16_at, initial_length_at, offset_at}
+use Rattle.dwarf_bytes.specs.Items.{Item, End, Lists, reading, items_from}
+use Rattle.dwarf_bytes.proofs.Numbers.LengthLaws.{initial_length_at-moves}
+use Rattle.dwarf_bytes.proofs.Numbers.Advance.{after-bind, after-test, chosen, reading-ok}
+use Rattle.dwarf_bytes.proofs.Items.ItemLaws.{Lists-within}
+use Rattle.dwarf_bytes.proofs.Numbers.Moves.{same-ok, same-item, same-end}
+use Rattle.dwarf_forms.specs.Declarations.{Declaration}
+use Rattle.dwarf_units.specs.declared.unit_headers.UnitHeader.{UnitHeader}
+use Rattle.dwarf_units.specs.Units.{unit_type_of, is_read_type, is_read, header_in, unit_at}
+use Rattle.dwarf_units.specs.Units.{header_at, headers_of, units_of}
+use Rattle.dwarf_units.specs.Entries.{LocatedNode, Die, is_root, depth_after, node_at_depth}
+use Rattle.dwarf_units.specs.Entries.{node_at, die_of, entries_of}
+use Rattle.dwarf_units.proofs.EntryMoves.{fixed-stays, offset-stays}
+use Rattle.dwarf_units.proofs.UnitLaws.{header_in-places, unit_at-moves}
+use Rattle.dwarf_units.proofs.NodeLaws.{node_at-facts}
+use Rattle.dwarf_units.proofs.EntryOrder.{list-in}
+use Rattle.dwarf_entries.specs.TreeLaws.{AreContiguous, FillsUnit}
+
+-- ---- the bounds of a unit
+
+-- The first entry is not before the start of its unit and not after its end.
+header_in-first : (start : ℕ) (format : Format) (unit : List ℕ) (at : ℕ) (header : UnitHeader)
+    → header_in start format unit at ≡ Ok header
+    → (at ≤ header.first) × (header.first ≤ length unit)
+header_in-first start format unit at header h =
+    after-bind (reading (u16_at unit at)) _ header h (Fits header) (λ version version_is h1.
+    after-test (not (version.0 == 5)) causes.Version _ header h1 (Fits header) (λ _ h2.
+    after-bind (reading (u8_at unit version.1)) _ header h2 (Fits header) (λ number number_is h3.
+    after-bind (ok_or (unit_type_of number.0) causes.UnitType) _ header h3 (Fits header)
+    (λ unit_type _ h4.
+    let versioned = fixed-stays 2 unit at version
+    (reading-ok (u16_at unit at) version version_is) in
+    let typed = fixed-stays 1 unit version.1 number
+    (reading-ok (u8_at unit version.1) number number_is) in
+    chosen (not (is_read_type unit_type)) _ _ (Ok header) h4 (Fits header)
+    (λ _ last. subst Fits (same-ok _ header last)
+    (omega (arith, versioned.0, versioned.1), omega arith)) (λ _ h5.
+    after-bind (reading (u8_at unit number.1)) _ header h5 (Fits header) (λ size size_is h6.
+    after-test (not (size.0 == 8)) causes.AddressSize _ header h6 (Fits header) (λ _ h7.
+    after-bind (reading (offset_at format unit size.1)) _ header h7 (Fits header)
+    (λ abbreviations abbreviations_are last.
+    let sized = fixed-stays 1 unit number.1 size (reading-ok (u8_at unit number.1) size size_is) in
+    let abbreviated = offset-stays format unit size.1 abbreviations
+    (reading-ok (offset_at format unit size.1) abbreviations abbreviations_are) in
+    subst Fits (same-ok _ header last)
+    (omega (arith, versioned.0, typed.0, sized.0, abbreviated.0), abbreviated.1)))))))))
+  where
+    Fits : UnitHeader → Type 0
+    Fits header = (at ≤ header.first) × (header.first ≤ length unit)
+
+-- The bounds in a header are in order, within the section.
+pub record HasBounds (size : ℕ) (header : UnitHeader) : Type 0 where
+  pub first : header.start ≤ header.first
+  pub last : header.first ≤ header.end
+  pub within : header.end ≤ size
+
+unit_at-bounds : (info : List ℕ) (at : ℕ) (header : UnitHeader) → unit_at info at ≡ Ok header
+    → (header.start ≡ at) × HasBounds (length info) header
+unfolding unit_at
+unit_at-bounds info at header h =
+    let P : Type 0 = (header.start ≡ at) × HasBounds (length info) header in
+    let moves = unit_at-moves info at header h in
+    after-bind (reading (initial_length_at info at)) _ header h P (λ len len_is h1.
+    after-test (nat_lt (length info) (len.1 + len.0.1)) causes.Short _ header h1 P (λ fits h2.
+    let moved = (initial_length_at-moves info at len
+    (reading-ok (initial_length_at info at) len len_is)).0 in
+    let unit : List ℕ = take (len.1 + len.0.1) info in
+    let places = header_in-places at len.0.0 unit len.1 header h2 in
+    let first = header_in-first at len.0.0 unit len.1 header h2 in (
+      places.0,
+      record {
+        first = omega (arith, moved, places.0, first.0);
+        last = omega (arith, places.1, first.1);
+        within = moves.1;
+      },
+    )))
+
+-- ---- contiguous units
+
+list-contiguous : (info : List ℕ) (before : List UnitHeader) (at : ℕ) (headers : List UnitHeader)
+    (after : ℕ) → Lists (header_at info) before at headers after → at ≤ length info
+    → AreContiguous info at headers
+list-contiguous info before at [] after h le =
+    chosen (nat_le (length info) at) _ _ (Ok (End after)) h (at ≡ length info)
+    (λ past _. let ge = leb-true (length info) at past in omega (arith, le, ge)) (λ _ h1.
+    after-bind (unit_at info at) _ (End after) h1 (at ≡ length info) (λ _ _ last. cc))
+list-contiguous info before at (header ∷ headers) after h le =
+    let P : Type 0 = AreContiguous info at (header ∷ headers) in
+    chosen (nat_le (length info) at) _ _ (Ok (Item header h.0)) h.1 P (λ _ is. cc) (λ _ h1.
+    after-bind (unit_at info at) _ (Item header h.0) h1 P (λ found found_is last.
+    let same = same-item found header found.end h.0 last in
+    let read : unit_at info at ≡ Ok header =
+    subst (λ (u : UnitHeader). unit_at info at ≡ Ok u) same.0 found_is in
+    let moves = unit_at-moves info at header read in
+    let place : h.0 ≡ header.end = sym same.1 ∙ ap (λ (u : UnitHeader). u.end) same.0 in (
+      read,
+      (unit_at-bounds info at header read).0,
+      moves.0,
+      subst (λ (k : ℕ). AreContiguous info k headers) place (list-contiguous info
+          (before ++ header ∷ []) h.0 headers after h.2 (omega (arith, place, moves.1))),
+    )))
+
+pub units-contiguous : (info : List ℕ) (headers : List UnitHeader) → headers_of info ≡ Ok headers
+    → AreContiguous info 0 headers
+unfolding headers_of
+units-contiguous info headers h =
+    after-bind (items_from (length info) (header_at info) [] 0) (λ all. Ok all.0) headers h
+    (AreContiguous info 0 headers) (λ all all_is last.
+    subst (AreContiguous info 0) (same-ok all.0 headers last)
+    (list-contiguous info [] 0 all.0 all.1 (Lists-within _ (header_at info) [] 0 all.0 all.1 all_is)
+    (omega arith)))
+
+-- A unit ends at or before the start of another.
+abbrev pub IsBefore : UnitHeader → UnitHeader → Type 0
+IsBefore a b = a.end ≤ b.start
+
+pub record AreHeadersIn (size : ℕ) (headers : List UnitHeader) : Type 0 where
+  pub apart : AllPairs IsBefore headers
+  pub bounded : All (HasBounds size) headers
+
+contiguous-headers : (info : List ℕ) (at : ℕ) (headers : List UnitHeader)
+    → AreContiguous info at headers
+    → All (λ header. at ≤ header.start) headers × AreHeadersIn (length info) headers
+contiguous-headers info at [] h = (
+  All-nil _,
+  record {
+    apart = λ i j d lt within. absurd (omega (arith, within));
+    bounded = All-nil _;
+  },
+)
+contiguous-headers info at (header ∷ headers) h =
+    let start : header.start ≡ at = h.1 in
+    let moves : at < header.end = h.2 in
+    let rest = contiguous-headers info header.end headers h.3 in (
+      All-cons (λ (g : UnitHeader). at ≤ g.start) header headers (omega (arith, start))
+          (All-weaker (λ (g : UnitHeader). header.end ≤ g.start) (λ (g : UnitHeader). at ≤ g.start)
+          (λ g after. omega (arith, after, moves)) headers rest.0),
+      record {
+        apart = AllPairs-cons IsBefore header headers rest.0 rest.1.apart;
+        bounded = All-cons (HasBounds (length info)) header headers
+            (unit_at-bounds info at header h.0).1 rest.1.bounded;
+      },
+    )
+
+pub headers-in : (info : List ℕ) (headers : List UnitHeader) → units_of info ≡ Ok headers
+    → AreHeadersIn (length info) headers
+unfolding units_of
+headers-in info headers h =
+    let P : Type 0 = AreHeadersIn (length info) headers in
+    after-bind (headers_of info) (λ all. Ok (filter is_read all)) headers h P (λ all all_is last.
+    let order = (contiguous-headers info 0 all (units-contiguous info all all_is)).1 in
+    subst (AreHeadersIn (length info)) (same-ok (filter is_read all) headers last) (record {
+      apart = AllPairs-filter IsBefore is_read all order.apart;
+      bounded = All-filter is_read (HasBounds (length info)) all order.bounded;
+    }))
+
+-- ---- the nodes of a unit
+
+-- The last node ends where the unit ends.
+filled : (format : Format) (table : List Declaration) (unit : List ℕ) (before : List LocatedNode)
+    (at : ℕ) (all : List LocatedNode) (after : ℕ)
+    → Lists (node_at format table unit) before at all after → at ≤ length unit → after ≡ length unit
+filled format table unit before at [] after h le =
+    chosen (nat_le (length unit) at) _ _ (Ok (End after)) h (after ≡ length unit)
+    (λ past is. let ge = leb-true (length unit) at past in let same = same-end at after is in
+    omega (arith, le, ge, same)) (λ _ h1.
+    after-bind (node_at_depth format table (depth_after before) (list_any is_root before) unit at) _
+    (End after) h1 (after ≡ length unit) (λ _ _ last. cc))
+filled format table unit before at (x ∷ all) after h le =
+    let here = node_at-facts format table unit before at x h.0 h.1 in
+    filled format table unit (before ++ x ∷ []) h.0 all after h.2 (omega (arith, here.moves.1))
+
+pub entries-contiguous : (info : List ℕ) (headers : List UnitHeader) (header : UnitHeader)
+    (table : List Declaration) (dies : List Die) → units_of info ≡ Ok headers
+    → Contains headers header → entries_of info header table ≡ Ok dies
+    → (all : List LocatedNode) × FillsUnit info header table all × (filter_map die_of all ≡ dies)
+entries-contiguous info headers header table dies read inside h =
+    let bounds = All-contains (HasBounds (length info)) headers header
+    (headers-in info headers read).bounded inside in
+    let unit : List ℕ = take header.end info in
+    let size : length unit ≡ header.end = let taken = length-take header.end info in
+    omega (arith, taken, bounds.within) in
+    list-in info header table dies ((all : List LocatedNode) × FillsUnit info header table all
+    × (filter_map die_of all ≡ dies)) h (λ all after lists same.
+    let end_is : after ≡ header.end = filled header.format table unit [] header.first all after
+    lists (omega (arith, size, bounds.last)) ∙ size in (
+      all,
+      subst (λ (k : ℕ). Lists (node_at header.format table unit) [] header.first all k) end_is
+          lists,
+      same,
+    ))

@@ -1,0 +1,155 @@
+-- A pass over a list, which stops at the first element that is refused.
+use Rattle.std.proofs.Common.{◌≡◌, ◌⊎◌, inl, inr, ℕ, zero, suc, ◌+◌, ◌<◌, ◌≤◌, List, [], ◌∷◌, ◌++◌}
+use Rattle.std.proofs.Common.{length, take, drop, get_or, refl, ap, sym, ◌∙◌, subst, arith}
+use Rattle.std.proofs.Common.{length-append}
+use Rattle.std.specs.Prelude.{Some, None, Result, Ok, Err, slice_get}
+use Rattle.std.proofs.lemmas.List.{drop_all}
+use Rattle.std.proofs.lemmas.Option.{same_Some, slice_get_within, get_or_from_slice_get}
+use Rattle.std.proofs.lemmas.Option.{slice_get_read, slice_get_past}
+use Rattle.dwarf_bytes.specs.declared.fault.Cause.{Cause}
+use Rattle.dwarf_bytes.specs.declared.fault.Cause.TheVariants as causes
+use Rattle.dwarf_bytes.specs.declared.fault.Section.{Section}
+use Rattle.dwarf_bytes.specs.declared.fault.Section.TheVariants as names
+use Rattle.dwarf_bytes.specs.declared.fault.LoadFault.{LoadFault}
+use Rattle.dwarf_bytes.specs.Bind.{◌>>=◌}
+use Rattle.dwarf_bytes.specs.Items.{At, each, each_from, with_offset}
+use Rattle.dwarf_bytes.specs.Refusals.{Fails, memory_fault, at_item, in_section}
+use Rattle.dwarf_bytes.proofs.Items.EachLaws.{made_front, each-next, each-fault, each-end}
+use Rattle.dwarf_bytes.proofs.Items.EachPlaces.{each-length, each-place}
+
+-- ---- elements by index
+
+pub element : {X : Type 0} (xs : List X) (n : ℕ) → n < length xs
+    → (x : X) × (slice_get xs n ≡ Some x)
+element [] n lt = absurd (omega (arith, lt))
+element (x ∷ xs) zero lt = (x, refl)
+element (x ∷ xs) (suc n) lt = element xs n (omega (arith, lt))
+
+pub drop-at : {X : Type 0} (xs : List X) (n : ℕ) (x : X) → slice_get xs n ≡ Some x
+    → drop n xs ≡ x ∷ drop (suc n) xs
+drop-at [] n x h = cc
+drop-at {X} (y ∷ ys) zero x h = ap (λ (z : X). z ∷ ys) (same_Some y x h)
+drop-at (y ∷ ys) (suc n) x h = drop-at ys n x h
+
+-- The element that a lookup returns.
+pub found-at : {X : Type 0} (list items : List X) (n : ℕ) (x : X) → list ≡ items
+    → (n < length list) × ((d : X) → x ≡ get_or list n d) → slice_get items n ≡ Some x
+found-at list items n x same found = subst (λ (xs : List _). slice_get xs n ≡ Some x) same
+    (slice_get_read list (length list) n x refl found.0 (found.1 x))
+
+pub not-at : {X : Type 0} (list items : List X) (n : ℕ) → list ≡ items → length list ≤ n
+    → slice_get items n ≡ None
+not-at list items n same past = subst (λ (xs : List _). slice_get xs n ≡ None) same
+    (slice_get_past list n past)
+
+-- The element that an element of the result was made from.
+pub each-at : {X Y : Type 0} (make : List Y → X → Result Y At) (before : List Y) (xs : List X)
+    (ys : List Y) → each_from make before xs ≡ Ok ys → (i : ℕ) (y : Y) → slice_get ys i ≡ Some y
+    → (x : X) × (slice_get xs i ≡ Some x) × (make (before ++ take i ys) x ≡ Ok y)
+each-at {X = X} {Y = Y} make before xs ys h i y found =
+    let within = slice_get_within ys i y found in
+    let size = each-length make before xs ys h in
+    let x = element xs i (omega (arith, within, size)) in
+    let read = each-place make before xs ys h i x.0 y (omega (arith, within, size)) in (
+      x.0,
+      x.1,
+      subst (λ (z : X). make (before ++ take i ys) z ≡ Ok y)
+          (get_or_from_slice_get xs i x.0 x.0 x.1)
+          (subst (λ (z : Y). make (before ++ take i ys) (get_or xs i x.0) ≡ Ok z)
+          (get_or_from_slice_get ys i y y found) read),
+    )
+
+-- ---- faults
+
+-- The fault of an element, reported at its offset.
+pub item-fault : {X : Type 0} (r : Result X Cause) (cause : Cause) (at : ℕ) → Fails cause r
+    → (at_item names.DebugInfo cause at ≡ memory_fault)
+    ⊎ (in_section names.DebugInfo (with_offset at r) ≡ Err (at_item names.DebugInfo cause at))
+item-fault r cause at (inl memory) =
+    inl (ap (λ (c : Cause). at_item names.DebugInfo c at) memory)
+item-fault r causes.Memory at (inr bad) = inl refl
+item-fault r cause at (inr bad) = inr (rw bad refl)
+
+-- The fault of a read in .debug_info, or memory ran out.
+abbrev pub Faults : {X : Type 0} → LoadFault → Result X At → Type 0
+Faults fault r = (fault ≡ memory_fault) ⊎ (in_section names.DebugInfo r ≡ Err fault)
+
+-- If a read succeeds, its only fault is that memory ran out.
+pub only-memory : {X : Type 0} (section : Section) (r : Result X At) (x : X) (fault : LoadFault)
+    → r ≡ Ok x → (fault ≡ memory_fault) ⊎ (in_section section r ≡ Err fault)
+    → fault ≡ memory_fault
+only-memory section r x fault is (inl memory) = memory
+only-memory section (Ok y) x fault is (inr bad) = cc
+only-memory section (Err e) x fault is (inr bad) = cc
+
+-- The fault of the first of two steps.
+pub first-fault : {X Y : Type 0} {fault : LoadFault} (r : Result X At) (f : X → Result Y At)
+    → Faults fault r → Faults fault (r >>= f)
+first-fault r f (inl memory) = inl memory
+first-fault (Ok x) f (inr bad) = cc
+first-fault (Err e) f (inr bad) = inr cc
+
+-- A step that succeeds has no fault.
+abbrev pub done : {Y : Type 0} → Y → Result Y At
+done y = Ok y
+
+pub before-done : {X Y : Type 0} {fault : LoadFault} (r : Result X At) (f : X → Y)
+    → Faults fault (r >>= λ x. done (f x)) → Faults fault r
+before-done r f (inl memory) = inl memory
+before-done (Ok x) f (inr bad) = cc
+before-done (Err e) f (inr bad) = inr cc
+
+pub after-done : {X Y : Type 0} (r : Result X At) (f : X → Y) (y : Y)
+    → in_section names.DebugInfo (r >>= λ x. done (f x)) ≡ Ok y
+    → (x : X) × (r ≡ Ok x) × (f x ≡ y)
+after-done (Ok x) f y h = (x, refl, cc)
+after-done (Err e) f y h = cc
+
+-- ---- the iterations
+
+-- The results for the elements before an index, followed by those for the rest, are all results.
+pub record PassedTo {X Y : Type 0} (make : List Y → X → Result Y At) (xs : List X) (index : ℕ)
+    (made : List Y) : Type 0 where
+  pub len : length made ≡ index
+  pub read : made_front made (each_from make made (drop index xs)) ≡ each make xs
+
+pub pass-none : {X Y : Type 0} {make : List Y → X → Result Y At} {xs : List X}
+    → PassedTo make xs 0 []
+pass-none {make = make} {xs = xs} = record { len = refl; read = whole (each make xs) }
+  where
+    whole : {Y : Type 0} (r : Result (List Y) At) → made_front [] r ≡ r
+    whole (Ok ys) = refl
+    whole (Err e) = refl
+
+module _ {X Y : Type 0} {make : List Y → X → Result Y At} {xs : List X} {index : ℕ}
+    {made : List Y} (passed : PassedTo make xs index made) where
+  abbrev rest : List X → Result (List Y) At
+  rest ys = made_front made (each_from make made ys)
+
+  pub pass-next : (x : X) (y : Y) → slice_get xs index ≡ Some x → make made x ≡ Ok y
+      → PassedTo make xs (index + 1) (made ++ y ∷ [])
+  pass-next x y found is =
+      let one : index + 1 ≡ suc index = omega arith in
+      record {
+        len = omega (arith, passed.len, length-append made (y ∷ []));
+        read = ap (λ (k : ℕ). made_front (made ++ y ∷ [])
+            (each_from make (made ++ y ∷ []) (drop k xs))) one
+            ∙ (sym (each-next make made x (drop (suc index) xs) y is)
+            ∙ (ap rest (sym (drop-at xs index x found)) ∙ passed.read));
+      }
+
+  pub pass-end : length xs ≤ index → each make xs ≡ Ok made
+  pass-end past = sym passed.read ∙ (ap rest (drop_all index xs past) ∙ each-end make made)
+
+  pub pass-fault : {fault : LoadFault} (x : X) → slice_get xs index ≡ Some x
+      → Faults fault (make made x) → Faults fault (each make xs)
+  pass-fault x found (inl memory) = inl memory
+  pass-fault {fault} x found (inr bad) = inr (by_read (make made x) refl bad)
+    where
+      by_read : (r : Result Y At) → make made x ≡ r → in_section names.DebugInfo r ≡ Err fault
+          → in_section names.DebugInfo (each make xs) ≡ Err fault
+      by_read (Ok y) is h = cc
+      by_read (Err e) is h =
+          let all : each make xs ≡ Err e = sym passed.read ∙ (ap rest (drop-at xs index x found)
+          ∙ each-fault make made x (drop (suc index) xs) e is) in
+          rw all cc

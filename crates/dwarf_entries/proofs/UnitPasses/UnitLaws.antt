@@ -1,0 +1,185 @@
+-- The units of an object, as they were read from its sections, and the faults of reading them.
+use Rattle.std.proofs.Common.{◌≡◌, ◌⊎◌, inl, inr, ℕ, zero, suc, ◌<◌, ◌≤◌, List, [], ◌∷◌, length, map}
+use Rattle.std.proofs.Common.{false, Bool, ◌==◌, ◌||◌, refl, ap, sym, ◌∙◌, subst, arith}
+use Rattle.std.specs.Prelude.{Some, Result, Ok, Err, zip, slice_get, flat_map}
+use Rattle.std.specs.List.{list_any}
+use Rattle.std.proofs.lemmas.Option.{same_Some, slice_get_within, get_or_from_slice_get}
+use Rattle.dwarf_bytes.specs.declared.fault.Section.TheVariants as names
+use Rattle.dwarf_bytes.specs.declared.fault.LoadFault.{LoadFault}
+use Rattle.dwarf_bytes.specs.Refusals.{memory_fault, in_section}
+use Rattle.dwarf_bytes.proofs.Numbers.Advance.{bind_ok, after-bind}
+use Rattle.dwarf_bytes.proofs.Numbers.Moves.{same-ok}
+use Rattle.dwarf_forms.specs.Declarations.{Declaration}
+use Rattle.dwarf_forms.specs.Tables.{declarations_of}
+use Rattle.dwarf_units.specs.declared.unit_headers.UnitHeader.{UnitHeader}
+use Rattle.dwarf_units.specs.Units.{declarations_limit, units_of, tables_of}
+use Rattle.dwarf_units.specs.Entries.{Die, entries_of}
+use Rattle.dwarf_units.specs.Private.Rising.{RiseWithin}
+use Rattle.dwarf_units.proofs.EntryOrder.{entries-rise}
+use Rattle.dwarf_units.proofs.TableLaws.{table_is, in_section-ok}
+use Rattle.dwarf_walk.specs.declared.entry_bitmap.EntryBitmap.{EntryBitmap}
+use Rattle.dwarf_walk.specs.Private.EntryBitmap.{has_entry, AddsOffsets, offsets_of}
+use Rattle.dwarf_walk.specs.Sections.{Sections}
+use Rattle.dwarf_entries.specs.Bases.{CompilationUnit, no_bases, with_bases, unit_of, units_read}
+use Rattle.dwarf_entries.specs.Private.EntryOffsets.{IsBitmapOf, all_offsets, dies_of}
+use Rattle.dwarf_entries.specs.Private.ObjectUnits.{ObjectUnits, units_or_none, units_of_object}
+use Rattle.dwarf_entries.specs.Private.Passes.{all_entries, all_bases}
+use Rattle.dwarf_entries.proofs.UnitPasses.BasesPass.{with_bases-parts}
+use Rattle.dwarf_entries.proofs.UnitPasses.HeaderLaws.{HasBounds, headers-in}
+use Rattle.dwarf_entries.proofs.UnitPasses.PassLaws.{Faults, each-at}
+
+-- ---- the units that were read
+
+-- The header of a unit is within the section, and its entries are those of its table.
+pub record IsUnitIn (s : Sections) (u : CompilationUnit) : Type 0 where
+  pub bounds : HasBounds (length s.debug_info) u.header
+  pub table : List Declaration
+  pub table_is : declarations_of declarations_limit s.debug_abbrev u.header.abbreviations ≡ Ok table
+  pub dies_are : entries_of s.debug_info u.header table ≡ Ok u.dies
+
+pub dies-rise : {s : Sections} {u : CompilationUnit} → IsUnitIn s u
+    → RiseWithin u.header.start u.header.end u.dies
+dies-rise {s = s} {u = u} is = entries-rise s.debug_info u.header is.table u.dies is.dies_are
+    is.bounds.first is.bounds.last
+
+pub record AreUnitsIn (s : Sections) (us : List CompilationUnit) : Type 0 where
+  pub each_is : (i : ℕ) (u : CompilationUnit) → slice_get us i ≡ Some u → IsUnitIn s u
+  pub apart :
+      (i j : ℕ) (u v : CompilationUnit) → slice_get us i ≡ Some u → slice_get us j ≡ Some v → i < j
+      → u.header.end ≤ v.header.start
+
+zip-at : {X Y : Type 0} (xs : List X) (ys : List Y) (i : ℕ) (p : X × Y)
+    → slice_get (zip xs ys) i ≡ Some p → (slice_get xs i ≡ Some p.0) × (slice_get ys i ≡ Some p.1)
+zip-at [] ys i p h = cc
+zip-at (x ∷ xs) [] i p h = cc
+zip-at {X} {Y} (x ∷ xs) (y ∷ ys) zero p h =
+    let same = same_Some (x, y) p h in
+    (ap (λ (q : X × Y). Some q.0) same, ap (λ (q : X × Y). Some q.1) same)
+zip-at (x ∷ xs) (y ∷ ys) (suc i) p h = zip-at xs ys i p h
+
+module _ (s : Sections) (headers : List UnitHeader) (tables : List (List Declaration))
+    (us vs : List CompilationUnit) (headers_are : units_of s.debug_info ≡ Ok headers)
+    (tables_are : tables_of s.debug_abbrev headers ≡ Ok tables)
+    (us_are : all_entries s.debug_info headers tables ≡ Ok us) (vs_are : all_bases s us ≡ Ok vs)
+  where
+    unit-in : (i : ℕ) (v : CompilationUnit) → slice_get vs i ≡ Some v
+        → (slice_get headers i ≡ Some v.header) × IsUnitIn s v
+    unit-in i v found =
+        let of = each-at (λ _ u. with_bases s u) [] us vs vs_are i v found in
+        let stay = with_bases-parts s of.0 v of.2 in
+        let from = each-at (λ _ p. unit_of s.debug_info p.0 p.1) [] (zip headers tables) us us_are i
+        of.0 of.1 in
+        let header : UnitHeader = from.0.0 in
+        let table : List Declaration = from.0.1 in
+        let at = zip-at headers tables i from.0 from.1 in
+        let within = slice_get_within headers i header at.0 in
+        let header_at = get_or_from_slice_get headers i header header at.0 in
+        let read : declarations_of declarations_limit s.debug_abbrev header.abbreviations ≡ Ok table =
+        subst (λ (h : UnitHeader). declarations_of declarations_limit s.debug_abbrev h.abbreviations
+        ≡ Ok table) header_at (table_is s.debug_abbrev headers tables i header tables_are within
+        ∙ ap (λ (t : List Declaration). Ok t) (get_or_from_slice_get tables i table [] at.1)) in
+        let bounds = subst (HasBounds (length s.debug_info)) header_at
+        ((headers-in s.debug_info headers headers_are).bounded i header within) in
+        after-bind (entries_of s.debug_info header table) _ of.0 from.2
+        ((slice_get headers i ≡ Some v.header) × IsUnitIn s v) (λ dies dies_are last.
+        let same = same-ok (record { header = header; dies = dies; bases = no_bases }) of.0 last in
+        let header_is : header ≡ v.header =
+        ap (λ (u : CompilationUnit). u.header) same ∙ sym stay.0 in
+        let dies_is : dies ≡ v.dies = ap (λ (u : CompilationUnit). u.dies) same ∙ sym stay.1 in (
+          at.0 ∙ ap (λ (h : UnitHeader). Some h) header_is,
+          record {
+            bounds = subst (HasBounds (length s.debug_info)) header_is bounds;
+            table = table;
+            table_is = subst (λ (h : UnitHeader). declarations_of declarations_limit s.debug_abbrev
+                h.abbreviations ≡ Ok table) header_is read;
+            dies_are = subst (λ (h : UnitHeader). entries_of s.debug_info h table ≡ Ok v.dies)
+                header_is (dies_are ∙ ap (λ (ds : List Die). Ok ds) dies_is);
+          },
+        ))
+
+    units-are-in : AreUnitsIn s vs
+    units-are-in = record {
+      each_is = λ i v found. (unit-in i v found).1;
+      apart = λ i j u v first second lt.
+          let a = (unit-in i u first).0 in
+          let b = (unit-in j v second).0 in
+          let h = u.header in
+          let order = (headers-in s.debug_info headers headers_are).apart i j h lt
+          (slice_get_within headers j v.header b) in
+          omega (
+            arith,
+            order,
+            ap (λ (h : UnitHeader). h.end) (get_or_from_slice_get headers i u.header h a),
+            ap (λ (h : UnitHeader). h.start) (get_or_from_slice_get headers j v.header h b),
+          );
+    }
+
+pub units-in : (s : Sections) (us : List CompilationUnit) → units_read s ≡ Ok us → AreUnitsIn s us
+unfolding units_read
+units-in s us h =
+    let a = bind_ok (in_section names.DebugInfo (units_of s.debug_info)) _ us h in
+    let b = bind_ok (in_section names.DebugAbbrev (tables_of s.debug_abbrev a.0)) _ us a.2 in
+    let c = bind_ok (in_section names.DebugInfo (all_entries s.debug_info a.0 b.0)) _ us b.2 in
+    units-are-in s a.0 b.0 c.0 us (in_section-ok names.DebugInfo (units_of s.debug_info) a.0 a.1)
+    (in_section-ok names.DebugAbbrev (tables_of s.debug_abbrev a.0) b.0 b.1)
+    (in_section-ok names.DebugInfo (all_entries s.debug_info a.0 b.0) c.0 c.1)
+    (in_section-ok names.DebugInfo (all_bases s c.0) us c.2)
+
+pub object-units : (s : Sections) (object : ObjectUnits) → units_of_object s ≡ object
+    → AreUnitsIn object.sections object.units
+object-units s object same = subst (λ (v : ObjectUnits). AreUnitsIn v.sections v.units) same
+    (by_read (units_read s) refl)
+  where
+    by_read : (r : Result (List CompilationUnit) LoadFault) → units_read s ≡ r
+        → AreUnitsIn s (units_or_none r)
+    by_read (Ok us) is = units-in s us is
+    by_read (Err fault) is =
+        record { each_is = λ i u found. cc; apart = λ i j u v first second lt. cc }
+
+-- ---- the passes, one after the other
+
+abbrev pub FaultOfUnits : Sections → LoadFault → Type 0
+FaultOfUnits s fault = (fault ≡ memory_fault) ⊎ (units_read s ≡ Err fault)
+
+pub headers-fault : (s : Sections) (fault : LoadFault) → Faults fault (units_of s.debug_info)
+    → FaultOfUnits s fault
+unfolding units_read
+headers-fault s fault (inl memory) = inl memory
+headers-fault s fault (inr bad) = inr (rw bad refl)
+
+module _ (s : Sections) (headers : List UnitHeader)
+    (headers_are : in_section names.DebugInfo (units_of s.debug_info) ≡ Ok headers) where
+  pub tables-fault : (fault : LoadFault) → (fault ≡ memory_fault)
+      ⊎ (in_section names.DebugAbbrev (tables_of s.debug_abbrev headers) ≡ Err fault)
+      → FaultOfUnits s fault
+  unfolding units_read
+  tables-fault fault (inl memory) = inl memory
+  tables-fault fault (inr bad) = inr (rw (headers_are, bad) refl)
+
+  module _ (tables : List (List Declaration)) (tables_are :
+      in_section names.DebugAbbrev (tables_of s.debug_abbrev headers) ≡ Ok tables) where
+    pub entries-fault : (fault : LoadFault)
+        → Faults fault (all_entries s.debug_info headers tables) → FaultOfUnits s fault
+    unfolding units_read
+    entries-fault fault (inl memory) = inl memory
+    entries-fault fault (inr bad) = inr (rw (headers_are, tables_are, bad) refl)
+
+    module _ (us : List CompilationUnit)
+        (us_are : all_entries s.debug_info headers tables ≡ Ok us) where
+      pub bases-fault : (fault : LoadFault) → Faults fault (all_bases s us) → FaultOfUnits s fault
+      unfolding units_read
+      bases-fault fault (inl memory) = inl memory
+      bases-fault fault (inr bad) = inr (rw (headers_are, tables_are, us_are, bad) refl)
+
+      pub units-are : (vs : List CompilationUnit) → all_bases s us ≡ Ok vs → units_read s ≡ Ok vs
+      unfolding units_read
+      units-are vs vs_are = rw (headers_are, tables_are, us_are, vs_are) refl
+
+-- If the bitmap was empty, it contains exactly the entries of the units.
+pub all-marked : (none bitmap : EntryBitmap) (us vs : List CompilationUnit)
+    → ((at : ℕ) → has_entry none at ≡ false) → AddsOffsets none bitmap (all_offsets us)
+    → map dies_of vs ≡ map dies_of us → IsBitmapOf bitmap vs
+all-marked none bitmap us vs empty adds same at =
+    let p : ℕ → Bool = λ offset. offset == at in
+    adds at ∙ (ap (λ (b : Bool). b || list_any p (all_offsets us)) (empty at)
+    ∙ ap (λ (dies : List (List Die)). list_any p (flat_map offsets_of dies)) (sym same))
