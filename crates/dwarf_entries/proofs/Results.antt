@@ -1,11 +1,9 @@
 pub mod BelowEnds
 pub mod BelowLaws
 pub mod CoveredScopes
-pub mod EntriesOfScopes
 pub mod EntryScopes
 pub mod OffsetLaws
-pub mod ReadLaws
+pub mod RootScopes
 pub mod ScopeOrder
-pub mod ScopePlaces
+pub mod SiteOrder
 pub mod TreeParts
-pub mod WholeReads

@@ -1,4 +1,2 @@
 pub mod RootNumbers
-pub mod RootParts
-pub mod RootScopes
 pub mod RootsPass

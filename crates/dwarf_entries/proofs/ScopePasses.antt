@@ -1,8 +1,7 @@
 pub mod DataLaws
 pub mod PushedScopes
 pub mod ScopeLaws
-pub mod ScopesEnds
 pub mod ScopesPass
 pub mod SharedLaws
 pub mod SiteLaws
-pub mod UnitsPass
+pub mod SiteReads

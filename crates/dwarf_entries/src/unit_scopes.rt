@@ -2,15 +2,13 @@
 //! ranges.
 
 ghost use Rattle.std.specs.Prelude.{◌≡◌, ◌≤◌, ◌<◌, ◌+◌, ◌^◌, List, Some, ◌-◌, length, min};
-ghost use Rattle.std.specs.Prelude.{slice_get, IfOk, MatchResult};
-ghost use Rattle.dwarf_bytes.specs.declared.fault.Section.TheVariants as names;
-ghost use Rattle.dwarf_bytes.specs.Refusals.{Decodes, in_section, memory_fault};
+ghost use Rattle.std.specs.Prelude.{map, slice_get, IfOk};
 ghost use Rattle.dwarf_entries.specs.Bases.{CompilationUnit};
 ghost use Rattle.dwarf_entries.specs.Scopes.{ParsedScope, ScopeSite, scope_at, sites_in};
 ghost use Rattle.dwarf_entries.specs.Scopes.{roots_from, scopes_of};
-ghost use Rattle.dwarf_entries.specs.Private.Passes.{IsFirstNumberOf, IsScopeSite, IsSiteRead};
-ghost use Rattle.dwarf_entries.specs.Private.Passes.{AreParsed, AddsScopes, scope_facts};
-ghost use Rattle.dwarf_entries.specs.Private.Passes.{all_scopes};
+ghost use Rattle.dwarf_entries.specs.Private.Passes.{IsScopeSite, IsSiteRead, scope_facts};
+ghost use Rattle.dwarf_entries.specs.Private.Passes.{PassGives, AreParsedTo, ParsesTo};
+ghost use Rattle.dwarf_entries.specs.Private.Passes.{first_number, all_scopes};
 ghost use Rattle.dwarf_entries.specs.Private.EntryOffsets.{scope_count};
 ghost use Rattle.dwarf_entries.specs.Private.Shared.{AddsFacts};
 
@@ -110,12 +108,10 @@ impl<'a> Units<'a> {
         lists: &mut ScopeLists,
     ) -> Result<(), LoadFault>
         requires unit { unit < length self.old.units }
-        ensures scopes { (u : CompilationUnit) (before : List ParsedScope)
-            → slice_get self.old.units unit ≡ Some u
-            → IsFirstNumberOf self.old.units unit (length before)
-            → AreParsed (roots_from 0 self.old.units) before lists.old left.old
-            → AddsScopes result self.old.sections self.old.units
-            (sites_in u u.dies) before lists.new left.new }
+        ensures scopes { AreParsedTo self.old.sections self.old.units
+            (first_number self.old.units unit) lists.old left.old
+            → ParsesTo result self.old.sections self.old.units
+            (first_number self.old.units (unit + 1)) lists.new left.new }
         ensures same { self.new ≡ self.old }
     {
         for index in 0..self.scopes_in(unit) {
@@ -141,8 +137,9 @@ impl<'a> Units<'a> {
 
     /// Resolves the scopes of all units.
     pub(crate) fn scopes(&mut self, alloc: Global) -> Result<ScopeLists, LoadFault>
-        ensures scopes { Decodes (λ lists. scopes_of (roots_from 0 self.old.units) lists) result
-            (in_section names.DebugInfo (all_scopes self.old.sections self.old.units)) }
+        ensures scopes { PassGives (λ lists parsed. scopes_of (roots_from 0 self.old.units) lists
+            ≡ map (λ j. j.scope) parsed) result
+            (all_scopes self.old.sections self.old.units) }
         ensures same { self.new ≡ self.old }
     {
         let mut left = ITEMS_LIMIT;

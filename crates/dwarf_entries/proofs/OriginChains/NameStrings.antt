@@ -1,11 +1,10 @@
 -- The names of scopes are strings in their sections.
-use Rattle.std.proofs.Common.{◌≡◌, ℕ, ◌+◌, ◌<◌, List, [], ◌∷◌, ◌++◌, length, take, drop, map}
-use Rattle.std.proofs.Common.{get_or, refl, ap, sym, ◌∙◌, subst, arith, append_assoc, length-append}
+use Rattle.std.proofs.Common.{◌≡◌, ℕ, ◌+◌, ◌<◌, List, [], ◌∷◌, ◌++◌, length, take, drop, get_or}
+use Rattle.std.proofs.Common.{refl, ap, sym, ◌∙◌, subst, arith, append_assoc, length-append}
 use Rattle.std.proofs.Common.{length-drop}
 use Rattle.std.specs.Prelude.{Option, Some, None, Result, Ok, Err, IfSome, All, ◌≢◌, ◌==◌}
 use Rattle.std.specs.Option.{option_map_or}
 use Rattle.std.proofs.lemmas.List.{take_at, get_or-drop}
-use Rattle.std.proofs.lemmas.List.Elements.{All-nil, All-cons}
 use Rattle.std.proofs.lemmas.Option.{slice_get-get_or}
 use Rattle.dwarf_bytes.specs.declared.constants.TheConstants.{DW_AT_LINKAGE_NAME, DW_AT_NAME}
 use Rattle.dwarf_bytes.specs.declared.constants.TheConstants.{DW_FORM_LINE_STRP, DW_FORM_STRING}
@@ -28,10 +27,9 @@ use Rattle.dwarf_walk.specs.Sections.{Sections}
 use Rattle.dwarf_entries.specs.Bases.{CompilationUnit, item_at, optional}
 use Rattle.dwarf_entries.specs.Names.{Member, path_of, text_in, text_of, first_on, name_on}
 use Rattle.dwarf_entries.specs.Names.{names_of}
-use Rattle.dwarf_entries.specs.Scopes.{Scope, Tree, ScopeSite, ParsedScope, tree_of}
+use Rattle.dwarf_entries.specs.Scopes.{Scope, Tree, ParsedScope, tree_of}
 use Rattle.dwarf_entries.specs.TreeLaws.{section_bytes, IsTextAt, IsTextOf}
-use Rattle.dwarf_entries.proofs.Results.TreeParts.{AreParsed, is-read}
-use Rattle.dwarf_entries.specs.Private.Passes.{all_sites}
+use Rattle.dwarf_entries.proofs.Results.TreeParts.{after-tree, scope-at, all-are}
 
 -- ---- a string that is found in a section
 
@@ -130,22 +128,12 @@ names-are_texts s units m found h =
 abbrev HasTexts : Sections → Scope → Type 0
 HasTexts s scope = IfSome scope.name (IsTextOf s) × IfSome scope.linkage_name (IsTextOf s)
 
-have-strings : (s : Sections) (units : List CompilationUnit) (before : List ParsedScope)
-    (ps : List ScopeSite) (js : List ParsedScope) → AreParsed s units before ps js
-    → All (HasTexts s) (map (λ j. j.scope) js)
-have-strings s units before [] [] h = All-nil (HasTexts s)
-have-strings s units before [] (j ∷ js) h = absurd h
-have-strings s units before (p ∷ ps) [] h = absurd h
-have-strings s units before (p ∷ ps) (j ∷ js) h =
-    let strings = names-are_texts s units p.member h.0.found h.0.found_are in
-    All-cons (HasTexts s) j.scope (map (λ j. j.scope) js)
-    (subst (λ (x : ParsedScope). HasTexts s x.scope) h.0.is strings)
-    (have-strings s units (before ++ j ∷ []) ps js h.1)
-
 all-strings : (s : Sections) (tree : Tree) → tree_of s ≡ Ok tree → All (HasTexts s) tree.scopes
-all-strings s tree h = let read = is-read s tree h in
-    subst (λ (ss : List Scope). All (HasTexts s) ss) read.scopes_are
-    (have-strings s read.units [] (all_sites read.units) read.parsed read.parsed_are)
+all-strings s tree h = after-tree s tree h (λ tree. All (HasTexts s) tree.scopes)
+    (λ us parsed us_are parsed_are. all-are (HasTexts s) parsed (λ n j there.
+    let at = scope-at s us parsed parsed_are n j there in
+    subst (λ (x : ParsedScope). HasTexts s x.scope) at.is
+    (names-are_texts s us at.site.member at.found at.found_are)))
 
 pub names-are-strings : (s : Sections) (tree : Tree) → tree_of s ≡ Ok tree
     → All (λ (scope : Scope). IfSome scope.name (IsTextOf s)) tree.scopes

@@ -1,6 +1,6 @@
 -- The entries of range lists: each takes at least one byte, and its range, if any, is nonempty.
-use Rattle.std.proofs.Common.{◌≡◌, ℕ, ◌+◌, ◌^◌, ◌<◌, ◌≤◌, Bool, true, false, cond, List, []}
-use Rattle.std.proofs.Common.{length, refl, ap, subst, arith}
+use Rattle.std.proofs.Common.{◌≡◌, ℕ, ◌+◌, ◌^◌, ◌<◌, ◌≤◌, Bool, true, false, cond, List, [], length}
+use Rattle.std.proofs.Common.{refl, ap, subst, arith}
 use Rattle.std.specs.Prelude.{Option, Some, None, Result, Ok, All, nat_lt, nat_le, ◌==◌, ◌||◌}
 use Rattle.std.specs.Prelude.{option_to_list, ok_or}
 use Rattle.std.proofs.lemmas.Bool.{ltb-false, leb-false, or_parts}

@@ -21,7 +21,7 @@ module _ {X : Type 0} (p : X → Bool) (xs : List X) where
   counted-add a b = ap (λ (ys : List X). count_by p ys) (take-add a b xs)
       ∙ sum_by-append _ (take a xs) (take b (drop a xs))
 
-  counted-rises : (a b : ℕ) → a ≤ b → counted a ≤ counted b
+  pub counted-rises : (a b : ℕ) → a ≤ b → counted a ≤ counted b
   counted-rises a b le =
       let parts : a + (b - a) ≡ b = omega (arith, le) in
       let sum : counted b ≡ counted a + count_by p (take (b - a) (drop a xs)) =
@@ -29,7 +29,7 @@ module _ {X : Type 0} (p : X → Bool) (xs : List X) where
       omega (arith, sum)
 
   -- An element that passes is counted after its index, and not before.
-  counted-before : (place : ℕ) (d : X) → place < length xs → p (get_or xs place d) ≡ true
+  pub counted-before : (place : ℕ) (d : X) → place < length xs → p (get_or xs place d) ≡ true
       → (end : ℕ) → (counted place < counted end) ↔ (place < end)
   counted-before place d within passes end = (from_count, to_count)
     where
@@ -141,3 +141,49 @@ scopes-between dies i j outer inner outer_is inner_is outer_scope inner_scope =
       λ h. to-below dies i j outer outer_is (first.0 h.0)
           (last.0 (subst (λ (n : ℕ). number dies j < n) end h.1)),
     )
+
+-- ---- the end of a scope below another
+
+below-trans : (dies : List Die) (i j k : ℕ) → IsBelow dies j i → IsBelow dies k j → IsBelow dies k i
+below-trans dies i j k outer inner = (
+  omega (arith, outer.0, inner.0),
+  inner.1,
+  λ m d lt le. by_order m d lt le (cases_lt j m),
+)
+  where
+    by_order : (m : ℕ) (d : Die) → i < m → m ≤ k → (j < m) ⊎ (m ≤ j)
+        → (get_or dies i d).depth < (get_or dies m d).depth
+    by_order m d lt le (inl past) =
+        let first = outer.2 j d outer.0 (omega arith) in
+        let second = inner.2 m d past le in
+        omega (arith, first, second)
+    by_order m d lt le (inr until) = outer.2 m d lt until
+
+past-within : (dies : List Die) (i j : ℕ) (outer inner : Die) → slice_get dies i ≡ Some outer
+    → slice_get dies j ≡ Some inner → IsBelow dies j i
+    → past_below dies j inner ≤ past_below dies i outer
+past-within dies i j outer inner outer_is inner_is under =
+    by_order (cases_lt (past_below dies i outer) (past_below dies j inner))
+  where
+    by_order : (past_below dies i outer < past_below dies j inner)
+        ⊎ (past_below dies j inner ≤ past_below dies i outer)
+        → past_below dies j inner ≤ past_below dies i outer
+    by_order (inr within) = within
+    by_order (inl past) =
+        let k : ℕ = past_below dies i outer in
+        let before = (from-below dies i j outer outer_is under).1 in
+        let further = to-below dies j k inner inner_is before past in
+        let never = (from-below dies i k outer outer_is (below-trans dies i j k under further)).1 in
+        absurd (omega (arith, never))
+
+pub ends-within : (dies : List Die) (i j : ℕ) (outer inner : Die) → slice_get dies i ≡ Some outer
+    → slice_get dies j ≡ Some inner → is_scope outer ≡ true → is_scope inner ≡ true
+    → IsBelow dies j i → count_by is_scope (take j dies) + 1 + count_by is_scope
+    (below inner (drop (j + 1) dies)) ≤ count_by is_scope (take i dies) + 1 + count_by is_scope
+    (below outer (drop (i + 1) dies))
+ends-within dies i j outer inner outer_is inner_is outer_scope inner_scope under =
+    let a = ends-are dies i outer outer_is outer_scope in
+    let b = ends-are dies j inner inner_is inner_scope in
+    let less = counted-rises is_scope dies (past_below dies j inner) (past_below dies i outer)
+    (past-within dies i j outer inner outer_is inner_is under) in
+    omega (arith, a, b, less)

@@ -1,73 +1,89 @@
 -- The ranges of scopes, and the limit on range items.
-use Rattle.std.proofs.Common.{◌≡◌, ℕ, ◌+◌, ◌-◌, ◌≤◌, List, [], ◌∷◌, ◌++◌, length, map, ap, subst}
+use Rattle.std.proofs.Common.{◌≡◌, ℕ, zero, suc, ◌+◌, ◌-◌, ◌≤◌, List, length, take, ap, subst}
 use Rattle.std.proofs.Common.{arith}
-use Rattle.std.specs.Prelude.{Ok, All}
-use Rattle.std.specs.Prelude.{sum_by}
-use Rattle.std.proofs.lemmas.List.Elements.{All-nil, All-cons}
-use Rattle.std.proofs.lemmas.List.Sums.{sum_by-cons, sum_by-append}
-use Rattle.dwarf_entries.specs.declared.scope.Range.{Range}
+use Rattle.std.specs.Prelude.{Some, Ok, All, sum_by, slice_get}
+use Rattle.std.proofs.lemmas.List.{take_all}
+use Rattle.std.proofs.lemmas.List.Folds.{fold-map}
+use Rattle.std.proofs.lemmas.List.Sums.{sum_by_more}
+use Rattle.std.proofs.lemmas.Option.{get_or_from_slice_get}
 use Rattle.dwarf_walk.specs.Sections.{Sections}
 use Rattle.dwarf_entries.specs.Bases.{CompilationUnit}
-use Rattle.dwarf_entries.specs.Scopes.{Scope, Tree, ScopeSite, ParsedScope, items_limit, tree_of}
+use Rattle.dwarf_entries.specs.Scopes.{Scope, Tree, ParsedScope, items_limit, tree_of}
+use Rattle.dwarf_entries.specs.Private.Passes.{all_scopes}
 use Rattle.dwarf_entries.specs.TreeLaws.{IsValidRange}
-use Rattle.dwarf_entries.proofs.Results.TreeParts.{AreParsed, is-read}
 use Rattle.dwarf_entries.proofs.RangeLists.EntryLaws.{AllHold}
-use Rattle.dwarf_entries.specs.Private.Passes.{all_sites}
-use Rattle.dwarf_entries.proofs.RangeLists.ScopeBudget.{covers-fits}
+use Rattle.dwarf_entries.proofs.RangeLists.ScopeBudget.{Fits, covers-fits}
+use Rattle.dwarf_entries.proofs.Results.TreeParts.{after-tree, scope-at, all-are}
+use Rattle.dwarf_entries.proofs.UnitPasses.PassLaws.{element}
 
-abbrev items_in : List ParsedScope → ℕ
-items_in js = sum_by (λ j. j.items) js
+-- The ranges of a scope are valid, and it took as many range items as the budget allows.
+abbrev HasFit : List ParsedScope → ℕ → ParsedScope → Type 0
+HasFit parsed n j = Fits (items_limit - sum_by (λ j. j.items) (take n parsed))
+    (record { ranges = j.scope.ranges; items = j.items })
 
-abbrev ranges_counted : List Scope → ℕ
-ranges_counted ss = sum_by (λ scope. length scope.ranges) ss
+fits-at : (s : Sections) (us : List CompilationUnit) (parsed : List ParsedScope)
+    → all_scopes s us ≡ Ok parsed → (n : ℕ) (j : ParsedScope) → slice_get parsed n ≡ Some j
+    → HasFit parsed n j
+fits-at s us parsed parsed_are n j there =
+    let at = scope-at s us parsed parsed_are n j there in
+    subst (HasFit parsed n) at.is (covers-fits _ s at.site.member.unit.bases at.site.member.die
+    at.covering at.covering_is)
 
-abbrev ScopeHolds : Scope → Type 0
-ScopeHolds scope = All IsValidRange scope.ranges
-
-parsed-hold : (s : Sections) (units : List CompilationUnit) (before : List ParsedScope)
-    (ps : List ScopeSite) (js : List ParsedScope) → AreParsed s units before ps js
-    → items_in before ≤ items_limit
-    → All ScopeHolds (map (λ j. j.scope) js)
-    × (items_in before + ranges_counted (map (λ j. j.scope) js) ≤ items_limit)
-parsed-hold s units before [] [] h le = (All-nil ScopeHolds, omega (arith, le))
-parsed-hold s units before [] (j ∷ js) h le = absurd h
-parsed-hold s units before (p ∷ ps) [] h le = absurd h
-parsed-hold s units before (p ∷ ps) (j ∷ js) h le =
-    let fits = covers-fits (items_limit - items_in before) s p.member.unit.bases p.member.die
-    h.0.covering h.0.covering_is in
-    let ranges_are : h.0.covering.ranges ≡ j.scope.ranges =
-    ap (λ (x : ParsedScope). x.scope.ranges) h.0.is in
-    let items_are : h.0.covering.items ≡ j.items = ap (λ (x : ParsedScope). x.items) h.0.is in
-    let within : j.items ≤ items_limit - items_in before =
-    subst (λ (n : ℕ). n ≤ items_limit - items_in before) items_are fits.within in
-    let counted : length j.scope.ranges ≤ j.items =
-    subst (λ (n : ℕ). length j.scope.ranges ≤ n) items_are
-    (subst (λ (rs : List Range). length rs ≤ h.0.covering.items) ranges_are fits.counted) in
-    let joined = sum_by-append (λ (j : ParsedScope). j.items) before (j ∷ []) in
-    let more : items_in (before ++ j ∷ []) ≡ items_in before + j.items = omega (arith, joined) in
-    let rest = parsed-hold s units (before ++ j ∷ []) ps js h.1 (omega (arith, more, within, le)) in
-    let all : ranges_counted (map (λ j. j.scope) (j ∷ js)) ≡ length j.scope.ranges + ranges_counted
-    (map (λ j. j.scope) js) = sum_by-cons (λ (scope : Scope). length scope.ranges) j.scope
-    (map (λ j. j.scope) js) in (
-      All-cons ScopeHolds j.scope (map (λ j. j.scope) js) (subst AllHold ranges_are fits.hold)
-          rest.0,
-      omega (arith, all, counted, more, rest.1),
-    )
-
--- The theorems.
 pub scopes-hold : (s : Sections) (tree : Tree) → tree_of s ≡ Ok tree
     → All (λ (scope : Scope). All IsValidRange scope.ranges) tree.scopes
-scopes-hold s tree h =
-    let read = is-read s tree h in
-    subst (λ (ss : List Scope). All ScopeHolds ss) read.scopes_are
-    (parsed-hold s read.units [] (all_sites read.units) read.parsed read.parsed_are
-    (omega arith)).0
+scopes-hold s tree h = after-tree s tree h (λ tree.
+    All (λ (scope : Scope). All IsValidRange scope.ranges) tree.scopes)
+    (λ us parsed us_are parsed_are. all-are (λ (scope : Scope). AllHold scope.ranges) parsed
+    (λ n j there. (fits-at s us parsed parsed_are n j there).hold))
+
+-- The scopes before a number have at most as many ranges as range items, which are within the limit.
+limited : (s : Sections) (us : List CompilationUnit) (parsed : List ParsedScope)
+    → all_scopes s us ≡ Ok parsed → (n : ℕ) → n ≤ length parsed
+    → (sum_by (λ j. length j.scope.ranges) (take n parsed) ≤ sum_by (λ j. j.items) (take n parsed))
+    × (sum_by (λ j. j.items) (take n parsed) ≤ items_limit)
+limited s us parsed parsed_are zero le = (omega arith, omega arith)
+limited s us parsed parsed_are (suc n) le =
+    let within : suc n ≤ length parsed = le in
+    let j = element parsed n within in
+    let fits = fits-at s us parsed parsed_are n j.0 j.1 in
+    let rest = limited s us parsed parsed_are n (omega (arith, le)) in
+    let one : suc n ≡ n + 1 = omega arith in
+    let same = get_or_from_slice_get parsed n j.0 j.0 j.1 in
+    let ranges = sum_by_more (λ (j : ParsedScope). length j.scope.ranges) parsed n j.0 within in
+    let items = sum_by_more (λ (j : ParsedScope). j.items) parsed n j.0 within in
+    let more = ap (λ (k : ℕ). sum_by (λ (j : ParsedScope). length j.scope.ranges) (take k parsed))
+    one in
+    let count = ap (λ (k : ℕ). sum_by (λ (j : ParsedScope). j.items) (take k parsed)) one in
+    let first = ap (λ (x : ParsedScope). length x.scope.ranges) same in
+    let second = ap (λ (x : ParsedScope). x.items) same in (
+      omega (
+        arith,
+        rest.0,
+        fits.counted,
+        ranges,
+        items,
+        more,
+        count,
+        first,
+        second,
+      ),
+      omega (arith, rest.1, fits.within, items, count, second),
+    )
 
 pub ranges-limited : (s : Sections) (tree : Tree) → tree_of s ≡ Ok tree
     → sum_by (λ (scope : Scope). length scope.ranges) tree.scopes ≤ items_limit
-ranges-limited s tree h =
-    let read = is-read s tree h in
-    let limited = (parsed-hold s read.units [] (all_sites read.units) read.parsed read.parsed_are
-    (omega arith)).1 in
-    subst (λ (ss : List Scope). ranges_counted ss ≤ items_limit) read.scopes_are
-    (omega (arith, limited))
+ranges-limited s tree h = after-tree s tree h (λ tree.
+    sum_by (λ (scope : Scope). length scope.ranges) tree.scopes ≤ items_limit)
+    (λ us parsed us_are parsed_are.
+    let all = limited s us parsed parsed_are (length parsed) (omega arith) in
+    let whole = take_all (length parsed) parsed (omega arith) in
+    let mapped = fold-map (λ (n : ℕ) (scope : Scope). n + length scope.ranges)
+    (λ (j : ParsedScope). j.scope) 0 parsed in
+    omega (
+      arith,
+      all.0,
+      all.1,
+      ap (λ (js : List ParsedScope). sum_by (λ (j : ParsedScope). length j.scope.ranges) js) whole,
+      ap (λ (js : List ParsedScope). sum_by (λ (j : ParsedScope). j.items) js) whole,
+      mapped,
+    ))

@@ -1,143 +1,83 @@
--- Each scope is an entry of a unit and has the data of that entry.
-use Rattle.std.proofs.Common.{◌≡◌, ℕ, zero, suc, ◌+◌, List, [], ◌∷◌, ◌++◌, length, take, drop, refl}
-use Rattle.std.proofs.Common.{ap, sym, ◌∙◌, subst, arith, length-append}
-use Rattle.std.specs.Prelude.{Option, Some, None, Contains, slice_get, count_by}
-use Rattle.std.proofs.lemmas.List.{map-append}
-use Rattle.std.proofs.lemmas.List.Elements.{Contains-append_left, Contains-append_right}
-use Rattle.std.proofs.lemmas.List.Sums.{sum_by-cons}
-use Rattle.dwarf_units.specs.Entries.{Die, below}
+-- Each scope is an entry of a unit, and each entry that may be a scope is one.
+use Rattle.std.proofs.Common.{◌≡◌, ℕ, suc, ◌+◌, true, List, [], drop, take, refl, ap, sym, ◌∙◌}
+use Rattle.std.proofs.Common.{arith}
+use Rattle.std.specs.Prelude.{Option, Some, None, Ok, Contains, slice_get, is_some, count_by}
+use Rattle.std.proofs.lemmas.Option.{same_Some, slice_get_within}
+use Rattle.dwarf_bytes.proofs.Items.EachPlaces.{each-length}
+use Rattle.dwarf_units.specs.Entries.{Die}
 use Rattle.dwarf_walk.specs.declared.scope_kind.ScopeKind.{ScopeKind}
-use Rattle.dwarf_walk.specs.Sections.{Sections}
-use Rattle.dwarf_entries.specs.Bases.{CompilationUnit}
-use Rattle.dwarf_entries.specs.Scopes.{Scope, ParsedScope, site_of, sites_in}
 use Rattle.dwarf_walk.specs.ScopeEntries.{kind_of, is_scope}
-use Rattle.dwarf_entries.proofs.Results.TreeParts.{AreParsed}
-use Rattle.dwarf_entries.proofs.RootPasses.RootParts.{scopes_in, count-none, count-one, sites-count}
-use Rattle.dwarf_entries.proofs.RootPasses.RootParts.{parsed-length, split}
-use Rattle.dwarf_entries.specs.Private.Passes.{all_sites}
-use Rattle.dwarf_entries.specs.Private.Passes.{number_of_scopes}
+use Rattle.dwarf_walk.specs.Sections.{Sections}
+use Rattle.dwarf_entries.specs.Bases.{CompilationUnit, units_read}
+use Rattle.dwarf_entries.specs.Scopes.{Scope, ScopeSite, ParsedScope, Tree, roots_from, tree_of}
+use Rattle.dwarf_entries.specs.Private.Passes.{first_number, all_sites, parse_scope, all_scopes}
+use Rattle.dwarf_entries.specs.TreeLaws.{IsEntry}
+use Rattle.dwarf_entries.proofs.Results.TreeParts.{after-tree, with-units, scope-at, contained}
+use Rattle.dwarf_entries.proofs.Results.TreeParts.{contains, scopes_in}
+use Rattle.dwarf_entries.proofs.ScopePasses.SiteLaws.{site_at, site-of-entry}
+use Rattle.dwarf_entries.proofs.UnitPasses.PassLaws.{element}
 
-pub same-some : {X : Type 0} (x y : X) → Some x ≡ Some y → x ≡ y
-same-some x y h = cc
+pub units-were-read : (s : Sections) (tree : Tree) → tree_of s ≡ Ok tree
+    → (units : List CompilationUnit) × (units_read s ≡ Ok units) × (roots_from 0 units ≡ tree.roots)
+units-were-read s tree h = after-tree s tree h (λ tree. (units : List CompilationUnit)
+    × (units_read s ≡ Ok units) × (roots_from 0 units ≡ tree.roots))
+    (λ us parsed us_are parsed_are. (us, us_are, refl))
 
--- ---- the data of an entry
+pub scopes-enter : (s : Sections) (tree : Tree) (units : List CompilationUnit) (scope : Scope)
+    → tree_of s ≡ Ok tree → units_read s ≡ Ok units → Contains tree.scopes scope
+    → (unit place : ℕ) × IsEntry units unit place scope
+scopes-enter s tree us scope h us_are = with-units s us tree us_are h
+    (λ tree. Contains tree.scopes scope → (unit place : ℕ) × IsEntry us unit place scope)
+    (λ parsed parsed_are inside.
+    let j = contained parsed scope inside in
+    let at = scope-at s us parsed parsed_are j.0 j.1 j.2 in (
+      at.place.unit,
+      at.place.is.index,
+      record {
+        of = at.site.member.unit;
+        of_is = at.place.unit_is;
+        die = at.site.member.die;
+        die_is = at.place.is.there;
+        offset_is = ap (λ (x : Scope). x.offset) (sym j.3)
+            ∙ sym (ap (λ (x : ParsedScope). x.scope.offset) at.is);
+        kind_is = at.place.is.kind_is ∙ ap (λ (k : ScopeKind). Some k)
+            (ap (λ (x : ParsedScope). x.scope.kind) at.is ∙ ap (λ (x : Scope). x.kind) j.3);
+      },
+    ))
 
--- A scope has the data of an entry, given its number and the entries after it.
-pub record HasDataOfEntry (number : ℕ) (kind : ScopeKind) (die : Die) (rest : List Die)
-    (scope : Scope) : Type 0 where
-  pub kind_is : scope.kind ≡ kind
-  pub offset_is : scope.offset ≡ die.offset
-  pub number_is : scope.number ≡ number
-  pub end_is : scope.«end» ≡ number + 1 + count_by is_scope (below die rest)
-
-abbrev pub HasScopeOf : List Scope → ScopeKind → Die → List Die → ℕ → Type 0
-HasScopeOf scopes kind die rest number = (scope : Scope) × Contains scopes scope
-    × HasDataOfEntry number kind die rest scope
-
-described-in : (s : Sections) (all : List CompilationUnit) (unit : CompilationUnit)
-    (dies : List Die)
-    (before js : List ParsedScope) → AreParsed s all before (sites_in unit dies) js
-    → (place : ℕ) (die : Die) (kind : ScopeKind)
-    → slice_get dies place ≡ Some die → kind_of die.tag ≡ Some kind
-    → HasScopeOf (scopes_in js) kind die (drop (suc place) dies)
-    (length before + count_by is_scope (take place dies))
-described-in s all unit [] before js made place die kind is scope = cc
-described-in s all unit (d ∷ dies) before js made place die kind is scope =
-    by_kind (kind_of d.tag) refl js made place is
-    (λ before js made place is. described-in s all unit dies before js made place die kind is scope)
+pub entries-described : (s : Sections) (tree : Tree) (units : List CompilationUnit) (unit place : ℕ)
+    (of : CompilationUnit) (die : Die) → tree_of s ≡ Ok tree → units_read s ≡ Ok units
+    → slice_get units unit ≡ Some of → slice_get of.dies place ≡ Some die → is_scope die ≡ true
+    → (scope : Scope) × Contains tree.scopes scope × IsEntry units unit place scope
+entries-described s tree us unit place of die h us_are of_is die_is is =
+    with-units s us tree us_are h
+    (λ tree. (scope : Scope) × Contains tree.scopes scope × IsEntry us unit place scope)
+    (λ parsed parsed_are. by_kind (kind_of die.tag) refl is parsed parsed_are)
   where
-    by_kind : (found : Option ScopeKind) → kind_of d.tag ≡ found → (js : List ParsedScope)
-        → AreParsed s all before (site_of unit d dies found (sites_in unit dies)) js → (place : ℕ)
-        → slice_get (d ∷ dies) place ≡ Some die
-        → ((before js : List ParsedScope) → AreParsed s all before (sites_in unit dies) js
-        → (place : ℕ)
-        → slice_get dies place ≡ Some die
-        → HasScopeOf (scopes_in js) kind die (drop (suc place) dies)
-        (length before + count_by is_scope (take place dies)))
-        → HasScopeOf (scopes_in js) kind die (drop (suc place) (d ∷ dies))
-        (length before + count_by is_scope (take place (d ∷ dies)))
-    by_kind None at js made zero is rest =
-        let same : d ≡ die = same-some d die is in
-        let never : (let none : Option ScopeKind = None in none) ≡ Some kind =
-        sym at ∙ ap (λ (x : Die). kind_of x.tag) same ∙ scope in absurd cc
-    by_kind None at js made (suc place) is rest =
-        let count = count-none d (take place dies) at in
-        subst (HasScopeOf (scopes_in js) kind die (drop (suc place) dies)) (omega (arith, count))
-        (rest before js made place is)
-    by_kind (Some found) at [] made place is rest = absurd made
-    by_kind (Some found) at (j ∷ js) made zero is rest =
-        let same : d ≡ die = same-some d die is in
-        let kind_same : found ≡ kind = same-some found kind
-        (sym at ∙ ap (λ (x : Die). kind_of x.tag) same ∙ scope) in
-        let number : ℕ = length before + count_by is_scope (take zero (d ∷ dies)) in
-        let number_is : length before ≡ j.scope.number =
-        ap (λ (x : ParsedScope). x.scope.number) made.0.is in
-        let end_is : length before + 1 + count_by is_scope (below d dies) ≡ j.scope.«end» =
-        ap (λ (x : ParsedScope). x.scope.«end») made.0.is in
-        let tells : HasDataOfEntry number found d dies j.scope = record {
-          kind_is = sym (ap (λ (x : ParsedScope). x.scope.kind) made.0.is);
-          offset_is = sym (ap (λ (x : ParsedScope). x.scope.offset) made.0.is);
-          number_is = omega (arith, number_is);
-          end_is = omega (arith, end_is);
-        } in (
-          j.scope,
-          (zero, omega arith, refl),
-          subst (λ (x : Die). HasDataOfEntry number kind x dies j.scope)
-              same (subst (λ (k : ScopeKind). HasDataOfEntry number k d dies j.scope) kind_same
-              tells),
+    by_kind : (found : Option ScopeKind) → kind_of die.tag ≡ found → is_some found ≡ true
+        → (parsed : List ParsedScope) → all_scopes s us ≡ Ok parsed
+        → (scope : Scope) × Contains (scopes_in parsed) scope × IsEntry us unit place scope
+    by_kind None at is parsed parsed_are = absurd cc
+    by_kind (Some kind) at is parsed parsed_are =
+        let n : ℕ = first_number us unit + count_by is_scope (take place of.dies) in
+        let site = site_at of die (drop (suc place) of.dies) kind in
+        let there = site-of-entry us unit place of die kind of_is die_is at in
+        let within = slice_get_within (all_sites us) n site there in
+        let size = each-length (parse_scope s us) [] (all_sites us) parsed parsed_are in
+        let j = element parsed n (omega (arith, within, size)) in
+        let found = scope-at s us parsed parsed_are n j.0 j.1 in
+        let same = same_Some site found.site (sym there ∙ found.there) in (
+          j.0.scope,
+          contains parsed n j.0 j.1,
+          record {
+            of = of;
+            of_is = of_is;
+            die = die;
+            die_is = die_is;
+            offset_is = sym (ap (λ (x : ParsedScope). x.scope.offset) found.is)
+                ∙ ap (λ (p : ScopeSite). p.member.die.offset) (sym same);
+            kind_is = at ∙ ap (λ (k : ScopeKind). Some k)
+                (ap (λ (p : ScopeSite). p.kind) same
+                ∙ ap (λ (x : ParsedScope). x.scope.kind) found.is);
+          },
         )
-    by_kind (Some found) at (j ∷ js) made (suc place) is rest =
-        let count = count-one d (take place dies) found at in
-        let size = length-append before (j ∷ []) in
-        let later = rest (before ++ j ∷ []) js made.1 place is in
-        subst (HasScopeOf (scopes_in (j ∷ js)) kind die (drop (suc place) dies))
-        (omega (arith, count, size))
-        (later.0, Contains-append_right (j.scope ∷ []) (scopes_in js) later.0 later.1, later.2)
-
-pub described-of : (s : Sections) (all units : List CompilationUnit) (before js : List ParsedScope)
-    → AreParsed s all before (all_sites units) js
-    → (i place : ℕ) (unit : CompilationUnit) (die : Die) (kind : ScopeKind)
-    → slice_get units i ≡ Some unit → slice_get unit.dies place ≡ Some die
-    → kind_of die.tag ≡ Some kind → HasScopeOf (scopes_in js) kind die (drop (suc place) unit.dies)
-    (length before + number_of_scopes (take i units) + count_by is_scope (take place unit.dies))
-described-of s all [] before js made i place unit die kind is die_is scope = cc
-described-of s all (first ∷ units) before js made zero place unit die kind is die_is scope =
-    let same : first ≡ unit = same-some first unit is in
-    let parts = split s all before (sites_in first first.dies) (all_sites units) js made in
-    let there = described-in s all first first.dies before parts.first parts.first_are place die
-    kind
-    (ap (λ (u : CompilationUnit). slice_get u.dies place) same ∙ die_is) scope in
-    let joined : scopes_in parts.first ++ scopes_in parts.rest ≡ scopes_in js =
-    sym (map-append (λ (j : ParsedScope). j.scope) parts.first parts.rest)
-    ∙ ap scopes_in parts.whole in
-    let found : HasScopeOf (scopes_in js) kind die (drop (suc place) first.dies)
-    (length before + 0 + count_by is_scope (take place first.dies)) =
-    subst (HasScopeOf (scopes_in js) kind die (drop (suc place) first.dies)) (omega arith) (
-      there.0,
-      subst (λ (ss : List Scope). Contains ss there.0) joined
-          (Contains-append_left (scopes_in parts.first) (scopes_in parts.rest) there.0 there.1),
-      there.2,
-    ) in
-    subst (λ (u : CompilationUnit). HasScopeOf (scopes_in js) kind die (drop (suc place) u.dies)
-    (length before + 0 + count_by is_scope (take place u.dies))) same found
-described-of s all (first ∷ units) before js made (suc i) place unit die kind is die_is scope =
-    let parts = split s all before (sites_in first first.dies) (all_sites units) js made in
-    let there = described-of s all units (before ++ parts.first) parts.rest parts.rest_are i
-    place unit
-    die kind is die_is scope in
-    let joined : scopes_in parts.first ++ scopes_in parts.rest ≡ scopes_in js =
-    sym (map-append (λ (j : ParsedScope). j.scope) parts.first parts.rest)
-    ∙ ap scopes_in parts.whole in
-    let size = length-append before parts.first in
-    let made_are = parsed-length s all before (sites_in first first.dies) parts.first
-    parts.first_are in
-    let sites = sites-count first first.dies in
-    let sum = sum_by-cons (λ (unit : CompilationUnit). count_by is_scope unit.dies) first
-    (take i units) in
-    subst (HasScopeOf (scopes_in js) kind die (drop (suc place) unit.dies))
-    (omega (arith, size, made_are, sites, sum)) (
-      there.0,
-      subst (λ (ss : List Scope). Contains ss there.0) joined
-          (Contains-append_right (scopes_in parts.first) (scopes_in parts.rest) there.0 there.1),
-      there.2,
-    )

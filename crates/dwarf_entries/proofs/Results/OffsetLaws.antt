@@ -1,183 +1,147 @@
 -- The offsets of scopes and of roots are strictly increasing, within .debug_info.
-use Rattle.std.proofs.Common.{◌≡◌, ℕ, zero, suc, ◌+◌, ◌<◌, ◌≤◌, List, [], ◌∷◌, ◌++◌, length, map}
-use Rattle.std.proofs.Common.{refl, ap, sym, ◌∙◌, subst, arith, add-one}
-use Rattle.std.specs.Prelude.{Option, Some, None, Ok, All, count_by, slice_get}
+use Rattle.std.proofs.Common.{◌≡◌, ℕ, suc, ◌+◌, ◌<◌, ◌≤◌, List, [], ◌∷◌, length, map, refl, ap}
+use Rattle.std.proofs.Common.{arith}
+use Rattle.std.specs.Prelude.{Some, Ok, All, slice_get, count_by}
+use Rattle.std.specs.List.{AllPairs}
 use Rattle.std.specs.List.Sorted.{IsStrictlyIncreasing}
-use Rattle.std.proofs.lemmas.List.Elements.{All-nil, All-cons}
+use Rattle.std.proofs.lemmas.List.Elements.{All-nil, All-cons, All-weaker, All-map}
+use Rattle.std.proofs.lemmas.List.Kept.{AllPairs-cons}
+use Rattle.std.proofs.lemmas.Option.{slice_get-get_or, get_or_from_slice_get, slice_get_within}
+use Rattle.dwarf_bytes.specs.declared.constants.TheConstants.{DW_AT_STMT_LIST}
 use Rattle.dwarf_units.specs.Entries.{Die}
 use Rattle.dwarf_units.specs.Private.Rising.{RiseWithin}
 use Rattle.dwarf_entries.specs.declared.scope.Root.{Root}
-use Rattle.dwarf_walk.specs.declared.scope_kind.ScopeKind.{ScopeKind}
+use Rattle.dwarf_walk.specs.ScopeEntries.{is_scope, number_of}
 use Rattle.dwarf_walk.specs.Sections.{Sections}
 use Rattle.dwarf_entries.specs.Bases.{CompilationUnit}
-use Rattle.dwarf_entries.specs.Scopes.{Scope, Tree, ScopeSite, ParsedScope, site_of, sites_in}
-use Rattle.dwarf_entries.specs.Scopes.{root_of, roots_from, tree_of}
-use Rattle.dwarf_walk.specs.ScopeEntries.{kind_of, is_scope}
+use Rattle.dwarf_entries.specs.Scopes.{Scope, Tree, ParsedScope, root_of, roots_from, tree_of}
 use Rattle.dwarf_entries.specs.TreeLaws.{RiseBelow}
-use Rattle.dwarf_entries.proofs.UnitPasses.UnitLaws.{AreUnitsIn, dies-rise, units-in}
-use Rattle.dwarf_entries.proofs.Results.TreeParts.{AreParsed, IsRead, is-read}
-use Rattle.dwarf_entries.specs.Private.Passes.{all_sites}
 use Rattle.dwarf_entries.proofs.OriginChains.ReferenceLaws.{within-le}
+use Rattle.dwarf_entries.proofs.Results.SiteOrder.{sites-rise, within-unit}
+use Rattle.dwarf_entries.proofs.Results.TreeParts.{after-tree, scope-at, scopes_in, all-are}
+use Rattle.dwarf_entries.proofs.UnitPasses.UnitLaws.{IsUnitIn, AreUnitsIn, dies-rise, units-in}
+use Rattle.dwarf_entries.proofs.UnitPasses.UnitLaws.{units-after}
+use Rattle.dwarf_entries.proofs.UnitPasses.PassLaws.{from-map}
 
--- ---- increasing numbers
-
--- Numbers are strictly increasing, from a lower bound on and up to an end.
-abbrev Rise : ℕ → ℕ → List ℕ → Type 0
-Rise from end [] = from ≤ end
-Rise from end (x ∷ xs) = (from ≤ x) × Rise (suc x) end xs
-
-rise-from : (low from end : ℕ) (xs : List ℕ) → low ≤ from → Rise from end xs → Rise low end xs
-rise-from low from end [] le h = omega (arith, le, h)
-rise-from low from end (x ∷ xs) le h = let first = h.0 in (omega (arith, le, first), h.1)
-
-rise-fits : (from end : ℕ) (xs : List ℕ) → Rise from end xs → from ≤ end
-rise-fits from end [] h = h
-rise-fits from end (x ∷ xs) h = let first = h.0 in let rest = rise-fits (suc x) end xs h.1 in
-    omega (arith, first, rest)
-
-rise-append : (from mid end : ℕ) (xs ys : List ℕ) → Rise from mid xs → Rise mid end ys
-    → Rise from end (xs ++ ys)
-rise-append from mid end [] ys a b = rise-from from mid end ys a b
-rise-append from mid end (x ∷ xs) ys a b = (a.0, rise-append (suc x) mid end xs ys a.1 b)
-
-rise-strictly : (from end : ℕ) (xs : List ℕ) → Rise from end xs → IsStrictlyIncreasing xs
-rise-strictly from end [] h k lt = absurd (omega (arith, lt))
-rise-strictly from end (x ∷ []) h k lt = absurd (omega (arith, lt))
-rise-strictly from end (x ∷ y ∷ xs) h zero lt = let first = h.1.0 in omega (arith, first)
-rise-strictly from end (x ∷ y ∷ xs) h (suc k) lt =
-    rw add-one (rw add-one at (rise-strictly (suc x) end (y ∷ xs) h.1 k (omega (arith, lt))))
-
-rise-below : (from end : ℕ) (xs : List ℕ) → Rise from end xs → All (λ x. x < end) xs
-rise-below from end [] h = All-nil (λ (x : ℕ). x < end)
-rise-below from end (x ∷ xs) h = let fits = rise-fits (suc x) end xs h.1 in
-    All-cons (λ (x : ℕ). x < end) x xs (omega (arith, fits)) (rise-below (suc x) end xs h.1)
-
-rises : (from end : ℕ) (xs : List ℕ) → Rise from end xs → RiseBelow end xs
-rises from end xs h = (rise-strictly from end xs h, rise-below from end xs h)
-
--- ---- consecutive units with increasing entries
-
-abbrev pub UnitsRise : ℕ → ℕ → List CompilationUnit → Type 0
-UnitsRise from size [] = from ≤ size
-UnitsRise from size (unit ∷ units) = (end : ℕ) × RiseWithin from end unit.dies
-    × UnitsRise end size units
-
-within-from : (low from end : ℕ) (dies : List Die) → low ≤ from → RiseWithin from end dies
-    → RiseWithin low end dies
-within-from low from end [] le h = omega (arith, le, h)
-within-from low from end (die ∷ dies) le h = let first = h.0 in (omega (arith, le, first), h.1)
-
-list-rises : (s : Sections) (from : ℕ) (us : List CompilationUnit) → AreUnitsIn s us
-    → from ≤ length s.debug_info
-    → ((i : ℕ) (u : CompilationUnit) → slice_get us i ≡ Some u → from ≤ u.header.start)
-    → UnitsRise from (length s.debug_info) us
-list-rises s from [] are le starts = le
-list-rises s from (u ∷ us) are le starts =
-    let is = are.each_is 0 u refl in (
-      u.header.end,
-      within-from from u.header.start u.header.end u.dies (starts 0 u refl) (dies-rise is),
-      list-rises s u.header.end us (record {
-        each_is = λ i v found. are.each_is (suc i) v found;
-        apart = λ i j v w first second lt.
-            are.apart (suc i) (suc j) v w first second (omega (arith, lt));
-      }) is.bounds.within (λ i v found. are.apart 0 (suc i) u v refl found (omega arith)),
-    )
-
-pub units-rise : (s : Sections) (tree : Tree) (read : IsRead s tree)
-    → UnitsRise 0 (length s.debug_info) read.units
-units-rise s tree read = list-rises s 0 read.units (units-in s read.units read.units_are)
-    (omega arith) (λ i u found. omega arith)
+increasing : {X : Type 0} (key : X → ℕ) (xs : List X) → ((i j : ℕ) (x y : X)
+    → slice_get xs i ≡ Some x → slice_get xs j ≡ Some y → i < j → key x < key y)
+    → IsStrictlyIncreasing (map key xs)
+increasing key xs rise k lt =
+    let keys : List ℕ = map key xs in
+    let a = from-map key xs k _ (slice_get-get_or keys k 0 (omega (arith, lt))) in
+    let b = from-map key xs (k + 1) _ (slice_get-get_or keys (k + 1) 0 lt) in
+    let less = rise k (k + 1) a.0 b.0 a.1 b.1 (omega arith) in
+    omega (arith, less, a.2, b.2)
 
 -- ---- scopes
 
-abbrev site_offsets : List ScopeSite → List ℕ
-site_offsets ps = map (λ (p : ScopeSite). p.member.die.offset) ps
-
-abbrev scope_offsets : List Scope → List ℕ
-scope_offsets ss = map (λ (scope : Scope). scope.offset) ss
-
-site-offsets-append : (ps qs : List ScopeSite) → site_offsets (ps ++ qs) ≡ site_offsets ps
-    ++ site_offsets qs
-site-offsets-append [] qs = refl
-site-offsets-append (p ∷ ps) qs = ap (λ (ks : List ℕ). p.member.die.offset ∷ ks)
-    (site-offsets-append ps qs)
-
-sites-rise : (unit : CompilationUnit) (from end : ℕ) (dies : List Die) → RiseWithin from end dies
-    → Rise from end (site_offsets (sites_in unit dies))
-sites-rise unit from end [] h = h
-sites-rise unit from end (die ∷ dies) h =
-    by_kind (kind_of die.tag) (sites-rise unit (suc die.offset) end dies h.1)
-  where
-    by_kind : (kind : Option ScopeKind) → Rise (suc die.offset) end
-        (site_offsets (sites_in unit dies))
-        → Rise from end (site_offsets (site_of unit die dies kind (sites_in unit dies)))
-    by_kind None rest = let first = h.0 in
-        rise-from from (suc die.offset) end (site_offsets (sites_in unit dies))
-        (omega (arith, first)) rest
-    by_kind (Some kind) rest = (h.0, rest)
-
-all-sites-rise : (from size : ℕ) (units : List CompilationUnit) → UnitsRise from size units
-    → Rise from size (site_offsets (all_sites units))
-all-sites-rise from size [] h = h
-all-sites-rise from size (unit ∷ units) h =
-    subst (λ (ks : List ℕ). Rise from size ks)
-    (sym (site-offsets-append (sites_in unit unit.dies) (all_sites units)))
-    (rise-append from h.0 size (site_offsets (sites_in unit unit.dies))
-    (site_offsets (all_sites units)) (sites-rise unit from h.0 unit.dies h.1)
-    (all-sites-rise h.0 size units h.2))
-
-offsets-parsed : (s : Sections) (units : List CompilationUnit) (before : List ParsedScope)
-    (ps : List ScopeSite) (js : List ParsedScope) → AreParsed s units before ps js
-    → site_offsets ps ≡ scope_offsets (map (λ j. j.scope) js)
-offsets-parsed s units before [] [] h = refl
-offsets-parsed s units before [] (j ∷ js) h = absurd h
-offsets-parsed s units before (p ∷ ps) [] h = absurd h
-offsets-parsed s units before (p ∷ ps) (j ∷ js) h =
-    let here : p.member.die.offset ≡ j.scope.offset = ap (λ (x : ParsedScope). x.scope.offset)
-    h.0.is in
-    ap (λ (k : ℕ). k ∷ site_offsets ps) here ∙ ap (λ (ks : List ℕ). j.scope.offset ∷ ks)
-    (offsets-parsed s units (before ++ j ∷ []) ps js h.1)
-
 pub scopes-rise : (s : Sections) (tree : Tree) → tree_of s ≡ Ok tree
     → RiseBelow (length s.debug_info) (map (λ (scope : Scope). scope.offset) tree.scopes)
-scopes-rise s tree h =
-    let read = is-read s tree h in
-    let size : ℕ = length s.debug_info in
-    let described : site_offsets (all_sites read.units) ≡ scope_offsets tree.scopes =
-    offsets-parsed s read.units [] (all_sites read.units) read.parsed read.parsed_are
-    ∙ ap scope_offsets read.scopes_are in
-    subst (λ (ks : List ℕ). RiseBelow size ks) described
-    (rises 0 size (site_offsets (all_sites read.units))
-    (all-sites-rise 0 size read.units (units-rise s tree read)))
+scopes-rise s tree h = after-tree s tree h (λ tree. RiseBelow (length s.debug_info)
+    (map (λ (scope : Scope). scope.offset) tree.scopes)) (λ us parsed us_are parsed_are.
+    let are = units-in s us us_are in
+    let at = scope-at s us parsed parsed_are in (
+      increasing (λ (scope : Scope). scope.offset) (scopes_in parsed) (λ i j x y x_is y_is lt.
+          let a = from-map (λ (j : ParsedScope). j.scope) parsed i x x_is in
+          let b = from-map (λ (j : ParsedScope). j.scope) parsed j y y_is in
+          let first = at i a.0 a.1 in
+          let second = at j b.0 b.1 in
+          let less = sites-rise are first.place second.place lt in
+          omega (
+            arith,
+            less,
+            ap (λ (z : ParsedScope). z.scope.offset) first.is,
+            ap (λ (z : ParsedScope). z.scope.offset) second.is,
+            ap (λ (z : Scope). z.offset) a.2,
+            ap (λ (z : Scope). z.offset) b.2,
+          )),
+      All-map (λ (offset : ℕ). offset < length s.debug_info) (λ (scope : Scope). scope.offset)
+          (scopes_in parsed)
+          (all-are (λ (scope : Scope). scope.offset < length s.debug_info) parsed (λ n j there.
+          let one = at n j there in
+          let inside = within-unit are one.place in
+          let bounds =
+          (are.each_is one.place.unit one.site.member.unit one.place.unit_is).bounds in
+          omega (
+            arith,
+            inside.1,
+            bounds.within,
+            ap (λ (z : ParsedScope). z.scope.offset) one.is,
+          ))),
+    ))
 
 -- ---- roots
 
-abbrev root_offsets : List Root → List ℕ
-root_offsets rs = map (λ (root : Root). root.offset) rs
+abbrev Within : ℕ → ℕ → Root → Type 0
+Within from end root = (from ≤ root.offset) × (root.offset < end)
 
-roots-from-rise : (number from size : ℕ) (units : List CompilationUnit) → UnitsRise from size units
-    → Rise from size (root_offsets (roots_from number units))
-roots-from-rise number from size [] h = h
-roots-from-rise number from size (unit ∷ units) h =
-    let past : ℕ = number + count_by is_scope unit.dies in
-    by_root past unit.dies h.1 (roots-from-rise past h.0 size units h.2)
+-- The offsets of roots rise, from a lower bound on.
+abbrev RootsRise : Sections → ℕ → List Root → Type 0
+RootsRise s from roots =
+    All (Within from (length s.debug_info)) roots × AllPairs (λ a b. a.offset < b.offset) roots
+
+roots-from-rise : (s : Sections) (from number : ℕ) (us : List CompilationUnit) → AreUnitsIn s us
+    → ((i : ℕ) (u : CompilationUnit) → slice_get us i ≡ Some u → from ≤ u.header.start)
+    → RootsRise s from (roots_from number us)
+roots-from-rise s from number [] are starts = (
+  All-nil _,
+  λ i j d lt within.
+      absurd (omega (arith, within)),
+)
+roots-from-rise s from number (u ∷ us) are starts =
+    let past : ℕ = number + count_by is_scope u.dies in
+    by_root u.dies past (dies-rise is) (roots-from-rise s u.header.end past us
+    (units-after u us are) (λ i v found. are.apart 0 (suc i) u v refl found (omega arith)))
   where
-    by_root : (past : ℕ) (dies : List Die) → RiseWithin from h.0 dies
-        → Rise h.0 size (root_offsets (roots_from past units))
-        → Rise from size (root_offsets (root_of number past dies (roots_from past units)))
-    by_root past [] rise rest = rise-from from h.0 size (root_offsets (roots_from past units)) rise
-        rest
-    by_root past (root ∷ dies) rise rest = (
-      rise.0,
-      rise-from (suc root.offset) h.0 size (root_offsets (roots_from past units))
-          (within-le (suc root.offset) h.0 dies rise.1) rest,
-    )
+    is : IsUnitIn s u
+    is = are.each_is 0 u refl
+
+    lower : from ≤ u.header.end → (past : ℕ)
+        → All (Within u.header.end (length s.debug_info)) (roots_from past us)
+        → All (Within from (length s.debug_info)) (roots_from past us)
+    lower le past = All-weaker (Within u.header.end (length s.debug_info))
+        (Within from (length s.debug_info)) (λ root at. (omega (arith, le, at.0), at.1))
+        (roots_from past us)
+
+    by_root : (dies : List Die) (past : ℕ) → RiseWithin u.header.start u.header.end dies
+        → RootsRise s u.header.end (roots_from past us)
+        → RootsRise s from (root_of number past dies (roots_from past us))
+    by_root [] past rise rest =
+        let start = starts 0 u refl in
+        let fits = within-le u.header.start u.header.end [] rise in
+        (lower (omega (arith, start, fits)) past rest.0, rest.1)
+    by_root (die ∷ dies) past rise rest =
+        let start = starts 0 u refl in
+        let first = rise.0 in
+        let fits = within-le (suc die.offset) u.header.end dies rise.1 in
+        let within = is.bounds.within in
+        let root : Root = record {
+          offset = die.offset;
+          stmt_list = number_of DW_AT_STMT_LIST die;
+          first = number;
+          past = past;
+        } in (
+          All-cons (Within from (length s.debug_info)) root (roots_from past us) (omega (arith, start, first), omega (arith, fits, within))
+              (lower (omega (arith, start, first, fits)) past rest.0),
+          AllPairs-cons (λ (a b : Root). a.offset < b.offset) root (roots_from past us)
+              (All-weaker (Within u.header.end (length s.debug_info))
+              (λ (root : Root). die.offset < root.offset)
+              (λ root at. omega (arith, fits, at.0)) (roots_from past us) rest.0) rest.1,
+        )
 
 pub roots-rise : (s : Sections) (tree : Tree) → tree_of s ≡ Ok tree
     → RiseBelow (length s.debug_info) (map (λ (root : Root). root.offset) tree.roots)
-roots-rise s tree h =
-    let read = is-read s tree h in
-    let size : ℕ = length s.debug_info in
-    subst (λ (ks : List ℕ). RiseBelow size ks) (ap root_offsets read.roots_are)
-    (rises 0 size (root_offsets (roots_from 0 read.units))
-    (roots-from-rise 0 0 size read.units (units-rise s tree read)))
+roots-rise s tree h = after-tree s tree h (λ tree. RiseBelow (length s.debug_info)
+    (map (λ (root : Root). root.offset) tree.roots)) (λ us parsed us_are parsed_are.
+    let rise = roots-from-rise s 0 0 us (units-in s us us_are) (λ i u found. omega arith) in (
+      increasing (λ (root : Root). root.offset) (roots_from 0 us) (λ i j x y x_is y_is lt.
+          let less = rise.1 i j x lt (slice_get_within (roots_from 0 us) j y y_is) in
+          omega (
+            arith,
+            less,
+            ap (λ (r : Root). r.offset) (get_or_from_slice_get (roots_from 0 us) i x x x_is),
+            ap (λ (r : Root). r.offset) (get_or_from_slice_get (roots_from 0 us) j y x y_is),
+          )),
+      All-map (λ (offset : ℕ). offset < length s.debug_info) (λ (root : Root). root.offset)
+          (roots_from 0 us) (λ k d lt. (rise.0 k d lt).1),
+    ))

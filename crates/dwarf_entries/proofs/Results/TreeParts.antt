@@ -1,147 +1,156 @@
--- The parts that a successful result was read from, and the parts of each scope.
-use Rattle.std.proofs.Common.{◌≡◌, List, [], ◌∷◌, ◌++◌, map, ap, subst}
-use Rattle.std.specs.Prelude.{Result, Ok}
+-- The units and scopes that a result was read from.
+use Rattle.std.proofs.Common.{◌≡◌, ◌⊎◌, inl, inr, ℕ, ◌+◌, ◌<◌, List, [], length, take, map, get_or}
+use Rattle.std.proofs.Common.{ap, sym, refl, ◌∙◌, subst, arith, length-take}
+use Rattle.std.specs.Prelude.{Result, Ok, Err, Some, All, Contains, slice_get}
+use Rattle.std.proofs.lemmas.List.{get_or-map, length-map}
+use Rattle.std.proofs.lemmas.List.Elements.{All-map}
+use Rattle.std.proofs.lemmas.Option.{slice_get-get_or, slice_get_within, get_or_from_slice_get}
+use Rattle.dwarf_bytes.specs.declared.fault.Cause.{Cause}
 use Rattle.dwarf_bytes.specs.declared.fault.Section.TheVariants as names
+use Rattle.dwarf_bytes.specs.declared.fault.LoadFault.{LoadFault}
 use Rattle.dwarf_bytes.specs.Bind.{◌>>=◌}
-use Rattle.dwarf_bytes.specs.Items.{At, each_from}
-use Rattle.dwarf_bytes.specs.Refusals.{in_section}
-use Rattle.dwarf_bytes.proofs.Numbers.Advance.{after-bind}
+use Rattle.dwarf_bytes.specs.Items.{with_offset}
+use Rattle.dwarf_bytes.specs.Refusals.{memory_fault, in_section}
+use Rattle.dwarf_bytes.proofs.Numbers.Advance.{bind_ok, after-bind}
 use Rattle.dwarf_bytes.proofs.Numbers.Moves.{same-ok}
-use Rattle.dwarf_entries.specs.declared.origin_chains.EntryNames.{EntryNames}
+use Rattle.dwarf_units.proofs.TableLaws.{in_section-ok}
 use Rattle.dwarf_walk.specs.Sections.{Sections}
+use Rattle.dwarf_entries.specs.declared.origin_chains.EntryNames.{EntryNames}
 use Rattle.dwarf_entries.specs.Bases.{CompilationUnit, units_read}
 use Rattle.dwarf_entries.specs.Names.{names_of}
 use Rattle.dwarf_entries.specs.Ranges.{Covering}
-use Rattle.dwarf_entries.specs.Scopes.{Tree, ScopeSite, ParsedScope, scope_at, tree_of, roots_from}
-use Rattle.dwarf_entries.proofs.Results.ScopeOrder.{bind-ok, described-ok}
-use Rattle.dwarf_entries.proofs.Results.ScopePlaces.{made_of, from_units}
-use Rattle.dwarf_entries.specs.Private.Passes.{parse_scope}
-use Rattle.dwarf_entries.specs.Private.Passes.{all_sites}
-use Rattle.dwarf_units.proofs.TableLaws.{in_section-ok}
-use Rattle.dwarf_entries.proofs.ScopePasses.ScopeLaws.{scope_of_place}
-use Rattle.dwarf_entries.proofs.ScopePasses.ScopeLaws.{covers_there}
+use Rattle.dwarf_entries.specs.Scopes.{Tree, Scope, ScopeSite, ParsedScope, scope_at, tree_of}
+use Rattle.dwarf_entries.specs.Scopes.{roots_from}
+use Rattle.dwarf_entries.specs.Private.Passes.{parse_scope, all_sites, all_scopes}
+use Rattle.dwarf_entries.proofs.ScopePasses.ScopeLaws.{scope_of_site, covers_there}
+use Rattle.dwarf_entries.proofs.ScopePasses.SiteLaws.{IsSiteAt, site-at}
+use Rattle.dwarf_entries.proofs.UnitPasses.PassLaws.{Faults, element, each-at}
 
--- ---- the results for each element of a list
+-- ---- the passes of a read
 
-pub each-cons : {X Y : Type 0} (make : List Y → X → Result Y At) (before : List Y) (x : X)
-    (xs : List X) (y : Y) (ys : List Y) → each_from make before (x ∷ xs) ≡ Ok (y ∷ ys)
-    → (make before x ≡ Ok y) × (each_from make (before ++ y ∷ []) xs ≡ Ok ys)
-unfolding each_from
-each-cons {Y = Y} make before x xs y ys h =
-    let P : Type 0 = (make before x ≡ Ok y) × (each_from make (before ++ y ∷ []) xs ≡ Ok ys) in
-    after-bind (make before x) _ (y ∷ ys) h P (λ first first_is h1.
-    after-bind (each_from make (before ++ first ∷ []) xs) _ (y ∷ ys) h1 P (λ rest rest-is last.
-    both first rest first_is rest-is (same-ok (first ∷ rest) (y ∷ ys) last)))
-  where
-    both : (first : Y) (rest : List Y) → make before x ≡ Ok first
-        → each_from make (before ++ first ∷ []) xs ≡ Ok rest → first ∷ rest ≡ y ∷ ys
-        → (make before x ≡ Ok y) × (each_from make (before ++ y ∷ []) xs ≡ Ok ys)
-    both first rest a b same =
-        let first_is : first ≡ y = cc in
-        let rest-is : rest ≡ ys = cc in (
-          subst (λ (z : Y). make before x ≡ Ok z) first_is a,
-          subst (λ (z : Y). each_from make (before ++ z ∷ []) xs ≡ Ok ys) first_is
-              (subst (λ (zs : List Y). each_from make (before ++ first ∷ []) xs ≡ Ok zs) rest-is b),
-        )
+abbrev pub tree_from : List CompilationUnit → List ParsedScope → Tree
+tree_from us parsed = record { roots = roots_from 0 us; scopes = map (λ j. j.scope) parsed }
 
-each-none : {X Y : Type 0} (make : List Y → X → Result Y At) (before : List Y) (x : X) (xs : List X)
-    → each_from make before (x ∷ xs) ≡ Ok [] → ⊥
-unfolding each_from
-each-none make before x xs h =
-    after-bind (make before x) _ [] h ⊥ (λ first _ h1.
-    after-bind (each_from make (before ++ first ∷ []) xs) _ [] h1 ⊥ (λ rest _ last.
-    cc))
+abbrev pub FaultOfTree : Sections → LoadFault → Type 0
+FaultOfTree s fault = (fault ≡ memory_fault) ⊎ (tree_of s ≡ Err fault)
 
-pub each-past : {X Y : Type 0} (make : List Y → X → Result Y At) (before : List Y) (y : Y)
-    (ys : List Y) → each_from make before [] ≡ Ok (y ∷ ys) → ⊥
-unfolding each_from
-each-past make before y ys h = cc
+pub units-fault : (s : Sections) (fault : LoadFault)
+    → (fault ≡ memory_fault) ⊎ (units_read s ≡ Err fault) → FaultOfTree s fault
+unfolding tree_of
+units-fault s fault (inl memory) = inl memory
+units-fault s fault (inr bad) = inr (rw bad refl)
 
--- ---- the parts of a scope, after the scopes before it
+module _ (s : Sections) (us : List CompilationUnit) (us_are : units_read s ≡ Ok us) where
+  pub scopes-fault : (fault : LoadFault) → Faults fault (all_scopes s us) → FaultOfTree s fault
+  unfolding tree_of
+  scopes-fault fault (inl memory) = inl memory
+  scopes-fault fault (inr bad) = inr (rw (us_are, bad) refl)
 
-pub record IsChecked (sections : Sections) (units : List CompilationUnit)
-    (before : List ParsedScope)
-    (p : ScopeSite) (j : ParsedScope) : Type 0 where
+  pub tree-read : (parsed : List ParsedScope) → all_scopes s us ≡ Ok parsed
+      → tree_of s ≡ Ok (tree_from us parsed)
+  unfolding tree_of
+  tree-read parsed parsed_are = rw (us_are, parsed_are) refl
+
+-- A property of a result follows from the units and scopes that it was read from.
+pub after-tree : (s : Sections) (tree : Tree) → tree_of s ≡ Ok tree → (P : Tree → Type 0)
+    → ((us : List CompilationUnit) (parsed : List ParsedScope) → units_read s ≡ Ok us
+    → all_scopes s us ≡ Ok parsed → P (tree_from us parsed)) → P tree
+unfolding tree_of
+after-tree s tree h P next =
+    let a = bind_ok (units_read s) _ tree h in
+    let b = bind_ok (in_section names.DebugInfo (all_scopes s a.0)) _ tree a.2 in
+    subst P (same-ok (tree_from a.0 b.0) tree b.2)
+    (next a.0 b.0 a.1 (in_section-ok names.DebugInfo (all_scopes s a.0) b.0 b.1))
+
+pub with-units : (s : Sections) (us : List CompilationUnit) (tree : Tree) → units_read s ≡ Ok us
+    → tree_of s ≡ Ok tree → (P : Tree → Type 0)
+    → ((parsed : List ParsedScope) → all_scopes s us ≡ Ok parsed → P (tree_from us parsed))
+    → P tree
+with-units s us tree us_are h P next = after-tree s tree h P (λ vs parsed vs_are parsed_are.
+    subst (λ (ws : List CompilationUnit). all_scopes s ws ≡ Ok parsed → P (tree_from ws parsed))
+    (same-ok us vs (sym us_are ∙ vs_are)) (next parsed) parsed_are)
+
+-- ---- the scope with a number
+
+without-offset : {X : Type 0} (at : ℕ) (r : Result X Cause) (x : X) → with_offset at r ≡ Ok x
+    → r ≡ Ok x
+without-offset at (Ok y) x h = cc
+without-offset at (Err e) x h = cc
+
+pub record IsScopeAt (s : Sections) (us : List CompilationUnit) (parsed : List ParsedScope) (n : ℕ)
+    (j : ParsedScope) : Type 0 where
+  pub site : ScopeSite
+  pub there : slice_get (all_sites us) n ≡ Some site
+  pub place : IsSiteAt us n site
   pub found : EntryNames
-  pub found_are : names_of sections units p.member ≡ Ok found
+  pub found_are : names_of s us site.member ≡ Ok found
   pub covering : Covering
-  pub covering_is : covers_there sections before p ≡ Ok covering
-  pub is : scope_of_place before p found covering ≡ j
+  pub covering_is : covers_there s (take n parsed) site ≡ Ok covering
+  pub is : scope_of_site (take n parsed) site found covering ≡ j
+  pub number_is : j.scope.number ≡ n
+  pub end_is : j.scope.«end» ≡ n + 1 + site.inside
 
-is-parsed : (sections : Sections) (units : List CompilationUnit) (before : List ParsedScope)
-    (p : ScopeSite) (j : ParsedScope) → parse_scope sections units before p ≡ Ok j
-    → IsChecked sections units before p j
-is-parsed sections units before p j h =
-    let P : Type 0 = IsChecked sections units before p j in
-    after-bind (names_of sections units p.member)
-    (λ found. covers_there sections before p
-    >>= λ covering. Ok (scope_of_place before p found covering)) j
-    (described-ok p.member.die.offset (scope_at sections units before p) j h) P
-    (λ found found_are h1.
-    after-bind (covers_there sections before p)
-    (λ covering. Ok (scope_of_place before p found covering))
-    j h1 P (λ covering covering_is last.
+pub scope-at : (s : Sections) (us : List CompilationUnit) (parsed : List ParsedScope)
+    → all_scopes s us ≡ Ok parsed → (n : ℕ) (j : ParsedScope) → slice_get parsed n ≡ Some j
+    → IsScopeAt s us parsed n j
+scope-at s us parsed h n j there =
+    let of = each-at (parse_scope s us) [] (all_sites us) parsed h n j there in
+    let p = of.0 in
+    let before : List ParsedScope = take n parsed in
+    let P : Type 0 = IsScopeAt s us parsed n j in
+    let within = slice_get_within parsed n j there in
+    let size : length before ≡ n = omega (arith, length-take n parsed, within) in
+    after-bind (names_of s us p.member)
+    (λ found. covers_there s before p >>= λ covering. Ok (scope_of_site before p found covering)) j
+    (without-offset p.member.die.offset (scope_at s us before p) j of.2) P (λ found found_are h1.
+    after-bind (covers_there s before p) (λ covering. Ok (scope_of_site before p found covering)) j
+    h1 P (λ covering covering_is last.
+    let is = same-ok (scope_of_site before p found covering) j last in
     record {
+      site = p;
+      there = of.1;
+      place = site-at us n p of.1;
       found = found;
       found_are = found_are;
       covering = covering;
       covering_is = covering_is;
-      is = same-ok (scope_of_place before p found covering) j last;
+      is = is;
+      number_is = sym (ap (λ (x : ParsedScope). x.scope.number) is) ∙ size;
+      end_is = let end = ap (λ (x : ParsedScope). x.scope.«end») is in omega (arith, end, size);
     }))
 
-abbrev pub AreParsed : Sections → List CompilationUnit → List ParsedScope → List ScopeSite
-    → List ParsedScope
-    → Type 0
-AreParsed sections units before [] [] = Unit {0}
-AreParsed sections units before [] (j ∷ js) = ⊥
-AreParsed sections units before (p ∷ ps) [] = ⊥
-AreParsed sections units before (p ∷ ps) (j ∷ js) = IsChecked sections units before p j
-    × AreParsed sections units (before ++ j ∷ []) ps js
+-- ---- the list of scopes
 
-are-parsed : (sections : Sections) (units : List CompilationUnit) (before : List ParsedScope)
-    (ps : List ScopeSite) (js : List ParsedScope) → each_from (parse_scope sections units) before ps
-    ≡ Ok js
-    → AreParsed sections units before ps js
-are-parsed sections units before [] [] h = tt
-are-parsed sections units before [] (j ∷ js) h =
-    absurd (each-past (parse_scope sections units) before j js h)
-are-parsed sections units before (p ∷ ps) [] h =
-    absurd (each-none (parse_scope sections units) before p ps h)
-are-parsed sections units before (p ∷ ps) (j ∷ js) h =
-    let parts = each-cons (parse_scope sections units) before p ps j js h in (
-      is-parsed sections units before p j parts.0,
-      are-parsed sections units (before ++ j ∷ []) ps js
-          parts.1,
+abbrev pub scopes_in : List ParsedScope → List Scope
+scopes_in parsed = map (λ j. j.scope) parsed
+
+pub all-are : (P : Scope → Type 0) (parsed : List ParsedScope)
+    → ((n : ℕ) (j : ParsedScope) → slice_get parsed n ≡ Some j → P j.scope)
+    → All P (scopes_in parsed)
+all-are P parsed each_is = All-map P (λ (j : ParsedScope). j.scope) parsed
+    (λ k d lt. each_is k (get_or parsed k d) (slice_get-get_or parsed k d lt))
+
+-- A scope of the list has a number.
+pub contained : (parsed : List ParsedScope) (scope : Scope) → Contains (scopes_in parsed) scope
+    → (n : ℕ) × (j : ParsedScope) × (slice_get parsed n ≡ Some j) × (j.scope ≡ scope)
+contained parsed scope (k, lt, is) =
+    let size = length-map parsed (λ (j : ParsedScope). j.scope) in
+    let within : k < length parsed = omega (arith, size, lt) in
+    let j = element parsed k within in (
+      k,
+      j.0,
+      j.1,
+      ap (λ (x : ParsedScope). x.scope) (sym (get_or_from_slice_get parsed k j.0 j.0 j.1))
+          ∙ (sym (get_or-map (λ (x : ParsedScope). x.scope) parsed k j.0 scope within) ∙ is),
     )
 
--- ---- the parts that the result was read from
-
-pub record IsRead (s : Sections) (tree : Tree) : Type 0 where
-  pub units : List CompilationUnit
-  pub units_are : units_read s ≡ Ok units
-  pub parsed : List ParsedScope
-  pub parsed_are : AreParsed s units [] (all_sites units) parsed
-  pub roots_are : roots_from 0 units ≡ tree.roots
-  pub scopes_are : map (λ j. j.scope) parsed ≡ tree.scopes
-
-pub is-read : (s : Sections) (tree : Tree) → tree_of s ≡ Ok tree → IsRead s tree
-unfolding tree_of
-is-read s tree h =
-    let a = bind-ok (units_read s) (from_units s) tree h in
-    let units = a.0 in
-    let b = bind-ok (in_section names.DebugInfo
-    (each_from (parse_scope s units) [] (all_sites units)))
-    (made_of units) tree a.2 in
-    let parsed = b.0 in
-    let same = same-ok (record { roots = roots_from 0 units; scopes = map (λ j. j.scope) parsed })
-    tree b.2 in
-    record {
-      units = units;
-      units_are = a.1;
-      parsed = parsed;
-      parsed_are = are-parsed s units [] (all_sites units) parsed
-          (in_section-ok names.DebugInfo (each_from (parse_scope s units) [] (all_sites units))
-          parsed b.1);
-      roots_are = ap (λ (t : Tree). t.roots) same;
-      scopes_are = ap (λ (t : Tree). t.scopes) same;
-    }
+pub contains : (parsed : List ParsedScope) (n : ℕ) (j : ParsedScope) → slice_get parsed n ≡ Some j
+    → Contains (scopes_in parsed) j.scope
+contains parsed n j there =
+    let size = length-map parsed (λ (j : ParsedScope). j.scope) in
+    let within = slice_get_within parsed n j there in (
+      n,
+      omega (arith, size, within),
+      get_or-map (λ (x : ParsedScope). x.scope) parsed n j j.scope within
+          ∙ ap (λ (x : ParsedScope). x.scope) (get_or_from_slice_get parsed n j j there),
+    )

@@ -1,13 +1,13 @@
 -- The iterations of the loop that returns the roots.
 use Rattle.std.proofs.Common.{◌≡◌, ℕ, ◌+◌, ◌<◌, ◌≤◌, List, [], ◌∷◌, ◌++◌, length, take, drop}
-use Rattle.std.proofs.Common.{get_or, refl, ap, sym, ◌∙◌, subst, arith, append_assoc}
-use Rattle.std.proofs.Common.{append-nil}
+use Rattle.std.proofs.Common.{get_or, refl, ap, sym, ◌∙◌, subst, arith, append_assoc, append-nil}
+use Rattle.std.proofs.Common.{suc}
 use Rattle.std.specs.Prelude.{Option, Some, None, All, count_by, slice_get, sum_by, ◌-◌}
 use Rattle.std.specs.List.Sorted.{IsNonDecreasingBy}
 use Rattle.std.proofs.lemmas.List.Sorted.{IsNonDecreasingBy-push}
 use Rattle.std.proofs.lemmas.List.Elements.{All-nil, All-cons, All-append, All-weaker}
-use Rattle.std.proofs.lemmas.List.{drop_all, take_more, take-append-drop}
-use Rattle.std.proofs.lemmas.List.Sums.{sum_by-append}
+use Rattle.std.proofs.lemmas.List.{drop_all, take_more}
+use Rattle.std.proofs.lemmas.List.Sums.{sum_by-append, sum_by-take-le}
 use Rattle.dwarf_entries.specs.declared.scope.Root.{Root}
 use Rattle.dwarf_walk.specs.declared.unit_entries.RootEntry.{RootEntry}
 use Rattle.dwarf_walk.specs.declared.unit_entries.UnitEntries.{UnitEntries}
@@ -17,12 +17,12 @@ use Rattle.dwarf_walk.specs.ScopeEntries.{is_scope}
 use Rattle.dwarf_entries.specs.Scopes.{root_of, roots_from}
 use Rattle.dwarf_walk.specs.Private.Stored.{StoredUnit, root_in}
 use Rattle.dwarf_entries.specs.Private.EntryOffsets.{scope_count, AreStored}
-use Rattle.dwarf_entries.specs.Private.Passes.{number_of_scopes, IsFirstNumberOf}
+use Rattle.dwarf_entries.specs.Private.Passes.{number_of_scopes, first_number}
 use Rattle.std.proofs.lemmas.Option.{slice_get_read}
 use Rattle.dwarf_entries.proofs.UnitPasses.StoredUnits.{stored-at, stored-length}
-use Rattle.dwarf_entries.proofs.RootPasses.RootNumbers.{units-from}
-use Rattle.dwarf_entries.proofs.RootPasses.RootParts.{sites-count}
-use Rattle.dwarf_entries.proofs.ScopePasses.SiteLaws.{sites-stored}
+use Rattle.dwarf_entries.proofs.ScopePasses.SiteLaws.{sites-count}
+use Rattle.dwarf_entries.proofs.UnitPasses.PassLaws.{drop-at}
+use Rattle.dwarf_entries.proofs.ScopePasses.SiteReads.{sites-stored}
 
 -- The roots of the units before the index, followed by the roots of the other units, are all
 -- roots.
@@ -50,15 +50,11 @@ root-at units us index unit same within is =
     }
 
 -- The units up to an index have at most as many scopes as all.
-pub count-fits : (us : List CompilationUnit) (index number : ℕ) → IsFirstNumberOf us index number
+pub count-fits : (us : List CompilationUnit) (index number : ℕ) → number ≡ first_number us index
     → number ≤ number_of_scopes us
 count-fits us index number first =
-    let f : CompilationUnit → ℕ = λ u. count_by is_scope u.dies in
-    let whole : sum_by f (take index us ++ drop index us) ≡ sum_by f (take index us) +
-    sum_by f (drop index us) = sum_by-append f (take index us) (drop index us) in
-    let same : sum_by f (take index us ++ drop index us) ≡ sum_by f us =
-    ap (λ (vs : List CompilationUnit). sum_by f vs) (take-append-drop index us) in
-    omega (arith, whole, same, first)
+    let fits = sum_by-take-le (λ (u : CompilationUnit). count_by is_scope u.dies) us index in
+    omega (arith, fits, first)
 
 -- The scopes of a list of roots end in order, at or before a number.
 pub record EndInOrder (roots : List Root) (number : ℕ) : Type 0 where
@@ -121,6 +117,9 @@ pub roots-next : (units : List UnitEntries) (us : List CompilationUnit) (index f
     (roots ++ root_list first (first + length unit.scopes.items) unit.root)
 roots-next units us index first unit roots same within is so_far =
     let here = root-at units us index unit same within is in
+    let one : suc index ≡ index + 1 = omega arith in
+    let rest : drop index us ≡ here.u ∷ drop (index + 1) us =
+    drop-at us index here.u here.found ∙ ap (λ (k : ℕ). here.u ∷ drop k us) one in
     let past : ℕ = first + length unit.scopes.items in
     let list : List Root = root_list first past unit.root in
     let behind : roots_from first (here.u ∷ drop (index + 1) us)
@@ -139,7 +138,7 @@ roots-next units us index first unit roots same within is so_far =
     append_assoc roots list (roots_from past (drop (index + 1) us))
     ∙ (ap (λ (rs : List Root). roots ++ rs) (sym described)
     ∙ (ap (λ (vs : List CompilationUnit). roots ++ roots_from first vs)
-    (sym (units-from us here.u index here.found))
+    (sym rest)
     ∙ so_far))
 
 -- An iteration, with machine integers.

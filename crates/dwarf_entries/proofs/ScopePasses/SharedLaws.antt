@@ -1,6 +1,6 @@
 -- The data of scopes in the lists that they share.
-use Rattle.std.proofs.Common.{◌≡◌, ℕ, zero, suc, ◌-◌, List, [], ◌∷◌, length, take}
-use Rattle.std.proofs.Common.{drop, Bool, false, cond, refl, ap, sym, ◌∙◌, arith}
+use Rattle.std.proofs.Common.{◌≡◌, ℕ, zero, suc, ◌-◌, List, [], ◌∷◌, length, take, drop, Bool}
+use Rattle.std.proofs.Common.{false, cond, refl, ap, sym, ◌∙◌, arith}
 use Rattle.std.specs.Prelude.{Option, Some, None, slice_get, option_map, option_and_then, ◌==◌}
 use Rattle.std.specs.Option.{option_map_or}
 use Rattle.std.proofs.Math.Dec.{eqb-suc-zero}
@@ -8,8 +8,8 @@ use Rattle.dwarf_entries.specs.declared.calls.CallSite.{CallSite}
 use Rattle.dwarf_entries.specs.declared.scope.Range.{Range}
 use Rattle.dwarf_entries.specs.declared.scope.Root.{Root}
 use Rattle.dwarf_entries.specs.declared.scope.Scope.{Scope as StoredScope}
-use Rattle.dwarf_entries.specs.Scopes.{Scope, call_site, stmt_list_by_number, scope_of}
-use Rattle.dwarf_entries.specs.Scopes.{scopes_from, ranges_at, stmt_list_at}
+use Rattle.dwarf_entries.specs.Scopes.{Scope, call_site, stmt_list_by_number, scope_of, scopes_from}
+use Rattle.dwarf_entries.specs.Scopes.{ranges_at, stmt_list_at}
 use Rattle.dwarf_entries.specs.Private.Shared.{ranges_start}
 
 -- ---- the scope at an index

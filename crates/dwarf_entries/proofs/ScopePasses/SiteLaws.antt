@@ -1,152 +1,225 @@
--- The scope sites of a unit, from the data stored for it.
-use Rattle.std.proofs.Common.{◌≡◌, ℕ, zero, suc, ◌+◌, ◌<◌, List, [], ◌∷◌, length, drop, get_or, map}
-use Rattle.std.proofs.Common.{refl, ap, ◌∙◌, arith, drop-cons, add-one}
-use Rattle.std.specs.Prelude.{Option, Some, None, Ok, count_by, slice_get}
-use Rattle.std.proofs.lemmas.List.{get_or-map, length-map}
-use Rattle.std.proofs.lemmas.Option.{slice_get-get_or}
-use Rattle.dwarf_walk.specs.declared.scope_kind.ScopeKind.TheVariants.{Subprogram}
-use Rattle.dwarf_walk.specs.declared.scope_kind.ScopeKind.{ScopeKind}
-use Rattle.dwarf_walk.specs.declared.unit_entries.ScopePlace.{ScopePlace}
+-- The scope sites of units, by their numbers.
+use Rattle.std.proofs.Common.{◌≡◌, ℕ, zero, suc, ◌+◌, ◌-◌, ◌<◌, ◌≤◌, ◌⊎◌, inl, inr, true, false}
+use Rattle.std.proofs.Common.{cond, List, [], ◌∷◌, ◌++◌, length, take, drop, refl, ap, sym, ◌∙◌}
+use Rattle.std.proofs.Common.{subst, arith, length-append}
+use Rattle.std.proofs.lemmas.List.{take_all}
+use Rattle.std.specs.Prelude.{Option, Some, None, count_by, is_some, slice_get}
+use Rattle.std.proofs.lemmas.Bool.{cases_lt}
+use Rattle.std.proofs.lemmas.List.Sums.{sum_by-cons, sum_by_more}
+use Rattle.std.proofs.lemmas.Option.{same_Some, slice_get_within, get_or_from_slice_get}
 use Rattle.dwarf_units.specs.Entries.{Die, below}
+use Rattle.dwarf_walk.specs.declared.scope_kind.ScopeKind.{ScopeKind}
+use Rattle.dwarf_walk.specs.ScopeEntries.{kind_of, is_scope}
 use Rattle.dwarf_entries.specs.Bases.{CompilationUnit}
 use Rattle.dwarf_entries.specs.Scopes.{ScopeSite, site_of, sites_in}
-use Rattle.dwarf_walk.specs.ScopeEntries.{kind_of, is_scope}
-use Rattle.dwarf_walk.specs.declared.unit_entries.UnitEntries.{UnitEntries}
-use Rattle.dwarf_forms.specs.Declarations.{Declaration}
-use Rattle.dwarf_forms.specs.Tables.{declarations_of}
-use Rattle.dwarf_units.specs.declared.unit_headers.UnitHeader.{UnitHeader}
-use Rattle.dwarf_units.specs.Units.{declarations_limit}
-use Rattle.dwarf_walk.specs.Sections.{Sections}
-use Rattle.dwarf_walk.specs.Private.Rereading.{scope_entry_at}
-use Rattle.dwarf_walk.specs.Private.Stored.{StoredUnit, scope_entry, scope_place, scope_places}
-use Rattle.dwarf_walk.specs.Private.Stored.{stored_of}
-use Rattle.dwarf_entries.specs.Private.EntryOffsets.{stored_unit_of}
-use Rattle.dwarf_entries.proofs.UnitPasses.UnitLaws.{AreUnitsIn}
-use Rattle.dwarf_entries.proofs.UnitPasses.RereadLaws.{bytes_in, scope-there}
+use Rattle.dwarf_entries.specs.Private.Passes.{number_of_scopes, first_number, all_sites}
+use Rattle.dwarf_entries.proofs.UnitPasses.PassLaws.{element}
 
-abbrev pub place_in : ScopeSite → ScopePlace
-place_in p = record { offset = p.member.die.offset; inside = p.inside }
+-- ---- the sites of a unit
 
-pub places-are : (u : CompilationUnit) (dies : List Die)
-    → scope_places dies ≡ map place_in (sites_in u dies)
-places-are u [] = refl
-places-are u (die ∷ rest) = by_kind (kind_of die.tag) (places-are u rest)
+pub count-none : (die : Die) (dies : List Die) → kind_of die.tag ≡ None
+    → count_by is_scope (die ∷ dies) ≡ count_by is_scope dies
+count-none die dies is =
+    let scope : is_scope die ≡ false = ap is_some is in
+    sum_by-cons (λ x. cond (is_scope x) 1 0) die dies ∙ rw scope (omega arith)
+
+pub count-one : (die : Die) (dies : List Die) (kind : ScopeKind) → kind_of die.tag ≡ Some kind
+    → count_by is_scope (die ∷ dies) ≡ suc (count_by is_scope dies)
+count-one die dies kind is =
+    let scope : is_scope die ≡ true = ap is_some is in
+    sum_by-cons (λ x. cond (is_scope x) 1 0) die dies ∙ rw scope (omega arith)
+
+pub sites-count : (unit : CompilationUnit) (dies : List Die) → length (sites_in unit dies)
+    ≡ count_by is_scope dies
+sites-count unit [] = refl
+sites-count unit (die ∷ dies) = by_kind (kind_of die.tag) refl (sites-count unit dies)
   where
-    by_kind : (kind : Option ScopeKind) → scope_places rest ≡ map place_in (sites_in u rest)
-        → scope_place die rest kind (scope_places rest)
-        ≡ map place_in (site_of u die rest kind (sites_in u rest))
-    by_kind None later = later
-    by_kind (Some kind) later = ap (λ (ps : List ScopePlace).
-        (let p : ScopePlace = record {
-          offset = die.offset;
-          inside =
-              count_by is_scope (below die rest);
-        } in p) ∷ ps) later
+    by_kind : (kind : Option ScopeKind) → kind_of die.tag ≡ kind → length (sites_in unit dies)
+        ≡ count_by is_scope dies → length (site_of unit die dies kind (sites_in unit dies))
+        ≡ count_by is_scope (die ∷ dies)
+    by_kind None is rest = rest ∙ sym (count-none die dies is)
+    by_kind (Some kind) is rest = ap suc rest ∙ sym (count-one die dies kind is)
 
--- A unit has as many stored elements as sites.
-pub sites-stored : (k : UnitEntries) (u : CompilationUnit) → stored_of k ≡ stored_unit_of u
-    → length k.scopes.items ≡ length (sites_in u u.dies)
-sites-stored k u same = ap (λ (x : StoredUnit). length x.scopes) same
-    ∙ (ap (λ (ps : List ScopePlace). length ps) (places-are u u.dies)
-    ∙ length-map (sites_in u u.dies) place_in)
+-- The site of an entry.
+abbrev pub site_at : CompilationUnit → Die → List Die → ScopeKind → ScopeSite
+site_at u die rest kind = record {
+  member = record { unit = u; die = die };
+  kind = kind;
+  inside = count_by is_scope (below die rest);
+}
 
--- A site of a unit is a scope among its entries.
-pub record IsPlaceIn (u : CompilationUnit) (dies : List Die) (p : ScopeSite) : Type 0 where
+-- The site with a number is a scope among the entries of its unit.
+pub record IsSiteIn (u : CompilationUnit) (dies : List Die) (n : ℕ) (p : ScopeSite) : Type 0 where
   pub unit_is : p.member.unit ≡ u
   pub kind_is : kind_of p.member.die.tag ≡ Some p.kind
   pub index : ℕ
   pub there : slice_get dies index ≡ Some p.member.die
+  pub number_is : n ≡ count_by is_scope (take index dies)
+  pub inside_is : p.inside ≡ count_by is_scope (below p.member.die (drop (suc index) dies))
 
--- The same, with more entries before.
-place-after : (u : CompilationUnit) (die : Die) (dies : List Die) (p : ScopeSite)
-    → IsPlaceIn u dies p → IsPlaceIn u (die ∷ dies) p
-place-after u die dies p is = record {
-  unit_is = is.unit_is;
-  kind_is = is.kind_is;
-  index =
-      suc is.index;
-  there = is.there;
-}
-
-sites-each : (u : CompilationUnit) (dies : List Die) (i : ℕ) (d : ScopeSite)
-    → i < length (sites_in u dies) → IsPlaceIn u dies (get_or (sites_in u dies) i d)
-sites-each u [] i d within = absurd (omega (arith, within))
-sites-each u (die ∷ rest) i d within = by_kind (kind_of die.tag) refl i within
-    (λ (j : ℕ) (inside : j < length (sites_in u rest)). place-after u die rest
-    (get_or (sites_in u rest) j d) (sites-each u rest j d inside))
+pub site-in : (u : CompilationUnit) (dies : List Die) (n : ℕ) (p : ScopeSite)
+    → slice_get (sites_in u dies) n ≡ Some p → IsSiteIn u dies n p
+site-in u [] n p h = cc
+site-in u (die ∷ rest) n p h = by_kind (kind_of die.tag) refl n h (λ m found.
+    site-in u rest m p found)
   where
-    by_kind : (kind : Option ScopeKind) → kind_of die.tag ≡ kind → (i : ℕ)
-        → i < length (site_of u die rest kind (sites_in u rest))
-        → ((j : ℕ) → j < length (sites_in u rest)
-        → IsPlaceIn u (die ∷ rest) (get_or (sites_in u rest) j d))
-        → IsPlaceIn u (die ∷ rest) (get_or (site_of u die rest kind (sites_in u rest)) i d)
-    by_kind None is i within later = later i within
-    by_kind (Some kind) is zero within later =
-        record { unit_is = refl; kind_is = is; index = 0; there = refl }
-    by_kind (Some kind) is (suc i) within later = later i (omega (arith, within))
-
--- The site at an index of a unit.
-pub record SiteAt (u : CompilationUnit) (i : ℕ) : Type 0 where
-  pub place : ScopeSite
-  pub here : slice_get (sites_in u u.dies) i ≡ Some place
-  pub rest : drop i (sites_in u u.dies) ≡ place ∷ drop (i + 1) (sites_in u u.dies)
-  pub is_place : IsPlaceIn u u.dies place
-
-abbrev no_place : CompilationUnit → ScopeSite
-no_place u = record {
-  member = record {
-    unit = u;
-    die =
-        record { offset = 0; depth = 0; tag = 0; attributes = [] };
-  };
-  kind = Subprogram;
-  inside = 0;
-}
-
-pub site-at : (u : CompilationUnit) (i : ℕ) → i < length (sites_in u u.dies) → SiteAt u i
-site-at u i within =
-    let sites = sites_in u u.dies in
-    record {
-      place = get_or sites i (no_place u);
-      here = slice_get-get_or sites i (no_place u) within;
-      rest = rw (add-one, drop-cons sites i (no_place u) within) refl;
-      is_place = sites-each u u.dies i (no_place u) within;
+    by_kind : (kind : Option ScopeKind) → kind_of die.tag ≡ kind → (n : ℕ)
+        → slice_get (site_of u die rest kind (sites_in u rest)) n ≡ Some p
+        → ((m : ℕ) → slice_get (sites_in u rest) m ≡ Some p → IsSiteIn u rest m p)
+        → IsSiteIn u (die ∷ rest) n p
+    by_kind None is n h later = let at = later n h in record {
+      unit_is = at.unit_is;
+      kind_is = at.kind_is;
+      index = suc at.index;
+      there = at.there;
+      number_is = at.number_is ∙ sym (count-none die (take at.index rest) is);
+      inside_is = at.inside_is;
+    }
+    by_kind (Some kind) is zero h later =
+        subst (IsSiteIn u (die ∷ rest) zero) (same_Some (site_at u die rest kind) p h) (record {
+          unit_is = refl;
+          kind_is = is;
+          index = zero;
+          there = refl;
+          number_is = refl;
+          inside_is = refl;
+        })
+    by_kind (Some kind) is (suc n) h later = let at = later n h in record {
+      unit_is = at.unit_is;
+      kind_is = at.kind_is;
+      index = suc at.index;
+      there = at.there;
+      number_is = ap suc at.number_is ∙ sym (count-one die (take at.index rest) kind is);
+      inside_is = at.inside_is;
     }
 
--- The site at an index of the stored data of a unit, which can be re-read.
-pub record SiteRead (s : Sections) (u : CompilationUnit) (i : ℕ) (header : UnitHeader)
-    (stored : ScopePlace) : Type 0 where
-  pub site : SiteAt u i
-  pub descendants_are : stored.inside ≡ site.place.inside
-  pub table : List Declaration
-  pub table_is : declarations_of declarations_limit s.debug_abbrev header.abbreviations ≡ Ok table
-  pub there : scope_entry_at header.format table (bytes_in s header) stored.offset
-      ≡ Ok (scope_entry site.place.member.die site.place.kind)
+-- An entry that is a scope has the site with the number of scopes before it.
+site-of : (u : CompilationUnit) (dies : List Die) (k : ℕ) (die : Die) (kind : ScopeKind)
+    → slice_get dies k ≡ Some die → kind_of die.tag ≡ Some kind
+    → slice_get (sites_in u dies) (count_by is_scope (take k dies))
+    ≡ Some (site_at u die (drop (suc k) dies) kind)
+site-of u [] k die kind h is = cc
+site-of u (d ∷ rest) zero die kind h is =
+    let same : d ≡ die = same_Some d die h in
+    subst (λ (e : Die). slice_get (site_of u d rest (kind_of d.tag) (sites_in u rest)) zero
+    ≡ Some (site_at u e rest kind)) same
+    (ap (λ (o : Option ScopeKind). slice_get (site_of u d rest o (sites_in u rest)) zero)
+    (ap (λ (e : Die). kind_of e.tag) same ∙ is))
+site-of u (d ∷ rest) (suc k) die kind h is =
+    by_kind (kind_of d.tag) refl (site-of u rest k die kind h is)
+  where
+    by_kind : (found : Option ScopeKind) → kind_of d.tag ≡ found
+        → slice_get (sites_in u rest) (count_by is_scope (take k rest))
+        ≡ Some (site_at u die (drop (suc k) rest) kind)
+        → slice_get (site_of u d rest found (sites_in u rest)) (count_by is_scope (d ∷ take k rest))
+        ≡ Some (site_at u die (drop (suc k) rest) kind)
+    by_kind None at later =
+        ap (slice_get (sites_in u rest)) (count-none d (take k rest) at) ∙ later
+    by_kind (Some found) at later =
+        ap (slice_get (site_at u d rest found ∷ sites_in u rest))
+        (count-one d (take k rest) found at) ∙ later
 
-pub site-read : (s : Sections) (us : List CompilationUnit) (unit : ℕ) (u : CompilationUnit) (i : ℕ)
-    (k : UnitEntries) (stored : ScopePlace) → AreUnitsIn s us → slice_get us unit ≡ Some u
-    → stored_of k ≡ stored_unit_of u → i < length (sites_in u u.dies)
-    → stored ≡ get_or k.scopes.items i stored → SiteRead s u i k.header stored
-unfolding site-at
-site-read s us unit u i k stored read found same within here =
-    let site = site-at u i within in
-    let sites = sites_in u u.dies in
-    let one = read.each_is unit u found in
-    let header : k.header ≡ u.header = ap (λ (x : StoredUnit). x.header) same in
-    let is : stored ≡ place_in site.place =
-    here ∙ (ap (λ (ps : List ScopePlace). get_or ps i stored)
-    (ap (λ (x : StoredUnit). x.scopes) same ∙ places-are u u.dies)
-    ∙ get_or-map place_in sites i (no_place u) stored within) in
-    record {
-      site = site;
-      descendants_are = ap (λ (q : ScopePlace). q.inside) is;
-      table = one.table;
-      table_is = ap (λ (h : UnitHeader). declarations_of declarations_limit s.debug_abbrev
-          h.abbreviations) header ∙ one.table_is;
-      there = ap (λ (h : UnitHeader). scope_entry_at h.format one.table (bytes_in s h)
-          stored.offset) header
-          ∙ (ap (λ (q : ScopePlace). scope_entry_at u.header.format one.table (bytes_in s u.header)
-          q.offset) is
-          ∙ scope-there s u site.is_place.index site.place.member.die site.place.kind one
-          site.is_place.there site.is_place.kind_is);
-    }
+-- ---- the sites of all units
+
+pub all-sites-count : (us : List CompilationUnit) → length (all_sites us) ≡ number_of_scopes us
+all-sites-count [] = refl
+all-sites-count (u ∷ us) =
+    let sum = sum_by-cons (λ (v : CompilationUnit). count_by is_scope v.dies) u us in
+    omega (
+      arith,
+      sum,
+      sites-count u u.dies,
+      all-sites-count us,
+      length-append (sites_in u u.dies) (all_sites us),
+    )
+
+pub first-all : (us : List CompilationUnit) (i : ℕ) → length us ≤ i
+    → first_number us i ≡ length (all_sites us)
+first-all us i past = ap number_of_scopes (take_all i us past) ∙ sym (all-sites-count us)
+
+-- The number of the first scope of the next unit.
+pub first-next : (us : List CompilationUnit) (i : ℕ) (u : CompilationUnit) → slice_get us i ≡ Some u
+    → first_number us (i + 1) ≡ first_number us i + count_by is_scope u.dies
+first-next us i u found =
+    sum_by_more (λ (v : CompilationUnit). count_by is_scope v.dies) us i u
+    (slice_get_within us i u found)
+    ∙ ap (λ (v : CompilationUnit). first_number us i + count_by is_scope v.dies)
+    (get_or_from_slice_get us i u u found)
+
+at-left : {X : Type 0} (xs ys : List X) (n : ℕ) (x : X) → slice_get xs n ≡ Some x
+    → slice_get (xs ++ ys) n ≡ Some x
+at-left [] ys n x h = cc
+at-left (y ∷ xs) ys zero x h = h
+at-left (y ∷ xs) ys (suc n) x h = at-left xs ys n x h
+
+at-right : {X : Type 0} (xs ys : List X) (n m : ℕ) → n ≡ length xs + m
+    → slice_get (xs ++ ys) n ≡ slice_get ys m
+at-right [] ys n m is = ap (slice_get ys) (omega (arith, is))
+at-right (x ∷ xs) ys zero m is = absurd (omega (arith, is))
+at-right (x ∷ xs) ys (suc n) m is = at-right xs ys n m (omega (arith, is))
+
+pub all-sites-at : (us : List CompilationUnit) (i m n : ℕ) (u : CompilationUnit) (p : ScopeSite)
+    → slice_get us i ≡ Some u → slice_get (sites_in u u.dies) m ≡ Some p
+    → n ≡ first_number us i + m → slice_get (all_sites us) n ≡ Some p
+all-sites-at [] i m n u p found here is = cc
+all-sites-at (v ∷ us) zero m n u p found here is =
+    let none : first_number (v ∷ us) zero ≡ 0 = refl in
+    let same : n ≡ m = omega (arith, is, none) in
+    at-left (sites_in v v.dies) (all_sites us) n p (ap (slice_get (sites_in v v.dies)) same
+    ∙ (ap (λ (w : CompilationUnit). slice_get (sites_in w w.dies) m) (same_Some v u found) ∙ here))
+all-sites-at (v ∷ us) (suc i) m n u p found here is =
+    let sum = sum_by-cons (λ (w : CompilationUnit). count_by is_scope w.dies) v (take i us) in
+    at-right (sites_in v v.dies) (all_sites us) n (first_number us i + m)
+    (omega (arith, is, sum, sites-count v v.dies))
+    ∙ all-sites-at us i m (first_number us i + m) u p found here refl
+
+-- A site is that of an entry, which is at an index of the unit at an index.
+pub record IsSiteAt (us : List CompilationUnit) (n : ℕ) (p : ScopeSite) : Type 0 where
+  pub unit : ℕ
+  pub unit_is : slice_get us unit ≡ Some p.member.unit
+  pub number : ℕ
+  pub number_is : n ≡ first_number us unit + number
+  pub is : IsSiteIn p.member.unit p.member.unit.dies number p
+
+pub site-at : (us : List CompilationUnit) (n : ℕ) (p : ScopeSite) → slice_get (all_sites us) n
+    ≡ Some p → IsSiteAt us n p
+site-at [] n p h = cc
+site-at (u ∷ us) n p h = by_order (cases_lt n (length (sites_in u u.dies)))
+    (λ m found. site-at us m p found)
+  where
+    by_order : (n < length (sites_in u u.dies)) ⊎ (length (sites_in u u.dies) ≤ n)
+        → ((m : ℕ) → slice_get (all_sites us) m ≡ Some p → IsSiteAt us m p) → IsSiteAt (u ∷ us) n p
+    by_order (inl lt) later =
+        let q = element (sites_in u u.dies) n lt in
+        let same = sym (at-left (sites_in u u.dies) (all_sites us) n q.0 q.1) ∙ h in
+        let is = site-in u u.dies n p (q.1 ∙ same) in
+        record {
+          unit = zero;
+          unit_is = ap (λ (v : CompilationUnit). Some v) (sym is.unit_is);
+          number = n;
+          number_is = let none : first_number (u ∷ us) zero ≡ 0 = refl in omega (arith, none);
+          is = subst (λ (v : CompilationUnit). IsSiteIn v v.dies n p) (sym is.unit_is) is;
+        }
+    by_order (inr ge) later =
+        let m : ℕ = n - length (sites_in u u.dies) in
+        let at = later m (sym (at-right (sites_in u u.dies) (all_sites us) n m (omega (arith, ge)))
+        ∙ h) in
+        let sum = sum_by-cons (λ (w : CompilationUnit). count_by is_scope w.dies) u
+        (take at.unit us) in
+        record {
+          unit = suc at.unit;
+          unit_is = at.unit_is;
+          number = at.number;
+          number_is = omega (arith, ge, at.number_is, sum, sites-count u u.dies);
+          is = at.is;
+        }
+
+-- The site of an entry of a unit.
+pub site-of-entry : (us : List CompilationUnit) (i k : ℕ) (u : CompilationUnit) (die : Die)
+    (kind : ScopeKind) → slice_get us i ≡ Some u → slice_get u.dies k ≡ Some die
+    → kind_of die.tag ≡ Some kind
+    → slice_get (all_sites us) (first_number us i + count_by is_scope (take k u.dies))
+    ≡ Some (site_at u die (drop (suc k) u.dies) kind)
+site-of-entry us i k u die kind found there is =
+    all-sites-at us i (count_by is_scope (take k u.dies)) _ u _ found
+    (site-of u u.dies k die kind there is) refl

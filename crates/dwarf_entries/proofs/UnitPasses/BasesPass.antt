@@ -1,6 +1,5 @@
 -- The iterations of the pass over the roots of all units.
-use Rattle.std.proofs.Common.{◌≡◌, ℕ, ◌+◌, List, [], ◌∷◌, ◌++◌, map, refl, ap, sym}
-use Rattle.std.proofs.Common.{◌∙◌, subst}
+use Rattle.std.proofs.Common.{◌≡◌, ℕ, ◌+◌, List, [], ◌∷◌, ◌++◌, map, refl, ap, sym, ◌∙◌, subst}
 use Rattle.std.specs.Prelude.{Result, Ok}
 use Rattle.std.proofs.lemmas.List.{map_push}
 use Rattle.dwarf_bytes.specs.declared.fault.Section.TheVariants as names
@@ -19,9 +18,8 @@ use Rattle.dwarf_walk.specs.Private.Stored.{StoredUnit, root_in, stored_of}
 use Rattle.dwarf_entries.specs.declared.bases.Bases.{Bases}
 use Rattle.dwarf_entries.specs.Bases.{CompilationUnit, bases_of_first, with_bases}
 use Rattle.dwarf_entries.specs.Private.EntryOffsets.{stored_unit_of}
-use Rattle.dwarf_entries.specs.Private.Passes.{bases_in, bases_of, all_bases}
-use Rattle.dwarf_entries.proofs.UnitPasses.PassLaws.{Faults, first-fault, PassedTo, pass-next}
-use Rattle.dwarf_entries.proofs.UnitPasses.PassLaws.{pass-fault}
+use Rattle.dwarf_entries.specs.Private.Passes.{PassedTo, bases_in, bases_of, all_bases}
+use Rattle.dwarf_entries.proofs.UnitPasses.PassLaws.{Faults, first-fault, pass-next, pass-fault}
 use Rattle.dwarf_entries.proofs.UnitPasses.StoredUnits.{StoredFor}
 
 -- The units before the index, and the bases that their roots define.

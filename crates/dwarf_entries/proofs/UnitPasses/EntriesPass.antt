@@ -1,6 +1,5 @@
 -- The iterations of the pass over the entries of all units.
-use Rattle.std.proofs.Common.{◌≡◌, ◌⊎◌, ℕ, ◌+◌, ◌<◌, ◌≤◌, List, [], ◌∷◌, ◌++◌, length, map}
-use Rattle.std.proofs.Common.{get_or}
+use Rattle.std.proofs.Common.{◌≡◌, ◌⊎◌, ℕ, ◌+◌, ◌<◌, ◌≤◌, List, [], ◌∷◌, ◌++◌, length, map, get_or}
 use Rattle.std.proofs.Common.{refl, ap, sym, ◌∙◌, subst, arith, append-nil}
 use Rattle.std.specs.Prelude.{Some, Result, Ok, Err, zip, slice_get, flat_map}
 use Rattle.std.proofs.lemmas.List.{map_push}
@@ -26,11 +25,12 @@ use Rattle.dwarf_walk.specs.Private.EntryBitmap.{AddsOffsets, offsets_of}
 use Rattle.dwarf_walk.specs.Private.Stored.{StoredUnit, stored_unit, stored_entries, stored_of}
 use Rattle.dwarf_walk.proofs.BitmapLaws.{adds-none, adds-more}
 use Rattle.dwarf_entries.specs.Bases.{CompilationUnit, no_bases, unit_of}
-use Rattle.dwarf_entries.specs.Private.EntryOffsets.{AreStored, stored_unit_of, all_offsets, dies_of}
-use Rattle.dwarf_entries.specs.Private.Passes.{all_entries}
+use Rattle.dwarf_entries.specs.Private.EntryOffsets.{AreStored, stored_unit_of, all_offsets}
+use Rattle.dwarf_entries.specs.Private.EntryOffsets.{dies_of}
+use Rattle.dwarf_entries.specs.Private.Passes.{PassedTo, all_entries}
 use Rattle.dwarf_entries.proofs.UnitPasses.PassLaws.{Faults, first-fault, before-done, after-done}
-use Rattle.dwarf_entries.proofs.UnitPasses.PassLaws.{PassedTo, pass-none, pass-next, pass-end}
-use Rattle.dwarf_entries.proofs.UnitPasses.PassLaws.{pass-fault, only-memory, done}
+use Rattle.dwarf_entries.proofs.UnitPasses.PassLaws.{pass-none, pass-next, pass-end, pass-fault}
+use Rattle.dwarf_entries.proofs.UnitPasses.PassLaws.{only-memory, done}
 
 -- The units before the index, the data that is stored for them, and the bits of their entries.
 pub record EntriesSoFar (info : List ℕ) (headers : List UnitHeader)

@@ -1,9 +1,9 @@
 -- A pass over a list, which stops at the first element that is refused.
 use Rattle.std.proofs.Common.{◌≡◌, ◌⊎◌, inl, inr, ℕ, zero, suc, ◌+◌, ◌<◌, ◌≤◌, List, [], ◌∷◌, ◌++◌}
-use Rattle.std.proofs.Common.{length, take, drop, get_or, refl, ap, sym, ◌∙◌, subst, arith}
+use Rattle.std.proofs.Common.{length, map, take, drop, get_or, refl, ap, sym, ◌∙◌, subst, arith}
 use Rattle.std.proofs.Common.{length-append}
 use Rattle.std.specs.Prelude.{Some, None, Result, Ok, Err, slice_get}
-use Rattle.std.proofs.lemmas.List.{drop_all}
+use Rattle.std.proofs.lemmas.List.{take_more, take_all, take-append-drop}
 use Rattle.std.proofs.lemmas.Option.{same_Some, slice_get_within, get_or_from_slice_get}
 use Rattle.std.proofs.lemmas.Option.{slice_get_read, slice_get_past}
 use Rattle.dwarf_bytes.specs.declared.fault.Cause.{Cause}
@@ -14,8 +14,8 @@ use Rattle.dwarf_bytes.specs.declared.fault.LoadFault.{LoadFault}
 use Rattle.dwarf_bytes.specs.Bind.{◌>>=◌}
 use Rattle.dwarf_bytes.specs.Items.{At, each, each_from, with_offset}
 use Rattle.dwarf_bytes.specs.Refusals.{Fails, memory_fault, at_item, in_section}
-use Rattle.dwarf_bytes.proofs.Items.EachLaws.{made_front, each-next, each-fault, each-end}
-use Rattle.dwarf_bytes.proofs.Items.EachPlaces.{each-length, each-place}
+use Rattle.dwarf_bytes.proofs.Items.EachPlaces.{each-append, each-length, each-place}
+use Rattle.dwarf_entries.specs.Private.Passes.{PassedTo}
 
 -- ---- elements by index
 
@@ -30,6 +30,13 @@ pub drop-at : {X : Type 0} (xs : List X) (n : ℕ) (x : X) → slice_get xs n �
 drop-at [] n x h = cc
 drop-at {X} (y ∷ ys) zero x h = ap (λ (z : X). z ∷ ys) (same_Some y x h)
 drop-at (y ∷ ys) (suc n) x h = drop-at ys n x h
+
+-- An element of a mapped list.
+pub from-map : {X Y : Type 0} (f : X → Y) (xs : List X) (i : ℕ) (y : Y) → slice_get (map f xs) i ≡ Some y
+    → (x : X) × (slice_get xs i ≡ Some x) × (f x ≡ y)
+from-map f [] i y h = cc
+from-map f (x ∷ xs) zero y h = (x, refl, same_Some (f x) y h)
+from-map f (x ∷ xs) (suc i) y h = from-map f xs i y h
 
 -- The element that a lookup returns.
 pub found-at : {X : Type 0} (list items : List X) (n : ℕ) (x : X) → list ≡ items
@@ -105,41 +112,50 @@ pub after-done : {X Y : Type 0} (r : Result X At) (f : X → Y) (y : Y)
 after-done (Ok x) f y h = (x, refl, cc)
 after-done (Err e) f y h = cc
 
--- ---- the iterations
+-- The fault of the first of two steps without offsets.
+pub first-fails : {X Y : Type 0} {cause : Cause} (r : Result X Cause) (f : X → Result Y Cause)
+    → Fails cause r → Fails cause (r >>= f)
+first-fails r f (inl memory) = inl memory
+first-fails (Ok x) f (inr bad) = cc
+first-fails (Err e) f (inr bad) = inr cc
 
--- The results for the elements before an index, followed by those for the rest, are all results.
-pub record PassedTo {X Y : Type 0} (make : List Y → X → Result Y At) (xs : List X) (index : ℕ)
-    (made : List Y) : Type 0 where
-  pub len : length made ≡ index
-  pub read : made_front made (each_from make made (drop index xs)) ≡ each make xs
+-- ---- the iterations
 
 pub pass-none : {X Y : Type 0} {make : List Y → X → Result Y At} {xs : List X}
     → PassedTo make xs 0 []
-pass-none {make = make} {xs = xs} = record { len = refl; read = whole (each make xs) }
-  where
-    whole : {Y : Type 0} (r : Result (List Y) At) → made_front [] r ≡ r
-    whole (Ok ys) = refl
-    whole (Err e) = refl
+unfolding each_from
+pass-none = record { len = refl; read = refl }
 
 module _ {X Y : Type 0} {make : List Y → X → Result Y At} {xs : List X} {index : ℕ}
     {made : List Y} (passed : PassedTo make xs index made) where
-  abbrev rest : List X → Result (List Y) At
-  rest ys = made_front made (each_from make made ys)
+  -- The element at the index, after those before it.
+  then : (more : List X) → each make (take index xs ++ more)
+      ≡ (each_from make made more >>= λ ys. Ok (made ++ ys))
+  then more = each-append make [] (take index xs) more
+      ∙ ap (λ (r : Result (List Y) At). r >>= λ ys. each_from make ys more >>= λ zs. Ok (ys ++ zs))
+      passed.read
 
   pub pass-next : (x : X) (y : Y) → slice_get xs index ≡ Some x → make made x ≡ Ok y
       → PassedTo make xs (index + 1) (made ++ y ∷ [])
-  pass-next x y found is =
-      let one : index + 1 ≡ suc index = omega arith in
-      record {
-        len = omega (arith, passed.len, length-append made (y ∷ []));
-        read = ap (λ (k : ℕ). made_front (made ++ y ∷ [])
-            (each_from make (made ++ y ∷ []) (drop k xs))) one
-            ∙ (sym (each-next make made x (drop (suc index) xs) y is)
-            ∙ (ap rest (sym (drop-at xs index x found)) ∙ passed.read));
-      }
+  unfolding each_from
+  pass-next x y found is = record {
+    len = omega (arith, passed.len, length-append made (y ∷ []));
+    read = ap (each make) (take_more xs index x (slice_get_within xs index x found)
+        ∙ ap (λ (z : X). take index xs ++ z ∷ []) (get_or_from_slice_get xs index x x found))
+        ∙ (then (x ∷ []) ∙ rw is refl);
+  }
 
   pub pass-end : length xs ≤ index → each make xs ≡ Ok made
-  pass-end past = sym passed.read ∙ (ap rest (drop_all index xs past) ∙ each-end make made)
+  pass-end past = ap (each make) (sym (take_all index xs past)) ∙ passed.read
+
+  -- The fault of the element at the index is that of the whole list.
+  pub pass-refused : (x : X) (e : At) → slice_get xs index ≡ Some x → make made x ≡ Err e
+      → each make xs ≡ Err e
+  unfolding each_from
+  pass-refused x e found is =
+      ap (each make) (sym (take-append-drop index xs)
+      ∙ ap (λ (ys : List X). take index xs ++ ys) (drop-at xs index x found))
+      ∙ (then (x ∷ drop (suc index) xs) ∙ rw is refl)
 
   pub pass-fault : {fault : LoadFault} (x : X) → slice_get xs index ≡ Some x
       → Faults fault (make made x) → Faults fault (each make xs)
@@ -149,7 +165,4 @@ module _ {X Y : Type 0} {make : List Y → X → Result Y At} {xs : List X} {ind
       by_read : (r : Result Y At) → make made x ≡ r → in_section names.DebugInfo r ≡ Err fault
           → in_section names.DebugInfo (each make xs) ≡ Err fault
       by_read (Ok y) is h = cc
-      by_read (Err e) is h =
-          let all : each make xs ≡ Err e = sym passed.read ∙ (ap rest (drop-at xs index x found)
-          ∙ each-fault make made x (drop (suc index) xs) e is) in
-          rw all cc
+      by_read (Err e) is h = rw (pass-refused x e found is) cc

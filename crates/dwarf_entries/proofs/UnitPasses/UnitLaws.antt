@@ -1,6 +1,6 @@
 -- The units of an object, as they were read from its sections, and the faults of reading them.
-use Rattle.std.proofs.Common.{◌≡◌, ◌⊎◌, inl, inr, ℕ, zero, suc, ◌<◌, ◌≤◌, List, [], ◌∷◌, length, map}
-use Rattle.std.proofs.Common.{false, Bool, ◌==◌, ◌||◌, refl, ap, sym, ◌∙◌, subst, arith}
+use Rattle.std.proofs.Common.{◌≡◌, ◌⊎◌, inl, inr, ℕ, zero, suc, ◌<◌, ◌≤◌, List, [], ◌∷◌, length}
+use Rattle.std.proofs.Common.{map, false, Bool, ◌==◌, ◌||◌, refl, ap, sym, ◌∙◌, subst, arith}
 use Rattle.std.specs.Prelude.{Some, Result, Ok, Err, zip, slice_get, flat_map}
 use Rattle.std.specs.List.{list_any}
 use Rattle.std.proofs.lemmas.Option.{same_Some, slice_get_within, get_or_from_slice_get}
@@ -47,6 +47,15 @@ pub record AreUnitsIn (s : Sections) (us : List CompilationUnit) : Type 0 where
   pub apart :
       (i j : ℕ) (u v : CompilationUnit) → slice_get us i ≡ Some u → slice_get us j ≡ Some v → i < j
       → u.header.end ≤ v.header.start
+
+-- The units after the first.
+pub units-after : {s : Sections} (u : CompilationUnit) (us : List CompilationUnit)
+    → AreUnitsIn s (u ∷ us) → AreUnitsIn s us
+units-after u us are = record {
+  each_is = λ i v found. are.each_is (suc i) v found;
+  apart = λ i j v w first second lt.
+      are.apart (suc i) (suc j) v w first second (omega (arith, lt));
+}
 
 zip-at : {X Y : Type 0} (xs : List X) (ys : List Y) (i : ℕ) (p : X × Y)
     → slice_get (zip xs ys) i ≡ Some p → (slice_get xs i ≡ Some p.0) × (slice_get ys i ≡ Some p.1)

@@ -34,6 +34,12 @@ PassGives {X} {Y} are (Ok x) outcome = (y : Y) × (outcome ≡ Ok y) × are x y
 PassGives are (Err fault) outcome =
     (fault ≡ memory_fault) ⊎ (in_section names.DebugInfo outcome ≡ Err fault)
 
+-- The results for the elements of a list before an index.
+pub record PassedTo {X Y : Type 0} (make : List Y → X → Result Y At) (xs : List X) (index : ℕ)
+    (made : List Y) : Type 0 where
+  pub len : length made ≡ index
+  pub read : each make (take index xs) ≡ Ok made
+
 -- The units with their entries.
 abbrev pub all_entries : List ℕ → List UnitHeader → List (List Declaration)
     → Result (List CompilationUnit) At
@@ -56,9 +62,9 @@ bases_of unit = unit.bases
 abbrev pub number_of_scopes : List CompilationUnit → ℕ
 number_of_scopes us = sum_by (λ u. count_by is_scope u.dies) us
 
--- The number is that of the first scope of the unit at an index, if the unit has scopes.
-abbrev pub IsFirstNumberOf : List CompilationUnit → ℕ → ℕ → Type 0
-IsFirstNumberOf us unit number = number ≡ number_of_scopes (take unit us)
+-- The number of the first scope of the unit at an index, if the unit has scopes.
+abbrev pub first_number : List CompilationUnit → ℕ → ℕ
+first_number us unit = number_of_scopes (take unit us)
 
 -- The site is a scope of a unit of the program, after the scopes in `before`. `budget` is the rest
 -- of the budget of range items.
@@ -93,29 +99,27 @@ abbrev pub parse_scope : Sections → List CompilationUnit → List ParsedScope 
     → Result ParsedScope At
 parse_scope s units before p = with_offset p.member.die.offset (scope_at s units before p)
 
--- The scopes of the program, given the roots, and the remaining budget of range items.
-pub record AreParsed (roots : List Root) (before : List ParsedScope) (lists : ScopeLists) (left : ℕ)
-    : Type 0 where
-  pub described : scopes_of roots lists ≡ map (λ j. j.scope) before
+-- The scopes of all units.
+abbrev pub all_scopes : Sections → List CompilationUnit → Result (List ParsedScope) At
+all_scopes s us = each (parse_scope s us) (all_sites us)
+
+-- The scopes before a number are parsed and stored, and `left` range items remain in the budget.
+pub record AreParsedTo (s : Sections) (us : List CompilationUnit) (number : ℕ) (lists : ScopeLists)
+    (left : ℕ) : Type 0 where
+  pub parsed : List ParsedScope
+  pub passed : PassedTo (parse_scope s us) (all_sites us) number parsed
+  pub described : scopes_of (roots_from 0 us) lists ≡ map (λ j. j.scope) parsed
   pub in_list : AreConsecutive (length lists.wide.items) 0 (length lists.ranges.items)
       lists.scopes.items
-  pub counted : left + sum_by (λ s. s.items) before ≡ items_limit
+  pub counted : left + sum_by (λ j. j.items) parsed ≡ items_limit
 
--- The scopes of some sites are appended to those before, or their fault is reported. The call may
--- also fail because memory ran out.
-abbrev pub AddsScopes : Result (Unit {0}) LoadFault → Sections → List CompilationUnit
-    → List ScopeSite → List ParsedScope → ScopeLists → ℕ → Type 0
-AddsScopes (Ok _) s us places before lists left =
-    (after : List ParsedScope) × (each_from (parse_scope s us) before places ≡ Ok after)
-    × AreParsed (roots_from 0 us) (before ++ after) lists left
-AddsScopes (Err fault) s us places before lists left =
-    (fault ≡ memory_fault)
-    ⊎ (in_section names.DebugInfo (each_from (parse_scope s us) before places) ≡ Err fault)
-
--- The scopes of all units.
-abbrev pub all_scopes : Sections → List CompilationUnit → Result (List Scope) At
-all_scopes s us = each (parse_scope s us) (all_sites us)
-    >>= λ parsed. Ok (map (λ j. j.scope) parsed)
+-- The scopes before a number are parsed, or the fault of a scope is reported. The call may also
+-- fail because memory ran out.
+abbrev pub ParsesTo : Result (Unit {0}) LoadFault → Sections → List CompilationUnit → ℕ
+    → ScopeLists → ℕ → Type 0
+ParsesTo (Ok _) s us number lists left = AreParsedTo s us number lists left
+ParsesTo (Err fault) s us number lists left =
+    (fault ≡ memory_fault) ⊎ (in_section names.DebugInfo (all_scopes s us) ≡ Err fault)
 
 -- The call re-reads a site: its entry and the number of scopes below it. It may also fail because
 -- memory ran out.

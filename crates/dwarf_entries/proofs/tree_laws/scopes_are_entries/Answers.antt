@@ -1,5 +1,5 @@
-use Rattle.dwarf_entries.proofs.Results.EntriesOfScopes.{units-were-read, scopes-enter}
-use Rattle.dwarf_entries.proofs.Results.EntriesOfScopes.{entries-described}
+use Rattle.dwarf_entries.proofs.Results.EntryScopes.{units-were-read, scopes-enter}
+use Rattle.dwarf_entries.proofs.Results.EntryScopes.{entries-described}
 use Rattle.dwarf_entries.proofs.tree_laws.scopes_are_entries.Goals as goal
 
 pub returns : goal.returns

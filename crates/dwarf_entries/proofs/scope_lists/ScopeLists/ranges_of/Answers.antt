@@ -2,9 +2,8 @@ use Rattle.std.proofs.Common.{◌-◌, List, take, drop, ap, ◌∙◌}
 use Rattle.dwarf_entries.specs.declared.scope.Range.{Range}
 use Rattle.dwarf_entries.specs.declared.scope.Scope.{Scope}
 use Rattle.dwarf_entries.specs.Private.Shared.{ranges_start}
-use Rattle.dwarf_entries.proofs.ScopePasses.SharedLaws.{ranges-there}
+use Rattle.dwarf_entries.proofs.ScopePasses.SharedLaws.{ranges-there, ranges-nowhere}
 use Rattle.dwarf_entries.proofs.UnitPasses.PassLaws.{found-at, not-at}
-use Rattle.dwarf_entries.proofs.ScopePasses.SharedLaws.{ranges-nowhere}
 use Rattle.dwarf_entries.proofs.scope_lists.ScopeLists.ranges_of.Goals as goal
 
 pub returns-in-Some : goal.returns-in-Some

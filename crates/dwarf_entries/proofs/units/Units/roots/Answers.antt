@@ -1,6 +1,7 @@
-use Rattle.std.proofs.Common.{◌+◌, ap, append-nil, arith, refl}
+use Rattle.std.proofs.Common.{◌≡◌, ◌+◌, ap, append-nil, arith, refl}
 use Rattle.std.specs.Prelude.{Some, None}
-use Rattle.dwarf_entries.proofs.RootPasses.RootNumbers.{first-next}
+use Rattle.dwarf_entries.specs.Private.Passes.{first_number}
+use Rattle.dwarf_entries.proofs.ScopePasses.SiteLaws.{first-next}
 use Rattle.dwarf_entries.proofs.RootPasses.RootsPass.{root-at, count-fits, roots-turn, roots-end}
 use Rattle.dwarf_entries.proofs.RootPasses.RootsPass.{ends-none, ends-later, ends-push}
 use Rattle.dwarf_entries.proofs.UnitPasses.ObjectLaws.{seen-units}
@@ -17,10 +18,18 @@ overflow_add-past c =
     let are = seen-units c.self.invariant c.self.view_is c.deref-unit-items.ensures.value in
     let here = root-at c.deref-unit-items.result.now us c.loop-unit.unit-index c.unit-item.result
     are c.loop-unit-test.true c.unit-item.is in
-    let next = first-next us here.u c.loop-unit.unit-index c.loop-unit.first _ here.found
-    c.loop-unit.invariant.first_is refl in
-    let fits = count-fits us _ _ next in
-    omega (arith, fits, here.count, c.len.ensures, c.unit-item.result.scopes.ok.0, c.requires)
+    let next = first-next us c.loop-unit.unit-index here.u here.found in
+    let fits = count-fits us (c.loop-unit.unit-index + 1) _ refl in
+    omega (
+      arith,
+      fits,
+      next,
+      c.loop-unit.invariant.first_is,
+      here.count,
+      c.len.ensures,
+      c.unit-item.result.scopes.ok.0,
+      c.requires,
+    )
 
 pub loop-unit-preserved : goal.loop-unit-preserved
 loop-unit-preserved c =
@@ -32,9 +41,15 @@ loop-unit-preserved c =
     let unit = c.unit-item.result in
     let are = seen-units c.self.invariant c.self.view_is c.deref-unit-items.ensures.value in
     let here = root-at units us index unit are c.loop-unit-test.true c.unit-item.is in
-    let next = first-next us here.u index first (first + c.len.result) here.found
-    c.loop-unit.invariant.first_is
-    (omega (arith, here.count, c.len.ensures, unit.scopes.ok.0)) in
+    let more = first-next us index here.u here.found in
+    let next : first + c.len.result ≡ first_number us (index + 1) = omega (
+      arith,
+      more,
+      c.loop-unit.invariant.first_is,
+      here.count,
+      c.len.ensures,
+      unit.scopes.ok.0,
+    ) in
     elim c.match-unit.branch [
       | in-Some+in_ok-push w ↦ record {
         first_is = rw w.first-is next;

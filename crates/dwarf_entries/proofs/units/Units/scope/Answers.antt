@@ -2,8 +2,8 @@ use Rattle.std.proofs.Common.{ap, ◌∙◌}
 use Rattle.std.proofs.lemmas.Result.{err_from_is_err_and}
 use Rattle.dwarf_walk.specs.Sections.{sections_of}
 use Rattle.dwarf_entries.specs.Private.ObjectUnits.{ObjectUnits}
-use Rattle.dwarf_entries.proofs.ScopePasses.ScopeLaws.{names-fault, covers-fault, scope-is}
-use Rattle.dwarf_entries.proofs.ScopePasses.ScopeLaws.{bases-there}
+use Rattle.dwarf_entries.proofs.ScopePasses.ScopeLaws.{site-member, names-fault, covers-fault}
+use Rattle.dwarf_entries.proofs.ScopePasses.ScopeLaws.{scope-is, bases-there}
 use Rattle.dwarf_entries.proofs.RangeLists.ScopeBudget.{budget-left}
 use Rattle.dwarf_entries.proofs.UnitPasses.ObjectLaws.{seen}
 use Rattle.dwarf_entries.proofs.units.Units.scope.Goals as goal
@@ -12,9 +12,8 @@ pub returns-in_err-names-clause-parsed : goal.returns-in_err-names-clause-parsed
 returns-in_err-names-clause-parsed c before p place =
     let q = err_from_is_err_and c.from_residual.result c.from_residual.ensures.1 in
     rw (q.1, q.2)
-    (names-fault c.args.self.now.sections c.args.self.now.units before p c.args.numbers
-    c.args.budget c.args.entry.now c.in_err-names.field-0.0 place
-    (c.in_err-names.ensures.names p.member))
+    (names-fault c.args.self.now.sections place c.in_err-names.field-0.0
+    (c.in_err-names.ensures.names p.member (site-member c.args.self.now.sections place)))
 
 pub returns-in_err-items-clause-parsed : goal.returns-in_err-items-clause-parsed
 returns-in_err-items-clause-parsed c before p place =
@@ -24,10 +23,10 @@ returns-in_err-items-clause-parsed c before p place =
     let are = seen c.self.invariant same in
     let us = c.args.self.now.units in
     rw (q.1, q.2)
-    (covers-fault c.args.self.now.sections us before p c.args.numbers c.args.budget
-    c.args.entry.now c.in_ok-names.names c.in_err-items.field-0.0 _
+    (covers-fault c.args.self.now.sections place c.in_ok-names.names
+    (c.in_ok-names.ensures.names p.member (site-member c.args.self.now.sections place)) _
     (c.index-bases.ensures ∙ bases-there c.self.inside.bases.items us are.bases_are
-    c.args.numbers.unit p.member.unit place.unit_is _) place (c.in_ok-names.ensures.names p.member)
+    c.args.numbers.unit p.member.unit place.unit_is _) c.in_err-items.field-0.0
     (rw (ap (λ (v : ObjectUnits). v.sections) same) at c.in_err-items.ensures))
 
 pub returns-clause-parsed : goal.returns-clause-parsed
@@ -36,10 +35,10 @@ returns-clause-parsed c before p place =
     let are = seen c.self.invariant same in
     let us = c.args.self.now.units in
     rw c.facts.ensures
-    (scope-is c.args.self.now.sections us before p c.args.numbers c.args.budget
-    c.args.entry.now c.in_ok-names.names c.in_ok-items.items _ _ _
+    (scope-is c.args.self.now.sections place c.in_ok-names.names
+    (c.in_ok-names.ensures.names p.member (site-member c.args.self.now.sections place)) _
     (c.index-bases.ensures ∙ bases-there c.self.inside.bases.items us are.bases_are
-    c.args.numbers.unit p.member.unit place.unit_is _) place (c.in_ok-names.ensures.names p.member)
+    c.args.numbers.unit p.member.unit place.unit_is _) c.in_ok-items.items _ _
     (rw (ap (λ (v : ObjectUnits). v.sections) same) at c.in_ok-items.ensures))
 
 pub returns-clause-budget : goal.returns-clause-budget

@@ -1,29 +1,39 @@
-use Rattle.std.proofs.Common.{◌∙◌, arith}
+use Rattle.std.proofs.Common.{[], refl, arith, ◌∙◌}
 use Rattle.std.proofs.lemmas.Result.{err_from_is_err_and}
-use Rattle.dwarf_entries.proofs.ScopePasses.UnitsPass.{scopes-next, scopes-fault, scopes_end}
+use Rattle.dwarf_entries.proofs.ScopePasses.ScopesPass.{scopes-end}
+use Rattle.dwarf_entries.proofs.ScopePasses.SiteLaws.{first-all}
+use Rattle.dwarf_entries.proofs.UnitPasses.PassLaws.{pass-none}
 use Rattle.dwarf_entries.proofs.units.Units.scopes.Goals as goal
+
+pub loop-unit-init : goal.loop-unit-init
+loop-unit-init c = record {
+  same = refl;
+  so_far = record {
+    parsed = [];
+    passed = pass-none;
+    described = rw c.in_ok-lists.ensures.scopes refl;
+    in_list = rw (c.in_ok-lists.ensures.scopes, c.in_ok-lists.ensures.ranges) refl;
+    counted = refl;
+  };
+}
 
 pub returns-in_err-unit_scopes-clause-scopes : goal.returns-in_err-unit_scopes-clause-scopes
 returns-in_err-unit_scopes-clause-scopes c =
     let p = err_from_is_err_and c.from_residual-in_err-unit_scopes.result
     c.from_residual-in_err-unit_scopes.ensures.1 in
-    rw (p.1, p.2)
-    (scopes-fault c.args.self.now.sections c.args.self.now.units c.loop-unit.unit
-    c.loop-unit.lists c.loop-unit.lists c.loop-unit.left 0 c.in_err-unit_scopes.field-0.0
-    (omega (arith, c.loop-unit-test.true, c.len-unit-end.ensures)) c.loop-unit.invariant.so_far
-    (rw c.loop-unit.invariant.same at c.in_err-unit_scopes.ensures.scopes))
+    rw (p.1, p.2) ((rw c.loop-unit.invariant.same at c.in_err-unit_scopes.ensures.scopes)
+    c.loop-unit.invariant.so_far)
 
 pub loop-unit-preserved : goal.loop-unit-preserved
 loop-unit-preserved c = record {
   same = c.in_ok-unit_scopes.ensures.same ∙ c.loop-unit.invariant.same;
-  so_far = scopes-next c.args.self.now.sections c.args.self.now.units c.loop-unit.unit
-      c.loop-unit.lists _ c.loop-unit.left _
-      (omega (arith, c.loop-unit-test.true, c.len-unit-end.ensures)) c.loop-unit.invariant.so_far
-      (rw c.loop-unit.invariant.same at c.in_ok-unit_scopes.ensures.scopes);
+  so_far = (rw c.loop-unit.invariant.same at c.in_ok-unit_scopes.ensures.scopes)
+      c.loop-unit.invariant.so_far;
 }
 
 pub returns-clause-scopes : goal.returns-clause-scopes
 returns-clause-scopes c =
-    scopes_end c.args.self.now.sections c.args.self.now.units c.loop-unit.unit c.loop-unit.lists
-    c.loop-unit.left (omega (arith, c.loop-unit-test.false, c.len-unit-end.ensures))
-    c.loop-unit.invariant.so_far
+    let so_far = c.loop-unit.invariant.so_far in
+    let all = first-all c.args.self.now.units c.loop-unit.unit
+    (omega (arith, c.loop-unit-test.false, c.len-unit-end.ensures)) in
+    (so_far.parsed, scopes-end so_far (omega (arith, all)), so_far.described)

@@ -5,7 +5,8 @@ use Rattle.dwarf_bytes.specs.Refusals.{at_item}
 use Rattle.dwarf_bytes.proofs.Numbers.Moves.{same-ok}
 use Rattle.dwarf_walk.specs.Private.Stored.{scope_entry}
 use Rattle.dwarf_walk.proofs.RereadLaws.{again-memory}
-use Rattle.dwarf_entries.proofs.ScopePasses.SiteLaws.{sites-stored, site-read}
+use Rattle.dwarf_entries.specs.Scopes.{sites_in}
+use Rattle.dwarf_entries.proofs.ScopePasses.SiteReads.{sites-stored, site-read}
 use Rattle.dwarf_entries.proofs.UnitPasses.ObjectLaws.{seen, with-reader}
 use Rattle.dwarf_entries.proofs.UnitPasses.PassLaws.{element}
 use Rattle.dwarf_entries.proofs.UnitPasses.StoredUnits.{stored-here, stored-index}
@@ -34,9 +35,10 @@ returns-in-Err-clause-site c u found =
     let k = c.index-stored.result.now in
     let same = stored-index _ object.units c.args.unit k are.stored_are (stored-here _ object.units
     c.args.unit k are.stored_are c.requires.unit c.index-stored.ensures) u found in
-    let r = site-read object.sections object.units c.args.unit u c.args.index k
-    c.index-place.result.now (object-units _ _ c.self.view_is) found same
-    (c.requires.index u found) c.index-place.ensures in
+    let p = element (sites_in u u.dies) c.args.index (c.requires.index u found) in
+    let r = site-read object.sections u c.args.index p.0 k c.index-place.result.now
+    ((object-units _ _ c.self.view_is).each_is c.args.unit u found) same p.1
+    c.index-place.ensures in
     c.at_item.ensures ∙ ap (λ (e : Cause). at_item names.DebugInfo e c.from-at.result)
     (again-memory c.in-Err.cause _ _ r.there
     (c.in-Err.ensures.scope object.sections r.table are.reader_is r.table_is))
@@ -51,11 +53,12 @@ returns-clause-site c u found =
     let k = c.index-stored.result.now in
     let same = stored-index _ object.units c.args.unit k are.stored_are (stored-here _ object.units
     c.args.unit k are.stored_are c.requires.unit c.index-stored.ensures) u found in
-    let r = site-read object.sections object.units c.args.unit u c.args.index k
-    c.index-place.result.now (object-units _ _ c.self.view_is) found same
-    (c.requires.index u found) c.index-place.ensures in
-    rw r.site.here (
-      same-ok c.in-Ok.entry (scope_entry r.site.place.member.die r.site.place.kind)
+    let p = element (sites_in u u.dies) c.args.index (c.requires.index u found) in
+    let r = site-read object.sections u c.args.index p.0 k c.index-place.result.now
+    ((object-units _ _ c.self.view_is).each_is c.args.unit u found) same p.1
+    c.index-place.ensures in
+    rw p.1 (
+      same-ok c.in-Ok.entry (scope_entry p.0.member.die p.0.kind)
           (sym (c.in-Ok.ensures.scope object.sections r.table are.reader_is r.table_is)
           ∙ r.there),
       r.descendants_are,

@@ -1,58 +1,75 @@
-use Rattle.std.proofs.Common.{refl, arith, ap, ◌∙◌}
+use Rattle.std.proofs.Common.{ℕ, inl, refl, arith, ap, ◌∙◌, subst}
+use Rattle.std.proofs.lemmas.Result.{err_from_is_err_and}
 use Rattle.dwarf_walk.specs.declared.unit_entries.ScopeEntry.{ScopeEntry}
-use Rattle.dwarf_entries.proofs.ScopePasses.ScopesPass.{is-place, site-is, checked-next}
-use Rattle.dwarf_entries.proofs.ScopePasses.ScopesEnds.{checked-end, checked-fault}
-use Rattle.dwarf_entries.proofs.ScopePasses.SiteLaws.{site-at}
+use Rattle.dwarf_entries.specs.Scopes.{sites_in}
+use Rattle.dwarf_entries.specs.Private.Passes.{AreParsedTo}
+use Rattle.dwarf_entries.proofs.ScopePasses.ScopesPass.{is-site, scopes-next, scopes-fault}
+use Rattle.dwarf_entries.proofs.ScopePasses.SiteLaws.{sites-count, first-next, all-sites-at}
+use Rattle.dwarf_entries.proofs.UnitPasses.PassLaws.{element}
 use Rattle.dwarf_entries.proofs.units.Units.unit_scopes.Goals as goal
 
+pub loop-index-init : goal.loop-index-init
+loop-index-init c = record {
+  same = refl;
+  so_far = λ parsed. subst (λ (n : ℕ). AreParsedTo c.args.self.now.sections c.args.self.now.units n
+      c.args.lists.now c.args.left.now) (omega arith) parsed;
+}
+
+pub returns-in_err-entry-clause-scopes : goal.returns-in_err-entry-clause-scopes
+returns-in_err-entry-clause-scopes c parsed =
+    let p = err_from_is_err_and c.from_residual.result c.from_residual.ensures.1 in
+    let u = element c.args.self.now.units c.args.unit c.requires.unit in
+    rw (p.1, p.2) (inl ((rw c.loop-index.invariant.same at c.in_err-entry.ensures.site) u.0 u.1))
+
 pub returns-in-Err-clause-scopes : goal.returns-in-Err-clause-scopes
-returns-in-Err-clause-scopes c u before found first parsed =
-    let s = c.args.self.now.sections in
+returns-in-Err-clause-scopes c parsed =
     let us = c.args.self.now.units in
     let index = c.loop-index.index in
-    let lists = c.loop-index.lists in
-    let left = c.loop-index.left in
-    let entry = c.in_ok-entry.entry in
-    let so_far = c.loop-index.invariant.so_far u before found first parsed in
-    let size = c.scopes_in-index-end.ensures u found in
-    let p = site-at u index (omega (arith, size, c.loop-index-test.true)) in
-    let read = site-is u index entry c.in_ok-entry.inside p
-    ((rw c.loop-index.invariant.same at c.in_ok-entry.ensures.site) u found) in
-    let place = is-place s us u before _ index lists left entry so_far found first p
-    (c.len.ensures ∙ lists.scopes.ok.0) read in
-    checked-fault s us u before index lists lists left left c.in-Err.cause entry.entry.offset
-    c.at_item.result so_far p
+    let so_far = c.loop-index.invariant.so_far parsed in
+    let u = element us c.args.unit c.requires.unit in
+    let size = c.scopes_in-index-end.ensures u.0 u.1 in
+    let p = element (sites_in u.0 u.0.dies) index (omega (arith, size, c.loop-index-test.true)) in
+    let read = (rw c.loop-index.invariant.same at c.in_ok-entry.ensures.site) u.0 u.1 in
+    let site = is-site so_far u.0 index p.0 _ c.in_ok-entry.entry u.1 p.1 refl
+    (c.len.ensures ∙ c.loop-index.lists.scopes.ok.0) read in
+    scopes-fault so_far p.0 (all-sites-at us c.args.unit index _ u.0 p.0 u.1 p.1 refl)
+    c.in-Err.cause c.in_ok-entry.entry.entry.offset c.at_item.result
     ((rw (c.in_ok-entry.ensures.same ∙ c.loop-index.invariant.same) at c.in-Err.ensures.parsed)
-    so_far.parsed p.place place) (ap (λ (e : ScopeEntry). e.entry.offset) read.0) c.at_item.ensures
+    so_far.parsed p.0 site) (ap (λ (e : ScopeEntry). e.entry.offset) site.entry_is)
+    c.at_item.ensures
 
 pub loop-index-preserved : goal.loop-index-preserved
 loop-index-preserved c = record {
   same = c.in-Ok.ensures.same ∙ (c.in_ok-entry.ensures.same ∙ c.loop-index.invariant.same);
-  so_far = λ u before found first parsed.
-      let s = c.args.self.now.sections in
+  so_far = λ parsed.
       let us = c.args.self.now.units in
       let index = c.loop-index.index in
-      let lists = c.loop-index.lists in
-      let left = c.loop-index.left in
-      let entry = c.in_ok-entry.entry in
-      let so_far = c.loop-index.invariant.so_far u before found first parsed in
-      let size = c.scopes_in-index-end.ensures u found in
-      let p = site-at u index (omega (arith, size, c.loop-index-test.true)) in
-      let read = site-is u index entry c.in_ok-entry.inside p
-      ((rw c.loop-index.invariant.same at c.in_ok-entry.ensures.site) u found) in
-      let place = is-place s us u before _ index lists left entry so_far found first p
-      (c.len.ensures ∙ lists.scopes.ok.0) read in
-      checked-next s us u before index lists (record lists { ranges = c.scope.new.ranges }) _ left
-      _ c.in-Ok.items c.in-Ok.facts so_far p
+      let so_far = c.loop-index.invariant.so_far parsed in
+      let u = element us c.args.unit c.requires.unit in
+      let size = c.scopes_in-index-end.ensures u.0 u.1 in
+      let p = element (sites_in u.0 u.0.dies) index (omega (arith, size, c.loop-index-test.true)) in
+      let read = (rw c.loop-index.invariant.same at c.in_ok-entry.ensures.site) u.0 u.1 in
+      let site = is-site so_far u.0 index p.0 _ c.in_ok-entry.entry u.1 p.1 refl
+      (c.len.ensures ∙ c.loop-index.lists.scopes.ok.0) read in
+      scopes-next so_far p.0 (all-sites-at us c.args.unit index _ u.0 p.0 u.1 p.1 refl)
+      {mid = record c.loop-index.lists { ranges = c.scope.new.ranges }}
       ((rw (c.in_ok-entry.ensures.same ∙ c.loop-index.invariant.same) at c.in-Ok.ensures.parsed)
-      so_far.parsed p.place place) refl refl c.in_ok-push-in-Ok.ensures
-      (omega (arith, c.in-Ok.ensures.budget));
+      so_far.parsed p.0 site) refl refl c.in_ok-push-in-Ok.ensures
+      (omega (arith, c.in-Ok.ensures.budget)) (omega arith);
 }
 
 pub returns-clause-scopes : goal.returns-clause-scopes
-returns-clause-scopes c u before found first parsed =
-    let size = c.scopes_in-index-end.ensures u found in
-    checked-end c.args.self.now.sections c.args.self.now.units u before c.loop-index.index
-    c.loop-index.lists c.loop-index.left
-    (c.loop-index.invariant.so_far u before found first parsed)
-    (omega (arith, size, c.loop-index-test.false))
+returns-clause-scopes c parsed =
+    let us = c.args.self.now.units in
+    let u = element us c.args.unit c.requires.unit in
+    let size = c.scopes_in-index-end.ensures u.0 u.1 in
+    let next = first-next us c.args.unit u.0 u.1 in
+    subst (λ (n : ℕ). AreParsedTo c.args.self.now.sections us n c.loop-index.lists
+    c.loop-index.left) (omega (
+      arith,
+      size,
+      next,
+      sites-count u.0 u.0.dies,
+      c.loop-index-test.false,
+      c.loop-index.auto.index-end,
+    )) (c.loop-index.invariant.so_far parsed)

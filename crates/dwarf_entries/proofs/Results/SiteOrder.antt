@@ -1,0 +1,170 @@
+-- The order of scope sites and of their entries.
+use Rattle.std.proofs.Common.{◌≡◌, ◌⊎◌, inl, inr, ℕ, zero, suc, ◌+◌, ◌<◌, ◌≤◌, true, cond, List, []}
+use Rattle.std.proofs.Common.{◌∷◌, take, drop, get_or, ap, sym, ◌∙◌, subst, arith}
+use Rattle.std.specs.Prelude.{Some, slice_get, is_some, count_by, nat_lt}
+use Rattle.std.specs.List.{prefix_len}
+use Rattle.std.proofs.lemmas.Bool.{cases_lt, cases_order}
+use Rattle.std.proofs.lemmas.List.{take-take}
+use Rattle.std.proofs.lemmas.List.Sums.{sum_by-take-le, sum_by-take-drop, count_by_more_yes}
+use Rattle.std.proofs.lemmas.Option.{same_Some, get_or_from_slice_get, slice_get_within}
+use Rattle.dwarf_units.specs.Entries.{Die, below}
+use Rattle.dwarf_units.specs.Private.Rising.{RiseWithin}
+use Rattle.dwarf_walk.specs.ScopeEntries.{is_scope}
+use Rattle.dwarf_walk.specs.Sections.{Sections}
+use Rattle.dwarf_entries.specs.Bases.{CompilationUnit}
+use Rattle.dwarf_entries.specs.Scopes.{ScopeSite}
+use Rattle.dwarf_entries.specs.Private.Passes.{number_of_scopes, first_number}
+use Rattle.dwarf_entries.proofs.OriginChains.ReferenceLaws.{within-le}
+use Rattle.dwarf_entries.proofs.Results.BelowLaws.{counted-rises}
+use Rattle.dwarf_entries.proofs.ScopePasses.SiteLaws.{IsSiteAt, first-next}
+use Rattle.dwarf_entries.proofs.UnitPasses.UnitLaws.{AreUnitsIn, dies-rise}
+
+-- ---- the order of numbers
+
+pub first-rises : (us : List CompilationUnit) (i j : ℕ) → i ≤ j
+    → first_number us i ≤ first_number us j
+first-rises us i j le =
+    let less = sum_by-take-le (λ (u : CompilationUnit). count_by is_scope u.dies) (take j us) i in
+    omega (arith, less, ap number_of_scopes (take-take i j us le))
+
+few-below : (die : Die) (dies : List Die)
+    → count_by is_scope (below die dies) ≤ count_by is_scope dies
+few-below die dies = sum_by-take-le (λ x. cond (is_scope x) 1 0) dies
+    (prefix_len (λ (d : Die). nat_lt die.depth d.depth) dies)
+
+-- A scope ends before the scopes of any later unit.
+pub before-later : {us : List CompilationUnit} {n : ℕ} {p : ScopeSite} (at : IsSiteAt us n p)
+    (j : ℕ) → at.unit < j
+    → (n < first_number us j) × (n + 1 + p.inside ≤ first_number us j)
+before-later {us} {n} {p} at j lt =
+    let dies : List Die = p.member.unit.dies in
+    let die : Die = p.member.die in
+    let k : ℕ = at.is.index in
+    let within = slice_get_within dies k die at.is.there in
+    let scope-is : is_scope (get_or dies k die) ≡ true =
+    ap is_scope (get_or_from_slice_get dies k die die at.is.there) ∙ ap is_some at.is.kind_is in
+    let more = count_by_more_yes is_scope dies k die within scope-is in
+    let whole = sum_by-take-drop (λ (x : Die). cond (is_scope x) 1 0) dies (k + 1) in
+    let one : suc k ≡ k + 1 = omega arith in
+    let inside : p.inside ≡ count_by is_scope (below die (drop (k + 1) dies)) =
+    at.is.inside_is ∙ ap (λ (m : ℕ). count_by is_scope (below die (drop m dies))) one in
+    let few = few-below die (drop (k + 1) dies) in
+    let next = first-next us at.unit p.member.unit at.unit_is in
+    let rises = first-rises us (at.unit + 1) j (omega (arith, lt)) in (
+      omega (arith, at.number_is, at.is.number_is, more, whole, next, rises),
+      omega (arith, at.number_is, at.is.number_is, more, whole, next, rises, inside, few),
+    )
+
+-- A site of the same unit as another.
+pub record IsInUnitOf {us : List CompilationUnit} {n m : ℕ} {p q : ScopeSite}
+    (a : IsSiteAt us n p) (b : IsSiteAt us m q) : Type 0 where
+  pub there : slice_get p.member.unit.dies b.is.index ≡ Some q.member.die
+  pub number_is : m ≡ first_number us a.unit
+      + count_by is_scope (take b.is.index p.member.unit.dies)
+  pub inside_is : q.inside ≡ count_by is_scope
+      (below q.member.die (drop (b.is.index + 1) p.member.unit.dies))
+
+pub in-unit-of : {us : List CompilationUnit} {n m : ℕ} {p q : ScopeSite} (a : IsSiteAt us n p)
+    (b : IsSiteAt us m q) → a.unit ≡ b.unit → IsInUnitOf a b
+in-unit-of {us} {n} {m} {p} {q} a b e =
+    let k : ℕ = b.is.index in
+    let one : suc k ≡ k + 1 = omega arith in
+    let same : p.member.unit ≡ q.member.unit = same_Some p.member.unit q.member.unit
+    (sym a.unit_is ∙ (ap (slice_get us) e ∙ b.unit_is)) in
+    let count = ap (λ (u : CompilationUnit). count_by is_scope (take k u.dies)) same in
+    record {
+      there = subst (λ (u : CompilationUnit). slice_get u.dies k ≡ Some q.member.die) (sym same)
+          b.is.there;
+      number_is = omega (arith, b.number_is, b.is.number_is, count, ap (first_number us) e);
+      inside_is = b.is.inside_is
+          ∙ (ap (λ (m : ℕ). count_by is_scope (below q.member.die (drop m q.member.unit.dies))) one
+          ∙ ap (λ (u : CompilationUnit). count_by is_scope (below q.member.die
+          (drop (k + 1) u.dies))) (sym same));
+    }
+
+-- A scope with a lower number is in an earlier unit, or earlier in the same unit.
+pub site-order : {us : List CompilationUnit} {n m : ℕ} {p q : ScopeSite} (a : IsSiteAt us n p)
+    (b : IsSiteAt us m q) → n < m
+    → (a.unit < b.unit) ⊎ ((p.member.unit ≡ q.member.unit) × (a.is.index < b.is.index))
+site-order {us} {n} {m} {p} {q} a b less = by_unit (cases_order a.unit b.unit)
+  where
+    by_index : a.unit ≡ b.unit → p.member.unit ≡ q.member.unit
+        → (a.is.index < b.is.index) ⊎ (b.is.index ≤ a.is.index)
+        → (a.unit < b.unit) ⊎ ((p.member.unit ≡ q.member.unit) × (a.is.index < b.is.index))
+    by_index e same (inl lt) = inr (same, lt)
+    by_index e same (inr ge) =
+        let counts = counted-rises is_scope p.member.unit.dies b.is.index a.is.index ge in
+        let there = ap (λ (u : CompilationUnit). count_by is_scope (take b.is.index u.dies)) same in
+        absurd (omega (
+          arith,
+          less,
+          a.number_is,
+          b.number_is,
+          a.is.number_is,
+          b.is.number_is,
+          counts,
+          there,
+          ap (first_number us) e,
+        ))
+
+    by_unit : (a.unit ≡ b.unit) ⊎ ((a.unit < b.unit) ⊎ (b.unit < a.unit))
+        → (a.unit < b.unit) ⊎ ((p.member.unit ≡ q.member.unit) × (a.is.index < b.is.index))
+    by_unit (inl e) = by_index e (same_Some p.member.unit q.member.unit
+        (sym a.unit_is ∙ (ap (slice_get us) e ∙ b.unit_is))) (cases_lt a.is.index b.is.index)
+    by_unit (inr (inl lt)) = inl lt
+    by_unit (inr (inr gt)) =
+        let past = (before-later b a.unit gt).0 in
+        absurd (omega (arith, less, past, a.number_is))
+
+-- ---- the order of offsets
+
+pub rise-at : (from end : ℕ) (dies : List Die) (k : ℕ) (d : Die) → RiseWithin from end dies
+    → slice_get dies k ≡ Some d → (from ≤ d.offset) × (d.offset < end)
+rise-at from end [] k d rise h = cc
+rise-at from end (x ∷ dies) zero d rise h =
+    let first = rise.0 in
+    let past = within-le (suc x.offset) end dies rise.1 in
+    subst (λ (e : Die). (from ≤ e.offset) × (e.offset < end)) (same_Some x d h)
+    (first, omega (arith, past))
+rise-at from end (x ∷ dies) (suc k) d rise h =
+    let first = rise.0 in
+    let at = rise-at (suc x.offset) end dies k d rise.1 h in
+    (omega (arith, first, at.0), at.1)
+
+pub rise-order : (from end : ℕ) (dies : List Die) (i j : ℕ) (d e : Die) → RiseWithin from end dies
+    → slice_get dies i ≡ Some d → slice_get dies j ≡ Some e → i < j → d.offset < e.offset
+rise-order from end [] i j d e rise d_is e_is lt = cc
+rise-order from end (x ∷ dies) i zero d e rise d_is e_is lt = absurd (omega (arith, lt))
+rise-order from end (x ∷ dies) zero (suc j) d e rise d_is e_is lt =
+    let at = rise-at (suc x.offset) end dies j e rise.1 e_is in
+    subst (λ (y : Die). y.offset < e.offset) (same_Some x d d_is) (omega (arith, at.0))
+rise-order from end (x ∷ dies) (suc i) (suc j) d e rise d_is e_is lt =
+    rise-order (suc x.offset) end dies i j d e rise.1 d_is e_is (omega (arith, lt))
+
+-- A site is within its unit, and the offsets of sites are strictly increasing.
+pub within-unit : {s : Sections} {us : List CompilationUnit} {n : ℕ} {p : ScopeSite}
+    → AreUnitsIn s us → (a : IsSiteAt us n p)
+    → (p.member.unit.header.start ≤ p.member.die.offset)
+    × (p.member.die.offset < p.member.unit.header.end)
+within-unit {p = p} are a =
+    rise-at p.member.unit.header.start p.member.unit.header.end p.member.unit.dies a.is.index
+    p.member.die (dies-rise (are.each_is a.unit p.member.unit a.unit_is)) a.is.there
+
+pub sites-rise : {s : Sections} {us : List CompilationUnit} {n m : ℕ} {p q : ScopeSite}
+    → AreUnitsIn s us → (a : IsSiteAt us n p) (b : IsSiteAt us m q) → n < m
+    → p.member.die.offset < q.member.die.offset
+sites-rise {us = us} {p = p} {q = q} are a b less = by_order (site-order a b less)
+  where
+    by_order : (a.unit < b.unit) ⊎ ((p.member.unit ≡ q.member.unit) × (a.is.index < b.is.index))
+        → p.member.die.offset < q.member.die.offset
+    by_order (inl lt) =
+        let first = within-unit are a in
+        let second = within-unit are b in
+        let between = are.apart a.unit b.unit p.member.unit q.member.unit a.unit_is b.unit_is lt in
+        omega (arith, first.1, second.0, between)
+    by_order (inr (same, lt)) =
+        rise-order q.member.unit.header.start q.member.unit.header.end q.member.unit.dies
+        a.is.index b.is.index p.member.die q.member.die
+        (dies-rise (are.each_is b.unit q.member.unit b.unit_is))
+        (subst (λ (u : CompilationUnit). slice_get u.dies a.is.index ≡ Some p.member.die) same
+        a.is.there) b.is.there lt

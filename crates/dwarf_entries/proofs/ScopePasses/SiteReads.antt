@@ -1,0 +1,84 @@
+-- The scope sites of a unit, from the data stored for it.
+use Rattle.std.proofs.Common.{◌≡◌, ℕ, List, [], ◌∷◌, length, get_or, map, refl, ap, ◌∙◌}
+use Rattle.std.specs.Prelude.{Option, Some, None, Ok, count_by, slice_get}
+use Rattle.std.proofs.lemmas.List.{get_or-map, length-map}
+use Rattle.std.proofs.lemmas.Option.{slice_get_within, get_or_from_slice_get}
+use Rattle.dwarf_forms.specs.Declarations.{Declaration}
+use Rattle.dwarf_forms.specs.Tables.{declarations_of}
+use Rattle.dwarf_units.specs.declared.unit_headers.UnitHeader.{UnitHeader}
+use Rattle.dwarf_units.specs.Units.{declarations_limit}
+use Rattle.dwarf_units.specs.Entries.{Die, below}
+use Rattle.dwarf_walk.specs.declared.scope_kind.ScopeKind.{ScopeKind}
+use Rattle.dwarf_walk.specs.declared.unit_entries.ScopePlace.{ScopePlace}
+use Rattle.dwarf_walk.specs.declared.unit_entries.UnitEntries.{UnitEntries}
+use Rattle.dwarf_walk.specs.ScopeEntries.{kind_of, is_scope}
+use Rattle.dwarf_walk.specs.Sections.{Sections}
+use Rattle.dwarf_walk.specs.Private.Rereading.{scope_entry_at}
+use Rattle.dwarf_walk.specs.Private.Stored.{StoredUnit, scope_entry, scope_place, scope_places}
+use Rattle.dwarf_walk.specs.Private.Stored.{stored_of}
+use Rattle.dwarf_entries.specs.Bases.{CompilationUnit}
+use Rattle.dwarf_entries.specs.Scopes.{ScopeSite, site_of, sites_in}
+use Rattle.dwarf_entries.specs.Private.EntryOffsets.{stored_unit_of}
+use Rattle.dwarf_entries.proofs.ScopePasses.SiteLaws.{site-in}
+use Rattle.dwarf_entries.proofs.UnitPasses.RereadLaws.{bytes_in, scope-there}
+use Rattle.dwarf_entries.proofs.UnitPasses.UnitLaws.{IsUnitIn}
+
+abbrev place_in : ScopeSite → ScopePlace
+place_in p = record { offset = p.member.die.offset; inside = p.inside }
+
+places-are : (u : CompilationUnit) (dies : List Die)
+    → scope_places dies ≡ map place_in (sites_in u dies)
+places-are u [] = refl
+places-are u (die ∷ rest) = by_kind (kind_of die.tag) (places-are u rest)
+  where
+    by_kind : (kind : Option ScopeKind) → scope_places rest ≡ map place_in (sites_in u rest)
+        → scope_place die rest kind (scope_places rest)
+        ≡ map place_in (site_of u die rest kind (sites_in u rest))
+    by_kind None later = later
+    by_kind (Some kind) later = ap (λ (ps : List ScopePlace).
+        (let p : ScopePlace = record {
+          offset = die.offset;
+          inside =
+              count_by is_scope (below die rest);
+        } in p) ∷ ps) later
+
+-- A unit has as many stored elements as sites.
+pub sites-stored : (k : UnitEntries) (u : CompilationUnit) → stored_of k ≡ stored_unit_of u
+    → length k.scopes.items ≡ length (sites_in u u.dies)
+sites-stored k u same = ap (λ (x : StoredUnit). length x.scopes) same
+    ∙ (ap (λ (ps : List ScopePlace). length ps) (places-are u u.dies)
+    ∙ length-map (sites_in u u.dies) place_in)
+
+-- The site at an index of the stored data of a unit, which can be re-read.
+pub record SiteRead (s : Sections) (p : ScopeSite) (header : UnitHeader) (stored : ScopePlace)
+    : Type 0 where
+  pub descendants_are : stored.inside ≡ p.inside
+  pub table : List Declaration
+  pub table_is : declarations_of declarations_limit s.debug_abbrev header.abbreviations ≡ Ok table
+  pub there : scope_entry_at header.format table (bytes_in s header) stored.offset
+      ≡ Ok (scope_entry p.member.die p.kind)
+
+pub site-read : (s : Sections) (u : CompilationUnit) (i : ℕ) (p : ScopeSite) (k : UnitEntries)
+    (stored : ScopePlace) → IsUnitIn s u → stored_of k ≡ stored_unit_of u
+    → slice_get (sites_in u u.dies) i ≡ Some p → stored ≡ get_or k.scopes.items i stored
+    → SiteRead s p k.header stored
+site-read s u i p k stored read same found here =
+    let sites = sites_in u u.dies in
+    let at = site-in u u.dies i p found in
+    let header : k.header ≡ u.header = ap (λ (x : StoredUnit). x.header) same in
+    let is : stored ≡ place_in p =
+    here ∙ (ap (λ (ps : List ScopePlace). get_or ps i stored)
+    (ap (λ (x : StoredUnit). x.scopes) same ∙ places-are u u.dies)
+    ∙ (get_or-map place_in sites i p stored (slice_get_within sites i p found)
+    ∙ ap place_in (get_or_from_slice_get sites i p p found))) in
+    record {
+      descendants_are = ap (λ (q : ScopePlace). q.inside) is;
+      table = read.table;
+      table_is = ap (λ (h : UnitHeader). declarations_of declarations_limit s.debug_abbrev
+          h.abbreviations) header ∙ read.table_is;
+      there = ap (λ (h : UnitHeader). scope_entry_at h.format read.table (bytes_in s h)
+          stored.offset) header
+          ∙ (ap (λ (q : ScopePlace). scope_entry_at u.header.format read.table
+          (bytes_in s u.header) q.offset) is
+          ∙ scope-there s u at.index p.member.die p.kind read at.there at.kind_is);
+    }
