@@ -82,27 +82,6 @@ pub record Followed (units : List CompilationUnit) (remaining : ℕ) (m : Member
   pub rest : chain_within remaining units m ≡ prepend before (chain_within left units last)
   pub stored : AreFirst units firsts (before ++ last ∷ [])
 
-pub followed-none : (units : List CompilationUnit) (remaining : ℕ) (m : Member) (found : UnitEntry)
-    (firsts : FirstNames) → IsMember units found.unit found.entry m
-    → AreFirst units firsts ([] ++ m ∷ []) → Followed units remaining m remaining found firsts
-followed-none units remaining m found firsts at stored =
-    record {
-      before = [];
-      last = m;
-      at = at;
-      rest = whole (chain_within remaining units m);
-      stored = stored;
-    }
-  where
-    whole : (r : Result (List Member) Cause) → r ≡ prepend [] r
-    whole (Ok path) = refl
-    whole (Err e) = refl
-
-next-is : (units : List CompilationUnit) (found : UnitEntry) (last : Member)
-    (next : Option AttributeValue) → IsMember units found.unit found.entry last
-    → found.entry.next ≡ next → next_of last.die ≡ next
-next-is units found last next at is = sym (ap (λ (e : NamedEntry). e.next) at.entry_is) ∙ is
-
 -- Prepends one entry to an origin chain.
 abbrev pub in_front : Member → Result (List Member) Cause → Result (List Member) Cause
 in_front m r = r >>= λ rest. Ok (m ∷ rest)
@@ -122,20 +101,6 @@ pub stepped : (units : List CompilationUnit) (after : ℕ) (last : Member)
 unfolding chain_within
 stepped units after last reference is = rw (is, chain_within) refl
 
--- The same after other entries, given the target.
-followed-on : (units : List CompilationUnit) (before : List Member) (left after : ℕ) (last : Member)
-    (reference : AttributeValue) → after + 1 ≡ left → next_of last.die ≡ Some reference
-    → (target : Result Member Cause) → target_of units last.unit reference ≡ target
-    → prepend before (chain_within left units last)
-    ≡ prepend before (target >>= λ next. in_front last (chain_within after units next))
-followed-on units before left after last reference left_is is target target_is =
-    let one : left ≡ suc after = omega (arith, left_is) in
-    ap (λ (k : ℕ). prepend before (chain_within k units last)) one
-    ∙ (ap (λ (r : Result (List Member) Cause). prepend before r)
-    (stepped units after last reference is)
-    ∙ ap (λ (t : Result Member Cause). prepend before
-    (t >>= λ next. in_front last (chain_within after units next))) target_is)
-
 pub ended : (units : List CompilationUnit) (left : ℕ) (last : Member) → next_of last.die ≡ None
     → chain_within left units last ≡ Ok (last ∷ [])
 unfolding chain_within
@@ -147,73 +112,84 @@ pub stopped : (units : List CompilationUnit) (last : Member) (reference : Attrib
 unfolding chain_within
 stopped units last reference is = rw (is, chain_within) refl
 
-pub followed-next : (units : List CompilationUnit) (remaining : ℕ) (m : Member) (left after : ℕ)
-    (found next : UnitEntry) (place : UnitPlace) (firsts firsts_after : FirstNames)
-    (reference : AttributeValue) → Followed units remaining m left found firsts → after + 1 ≡ left
-    → found.entry.next ≡ Some reference
-    → ((u : CompilationUnit) → slice_get units found.unit ≡ Some u
-    → Finds units (Some place) (target_of units u reference))
-    → ((n : Member) → IsPlaceOf units place n → IsMember units next.unit next.entry n)
-    → ((path : List Member) (n : Member) → AreFirst units firsts path
-    → IsMember units next.unit next.entry n → AreFirst units firsts_after (path ++ n ∷ []))
-    → Followed units remaining m after next firsts_after
-followed-next units remaining m left after found next place firsts firsts_after reference
-    so_far left_is
-    is finds again more =
-    let to = finds so_far.last.unit so_far.at.unit_is in
-    let hop = next-is units found so_far.last (Some reference) so_far.at is in
-    record {
-      before = so_far.before ++ so_far.last ∷ [];
-      last = to.0;
-      at = again to.0 to.2;
-      rest = so_far.rest ∙ (followed-on units so_far.before left after so_far.last reference left_is
-          hop (Ok to.0) to.1 ∙ prepend-append so_far.before so_far.last
-          (chain_within after units to.0));
-      stored = more (so_far.before ++ so_far.last ∷ []) to.0 so_far.stored (again to.0 to.2);
-    }
+pub followed-none : {units : List CompilationUnit} {remaining : ℕ} {m : Member}
+    {found : UnitEntry} {firsts : FirstNames} → IsMember units found.unit found.entry m
+    → AreFirst units firsts (m ∷ []) → Followed units remaining m remaining found firsts
+followed-none {units} {remaining} {m} at stored = record {
+  before = [];
+  last = m;
+  at = at;
+  rest = whole (chain_within remaining units m);
+  stored = stored;
+}
+  where
+    whole : (r : Result (List Member) Cause) → r ≡ prepend [] r
+    whole (Ok path) = refl
+    whole (Err e) = refl
 
-pub followed-end : (units : List CompilationUnit) (remaining : ℕ) (m : Member) (left : ℕ)
-    (found : UnitEntry) (firsts : FirstNames) → Followed units remaining m left found firsts
-    → found.entry.next ≡ None → FindsFirst units (Ok firsts) (chain_within remaining units m)
-followed-end units remaining m left found firsts so_far is =
-    let last = next-is units found so_far.last None so_far.at is in (
-      so_far.before ++ so_far.last ∷ [],
-      so_far.rest
-          ∙ ap (λ (r : Result (List Member) Cause). prepend so_far.before r)
-          (ended units left so_far.last last),
-      so_far.stored,
-    )
+module _ {units : List CompilationUnit} {remaining : ℕ} {m : Member} {left : ℕ} {found : UnitEntry}
+    {firsts : FirstNames} (so_far : Followed units remaining m left found firsts) where
+  next-is : (next : Option AttributeValue) → found.entry.next ≡ next
+      → next_of so_far.last.die ≡ next
+  next-is next is = sym (ap (λ (e : NamedEntry). e.next) so_far.at.entry_is) ∙ is
 
-pub followed-deep : (units : List CompilationUnit) (remaining : ℕ) (m : Member) (left : ℕ)
-    (found : UnitEntry) (firsts : FirstNames) (reference : AttributeValue)
-    → Followed units remaining m left found firsts → left ≡ 0 → found.entry.next ≡ Some reference
-    → chain_within remaining units m ≡ Err causes.OriginDepth
-followed-deep units remaining m left found firsts reference so_far none is =
-    let hop = next-is units found so_far.last (Some reference) so_far.at is in
-    so_far.rest ∙ (ap (λ (k : ℕ). prepend so_far.before (chain_within k units so_far.last)) none
-    ∙ ap (λ (r : Result (List Member) Cause). prepend so_far.before r)
-    (stopped units so_far.last reference hop))
+  -- The chain after the last entry, given the chain from that entry on.
+  rest-is : (r : Result (List Member) Cause) → chain_within left units so_far.last ≡ r
+      → chain_within remaining units m ≡ prepend so_far.before r
+  rest-is r is = so_far.rest ∙ ap (prepend so_far.before) is
 
-pub followed-lost : (units : List CompilationUnit) (remaining : ℕ) (m : Member) (left : ℕ)
-    (found : UnitEntry) (firsts : FirstNames) (reference : AttributeValue)
-    → Followed units remaining m left found firsts → (left ≡ 0 → ⊥) → found.entry.next
-    ≡ Some reference → (next : Option UnitPlace) → next ≡ None
-    → ((u : CompilationUnit) → slice_get units found.unit ≡ Some u
-    → Finds units next (target_of units u reference))
-    → chain_within remaining units m ≡ Err causes.Reference
-followed-lost units remaining m left found firsts reference so_far some is next none finds =
-    let lost = (rw none at finds) so_far.last.unit so_far.at.unit_is in
-    let hop = next-is units found so_far.last (Some reference) so_far.at is in
-    so_far.rest ∙ followed-on units so_far.before left (left - 1) so_far.last reference
-    (omega (arith, some)) hop (Err causes.Reference) lost
+  pub followed-end : found.entry.next ≡ None
+      → FindsFirst units (Ok firsts) (chain_within remaining units m)
+  followed-end is = (
+    so_far.before ++ so_far.last ∷ [],
+    rest-is (Ok (so_far.last ∷ [])) (ended units left so_far.last (next-is None is)),
+    so_far.stored,
+  )
 
--- If the target of a reference cannot be re-read, memory ran out.
-pub followed-again : (units : List CompilationUnit) (remaining : ℕ) (m : Member) (left : ℕ)
-    (found : UnitEntry) (place : UnitPlace) (firsts : FirstNames) (reference : AttributeValue)
-    (cause : Cause) → Followed units remaining m left found firsts
-    → ((u : CompilationUnit) → slice_get units found.unit ≡ Some u
-    → Finds units (Some place) (target_of units u reference))
-    → ((n : Member) → IsPlaceOf units place n → cause ≡ causes.Memory) → cause ≡ causes.Memory
-followed-again units remaining m left found place firsts reference cause so_far finds again = let
-    to =
-    finds so_far.last.unit so_far.at.unit_is in again to.0 to.2
+  module _ (reference : AttributeValue) (is : found.entry.next ≡ Some reference) where
+    -- The chain after the last entry, given the target of its reference.
+    followed-on : (after : ℕ) (target : Result Member Cause) → after + 1 ≡ left
+        → target_of units so_far.last.unit reference ≡ target
+        → chain_within remaining units m ≡ prepend so_far.before
+        (target >>= λ next. in_front so_far.last (chain_within after units next))
+    followed-on after target left_is target_is =
+        let one : left ≡ suc after = omega (arith, left_is) in
+        rest-is _ (ap (λ (k : ℕ). chain_within k units so_far.last) one
+        ∙ (stepped units after so_far.last reference (next-is (Some reference) is)
+        ∙ ap (λ (t : Result Member Cause). t
+        >>= λ next. in_front so_far.last (chain_within after units next)) target_is))
+
+    pub followed-deep : left ≡ 0 → chain_within remaining units m ≡ Err causes.OriginDepth
+    followed-deep none = rest-is (Err causes.OriginDepth)
+        (ap (λ (k : ℕ). chain_within k units so_far.last) none
+        ∙ stopped units so_far.last reference (next-is (Some reference) is))
+
+    module _ (to : Option UnitPlace) (finds : (u : CompilationUnit) → slice_get units found.unit
+        ≡ Some u → Finds units to (target_of units u reference)) where
+      pub followed-lost : (left ≡ 0 → ⊥) → to ≡ None
+          → chain_within remaining units m ≡ Err causes.Reference
+      followed-lost some none = followed-on (left - 1) (Err causes.Reference) (omega (arith, some))
+          ((rw none at finds) so_far.last.unit so_far.at.unit_is)
+
+      -- The member at the target.
+      pub target-there : (place : UnitPlace) → to ≡ Some place
+          → (n : Member) × (target_of units so_far.last.unit reference ≡ Ok n)
+          × IsPlaceOf units place n
+      target-there place there = (rw there at finds) so_far.last.unit so_far.at.unit_is
+
+      pub followed-next : (after : ℕ) (place : UnitPlace) (next : UnitEntry) (more : FirstNames)
+          → after + 1 ≡ left → to ≡ Some place
+          → ((n : Member) → IsPlaceOf units place n → IsMember units next.unit next.entry n)
+          → ((path : List Member) (n : Member) → AreFirst units firsts path
+          → IsMember units next.unit next.entry n → AreFirst units more (path ++ n ∷ []))
+          → Followed units remaining m after next more
+      followed-next after place next more left_is there again longer =
+          let n = target-there place there in
+          record {
+            before = so_far.before ++ so_far.last ∷ [];
+            last = n.0;
+            at = again n.0 n.2;
+            rest = followed-on after (Ok n.0) left_is n.1 ∙ prepend-append so_far.before so_far.last
+                (chain_within after units n.0);
+            stored = longer (so_far.before ++ so_far.last ∷ []) n.0 so_far.stored (again n.0 n.2);
+          }

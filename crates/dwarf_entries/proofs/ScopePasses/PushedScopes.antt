@@ -1,6 +1,6 @@
 -- One more scope after those that share lists.
 use Rattle.std.proofs.Common.{◌≡◌, ℕ, ◌+◌, ◌-◌, ◌≤◌, List, [], ◌∷◌, ◌++◌, length, take, drop, refl}
-use Rattle.std.proofs.Common.{ap, sym, ◌∙◌, subst, arith, append-nil, length-append}
+use Rattle.std.proofs.Common.{ap, sym, ◌∙◌, arith, append-nil, length-append}
 use Rattle.std.specs.Prelude.{None}
 use Rattle.std.proofs.lemmas.List.{take-append-le, drop-append-le, get_or_append_left, length-drop}
 use Rattle.std.proofs.lemmas.Option.{unwrap_or-slice_get}
@@ -112,14 +112,6 @@ pub record Pushed (roots : List Root) (old new : ScopeLists) (scope : Scope) : T
   pub described : scopes_of roots new ≡ scopes_of roots old ++ scope ∷ []
   pub in_list : AreConsecutive (length new.wide.items) 0 (length new.ranges.items) new.scopes.items
 
-same-scopes : (roots : List Root) {w v : List CallSite} {r q : List Range} {s t : List StoredScope}
-    → w ≡ v
-    → r ≡ q → s ≡ t → scopes_from roots w r 0 s ≡ scopes_from roots v q 0 t
-same-scopes roots {w = w} {v = v} {r = r} {q = q} {s = s} {t = t} a b c =
-    ap (λ (x : List CallSite). scopes_from roots x r 0 s) a
-    ∙ (ap (λ (x : List Range). scopes_from roots v x 0 s) b
-    ∙ ap (λ (x : List StoredScope). scopes_from roots v q 0 x) c)
-
 pub pushed : (roots : List Root) (old mid new : ScopeLists) (found : List Range)
     (facts : ScopeFacts) → AreConsecutive (length old.wide.items) 0 (length old.ranges.items)
     old.scopes.items
@@ -141,34 +133,21 @@ pushed roots old mid new found facts in_list scopes_stay wide_stays ranges_grow 
       ap (λ (rs : List Range). length rs) ranges_grow,
       length-append old.ranges.items found,
     ) in
-    let counted : length new.wide.items ≡ length old.wide.items + length more =
-    omega (arith, ap (λ (w : List CallSite). length w) wide, length-append old.wide.items more)
-    in
-    let sized : length new.ranges.items ≡ length old.ranges.items + length found =
-    omega (
-      arith,
-      ap (λ (rs : List Range). length rs) ranges,
-      length-append old.ranges.items
-          found,
-    ) in
-    let inside : IsInList (length old.wide.items + length more) s.calls s.call_file s.call_line =
-    subst (λ (k : ℕ). IsInList k s.calls s.call_file s.call_line) counted is.packs.in_list in
+    let inside = rw (wide, length-append old.wide.items more) at is.packs.in_list in
     let behind = in_list-push (length old.wide.items) (length more) 0 (length old.ranges.items)
     (length found) old.scopes.items s in_list ends inside in
     let described : scope_of roots (old.wide.items ++ more) found s ≡ facts_of roots found facts =
     ap (λ (w : List CallSite). scope_of roots w found s) (sym wide)
     ∙ is.packs.tells roots found in
     record {
-      described = same-scopes roots wide ranges scopes
-          ∙ (scopes-push roots old.wide.items more old.ranges.items found 0 old.scopes.items
-          s in_list
-          ends ∙ ap (λ (x : Scope). scopes_of roots old ++ x ∷ []) described);
-      in_list = subst (λ (ss : List StoredScope). AreConsecutive (length new.wide.items) 0
-          (length new.ranges.items)
-          ss) (sym scopes)
-          (subst (λ (k : ℕ). AreConsecutive k 0 (length new.ranges.items) (old.scopes.items
-          ++ s ∷ []))
-          (sym counted)
-          (subst (λ (k : ℕ). AreConsecutive (length old.wide.items + length more) 0 k
-          (old.scopes.items ++ s ∷ [])) (sym sized) behind));
+      described = rw (wide, ranges, scopes) (scopes-push roots old.wide.items more old.ranges.items
+          found 0 old.scopes.items s in_list ends
+          ∙ ap (λ (x : Scope). scopes_of roots old ++ x ∷ []) described);
+      in_list = rw (
+        wide,
+        ranges,
+        scopes,
+        length-append old.wide.items more,
+        length-append old.ranges.items found,
+      ) behind;
     }

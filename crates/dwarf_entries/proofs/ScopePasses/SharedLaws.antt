@@ -1,15 +1,14 @@
 -- The data of scopes in the lists that they share.
 use Rattle.std.proofs.Common.{◌≡◌, ℕ, zero, suc, ◌-◌, List, [], ◌∷◌, length, take, drop, Bool}
 use Rattle.std.proofs.Common.{false, cond, refl, ap, sym, ◌∙◌, arith}
-use Rattle.std.specs.Prelude.{Option, Some, None, slice_get, option_map, option_and_then, ◌==◌}
+use Rattle.std.specs.Prelude.{Some, None, slice_get, option_map, ◌==◌}
 use Rattle.std.specs.Option.{option_map_or}
 use Rattle.std.proofs.Math.Dec.{eqb-suc-zero}
 use Rattle.dwarf_entries.specs.declared.calls.CallSite.{CallSite}
 use Rattle.dwarf_entries.specs.declared.scope.Range.{Range}
 use Rattle.dwarf_entries.specs.declared.scope.Root.{Root}
 use Rattle.dwarf_entries.specs.declared.scope.Scope.{Scope as StoredScope}
-use Rattle.dwarf_entries.specs.Scopes.{Scope, call_site, stmt_list_by_number, scope_of, scopes_from}
-use Rattle.dwarf_entries.specs.Scopes.{ranges_at, stmt_list_at}
+use Rattle.dwarf_entries.specs.Scopes.{scope_of, scopes_from}
 use Rattle.dwarf_entries.specs.Private.Shared.{ranges_start}
 
 -- ---- the scope at an index
@@ -53,68 +52,18 @@ scopes-length roots wide ranges first [] = refl
 scopes-length roots wide ranges first (s ∷ ss) =
     ap suc (scopes-length roots wide ranges s.ranges_end ss)
 
--- The data of the scope at an index, if there is one.
-pub ranges-there : (roots : List Root) (wide : List CallSite) (ranges : List Range)
-    (ss : List StoredScope)
-    (n start : ℕ) (s : StoredScope) → slice_get ss n ≡ Some s → start ≡ ranges_start 0 ss n
-    → take (s.ranges_end - start) (drop start ranges)
-    ≡ ranges_at (scopes_from roots wide ranges 0 ss) n
-ranges-there roots wide ranges ss n start s found start_is =
-    ap (λ (k : ℕ). take (s.ranges_end - k) (drop k ranges)) start_is
-    ∙ sym (ap (λ (o : Option Scope). option_map_or (λ (t : Scope). t.ranges) o [])
-    (scopes-at roots wide ranges 0 ss n
-    ∙ ap (λ (o : Option StoredScope). option_map
-    (λ t. scope_of roots wide (take (t.ranges_end - ranges_start 0 ss n)
-    (drop (ranges_start 0 ss n) ranges)) t) o) found))
+-- The scope at an index, if there is one.
+pub scope-there : (roots : List Root) (wide : List CallSite) (ranges : List Range)
+    (ss : List StoredScope) (n : ℕ) (s : StoredScope) → slice_get ss n ≡ Some s
+    → slice_get (scopes_from roots wide ranges 0 ss) n ≡ Some (scope_of roots wide
+    (take (s.ranges_end - ranges_start 0 ss n) (drop (ranges_start 0 ss n) ranges)) s)
+scope-there roots wide ranges ss n s found =
+    scopes-at roots wide ranges 0 ss n ∙ ap (option_map (λ t. scope_of roots wide
+    (take (t.ranges_end - ranges_start 0 ss n) (drop (ranges_start 0 ss n) ranges)) t)) found
 
-pub ranges-nowhere : (roots : List Root) (wide : List CallSite) (ranges : List Range)
+pub scope-nowhere : (roots : List Root) (wide : List CallSite) (ranges : List Range)
     (ss : List StoredScope) (n : ℕ) → slice_get ss n ≡ None
-    → [] ≡ ranges_at (scopes_from roots wide ranges 0 ss) n
-ranges-nowhere roots wide ranges ss n none =
-    sym (ap (λ (o : Option Scope). option_map_or (λ (t : Scope). t.ranges) o [])
-    (scopes-at roots wide ranges 0 ss n
-    ∙ ap (λ (o : Option StoredScope). option_map
-    (λ t. scope_of roots wide (take (t.ranges_end - ranges_start 0 ss n)
-    (drop (ranges_start 0 ss n) ranges)) t) o) none))
-
-pub stmt_list-there : (roots : List Root) (wide : List CallSite) (ranges : List Range)
-    (ss : List StoredScope) (n : ℕ) (o : Option StoredScope) → slice_get ss n ≡ o
-    → stmt_list_at (scopes_from roots wide ranges 0 ss) n
-    ≡ option_and_then (λ (s : StoredScope). stmt_list_by_number roots s.number) o
-stmt_list-there roots wide ranges ss n o found =
-    ap (λ (p : Option Scope). option_and_then (λ (t : Scope). t.stmt_list) p)
-    (scopes-at roots wide ranges 0 ss n
-    ∙ ap (λ (o : Option StoredScope). option_map
-    (λ t. scope_of roots wide (take (t.ranges_end - ranges_start 0 ss n)
-    (drop (ranges_start 0 ss n) ranges)) t) o) found) ∙ by_case o
-  where
-    by_case : (o : Option StoredScope) → option_and_then (λ (t : Scope). t.stmt_list)
-        (option_map (λ t. scope_of roots wide
-        (take (t.ranges_end - ranges_start 0 ss n) (drop (ranges_start 0 ss n) ranges)) t) o)
-        ≡ option_and_then (λ (s : StoredScope). stmt_list_by_number roots s.number) o
-    by_case None = refl
-    by_case (Some s) = refl
-
-pub call-there : (roots : List Root) (wide : List CallSite) (ranges : List Range)
-    (ss : List StoredScope)
-    (n : ℕ) (o : Option StoredScope) (f : CallSite → Option ℕ) (g : Scope → Option ℕ)
-    → slice_get ss n ≡ o
-    → ((rs : List Range) (s : StoredScope) → g (scope_of roots wide rs s)
-    ≡ f (call_site wide s.calls s.call_file s.call_line))
-    → option_and_then g (slice_get (scopes_from roots wide ranges 0 ss) n)
-    ≡ option_and_then (λ (s : StoredScope). f (call_site wide s.calls s.call_file s.call_line)) o
-call-there roots wide ranges ss n o f g found same =
-    ap (λ (p : Option Scope). option_and_then g p)
-    (scopes-at roots wide ranges 0 ss n
-    ∙ ap (λ (o : Option StoredScope). option_map
-    (λ t. scope_of roots wide (take (t.ranges_end - ranges_start 0 ss n)
-    (drop (ranges_start 0 ss n) ranges)) t) o) found) ∙ by_case o
-  where
-    by_case : (o : Option StoredScope)
-        → option_and_then g (option_map (λ t. scope_of roots wide
-        (take (t.ranges_end - ranges_start 0 ss n) (drop (ranges_start 0 ss n) ranges)) t) o)
-        ≡ option_and_then (λ (s : StoredScope). f (call_site wide s.calls s.call_file s.call_line))
-        o
-    by_case None = refl
-    by_case (Some s) = same (take (s.ranges_end - ranges_start 0 ss n)
-        (drop (ranges_start 0 ss n) ranges)) s
+    → slice_get (scopes_from roots wide ranges 0 ss) n ≡ None
+scope-nowhere roots wide ranges ss n none =
+    scopes-at roots wide ranges 0 ss n ∙ ap (option_map (λ t. scope_of roots wide
+    (take (t.ranges_end - ranges_start 0 ss n) (drop (ranges_start 0 ss n) ranges)) t)) none

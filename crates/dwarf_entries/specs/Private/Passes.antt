@@ -1,25 +1,23 @@
 -- The results of the passes over all units, for their contracts.
-use Rattle.std.specs.Prelude.{◌≡◌, ◌⊎◌, ◌++◌, ◌+◌, ◌-◌, ℕ, List, length, Option, Some, None}
+use Rattle.std.specs.Prelude.{◌≡◌, ◌⊎◌, ◌+◌, ◌-◌, ℕ, List, length, Option, Some, None}
 use Rattle.std.specs.Prelude.{Result, Ok, Err, map, flat_map, slice_get, sum_by, count_by, zip}
 use Rattle.std.specs.Prelude.{take}
 use Rattle.dwarf_bytes.specs.declared.fault.Section.TheVariants as names
 use Rattle.dwarf_bytes.specs.declared.fault.LoadFault.{LoadFault}
 use Rattle.dwarf_bytes.specs.declared.format.Format.{Format}
-use Rattle.dwarf_bytes.specs.Bind.{◌>>=◌}
-use Rattle.dwarf_bytes.specs.Items.{At, with_offset, each, each_from}
+use Rattle.dwarf_bytes.specs.Items.{At, with_offset, each}
 use Rattle.dwarf_bytes.specs.Refusals.{memory_fault, in_section}
 use Rattle.dwarf_forms.specs.Declarations.{Declaration}
 use Rattle.dwarf_units.specs.declared.unit_headers.UnitHeader.{UnitHeader}
 use Rattle.dwarf_entries.specs.declared.bases.Bases.{Bases}
 use Rattle.dwarf_walk.specs.declared.unit_entries.RootEntry.{RootEntry}
-use Rattle.dwarf_entries.specs.declared.scope.Root.{Root}
 use Rattle.dwarf_entries.specs.declared.scope.ScopeFacts.{ScopeFacts}
 use Rattle.dwarf_entries.specs.declared.scope_lists.ScopeLists.{ScopeLists}
 use Rattle.dwarf_entries.specs.declared.origin_chains.EntryNames.{EntryNames}
 use Rattle.dwarf_entries.specs.declared.unit_scopes.ScopeNumbers.{ScopeNumbers}
 use Rattle.dwarf_walk.specs.Sections.{Sections}
 use Rattle.dwarf_entries.specs.Bases.{CompilationUnit, no_bases, bases_by, unit_of, with_bases}
-use Rattle.dwarf_entries.specs.Scopes.{ParsedScope, ScopeSite, Scope, items_limit, sites_in}
+use Rattle.dwarf_entries.specs.Scopes.{ParsedScope, ScopeSite, items_limit, sites_in}
 use Rattle.dwarf_entries.specs.Scopes.{roots_from, stmt_list_by_number, scopes_of, scope_at}
 use Rattle.dwarf_entries.specs.Scopes.{stmt_list_of}
 use Rattle.dwarf_walk.specs.declared.unit_entries.ScopeEntry.{ScopeEntry}
