@@ -61,9 +61,6 @@ chain_within (suc remaining) units m = elim (next_of (m.die)) [
       >>= λ next. chain_within remaining units next >>= λ rest. Ok (m ∷ rest)
 ]
 
-abbrev pub path_of : List CompilationUnit → Member → Result (List Member) Cause
-path_of = chain_within references_limit
-
 -- The location of the string at an offset of a section, if a NUL follows.
 abbrev pub text_in : Section → List ℕ → ℕ → Result TextOffset Cause
 text_in name section offset =
@@ -95,10 +92,14 @@ abbrev pub name_on : ℕ → Sections → List Member → Result (Option TextOff
 name_on name s path =
     optional (λ found. text_of s found.0.bases.str_offsets found.1) (first_on name path)
 
--- The names of an entry: for each of the two attributes, the first one on its origin chain.
-abbrev pub names_of : Sections → List CompilationUnit → Member → Result EntryNames Cause
-names_of s units m = do
-  path ← path_of units m
+-- The names of an entry whose origin chain may follow at most `remaining` references: for each of
+-- the two attributes, the first one on the chain.
+abbrev pub names_within : ℕ → Sections → List CompilationUnit → Member → Result EntryNames Cause
+names_within remaining s units m = do
+  path ← chain_within remaining units m
   name ← name_on DW_AT_NAME s path
   linkage_name ← name_on DW_AT_LINKAGE_NAME s path
   Ok (record { name = name; linkage_name = linkage_name })
+
+abbrev pub names_of : Sections → List CompilationUnit → Member → Result EntryNames Cause
+names_of = names_within references_limit

@@ -29,7 +29,7 @@ use Rattle.dwarf_walk.specs.Sections.{Sections}
 use Rattle.dwarf_walk.specs.ScopeEntries.{kind_of, is_scope, number_of}
 use Rattle.dwarf_entries.specs.Bases.{CompilationUnit, units_read}
 use Rattle.dwarf_entries.specs.Names.{Member, names_of}
-use Rattle.dwarf_entries.specs.Ranges.{covers_of}
+use Rattle.dwarf_entries.specs.Ranges.{Covering, covers_of}
 
 -- The data of a scope. `end` is the number of the first later scope that is not below it.
 pub record Scope : Type 0 where
@@ -175,28 +175,38 @@ pub record ParsedScope : Type 0 where
   pub scope : Scope
   pub items : ℕ
 
+-- The scope of a site, given the scopes before it, its names and its ranges.
+abbrev pub scope_of_site : List ParsedScope → ScopeSite → EntryNames → Covering → ParsedScope
+scope_of_site before p names covering =
+    let die = p.member.die in
+    record {
+      items = covering.items;
+      scope = record {
+        kind = p.kind;
+        offset = die.offset;
+        number = length before;
+        end = length before + 1 + p.inside;
+        ranges = covering.ranges;
+        name = names.name;
+        linkage_name = names.linkage_name;
+        stmt_list = stmt_list_of p.member.unit.dies;
+        call_file = number_of DW_AT_CALL_FILE die;
+        call_line = number_of DW_AT_CALL_LINE die;
+      };
+    }
+
+-- The ranges of a site, after the scopes before it.
+abbrev pub covers_there : Sections → List ParsedScope → ScopeSite → Result Covering Cause
+covers_there sections before p = covers_of (items_limit - sum_by (λ s. s.items) before) sections
+    p.member.unit.bases p.member.die
+
 -- The scope of a site, given the scopes before it: its names, then its ranges.
 abbrev pub scope_by : Result EntryNames Cause → Sections → List ParsedScope → ScopeSite
     → Result ParsedScope Cause
 scope_by found sections before p = do
   names ← found
-  let die = p.member.die
-  covering ← covers_of (items_limit - sum_by (λ s. s.items) before) sections p.member.unit.bases die
-  Ok (record {
-    items = covering.items;
-    scope = record {
-      kind = p.kind;
-      offset = die.offset;
-      number = length before;
-      end = length before + 1 + p.inside;
-      ranges = covering.ranges;
-      name = names.name;
-      linkage_name = names.linkage_name;
-      stmt_list = stmt_list_of p.member.unit.dies;
-      call_file = number_of DW_AT_CALL_FILE die;
-      call_line = number_of DW_AT_CALL_LINE die;
-    };
-  })
+  covering ← covers_there sections before p
+  Ok (scope_of_site before p names covering)
 
 abbrev pub scope_at : Sections → List CompilationUnit → List ParsedScope → ScopeSite
     → Result ParsedScope Cause

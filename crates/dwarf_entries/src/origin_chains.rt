@@ -4,8 +4,7 @@ ghost use Rattle.std.specs.Prelude.{◌≡◌, ◌++◌, ◌∷◌, [], ℕ, Lis
 ghost use Rattle.std.specs.Option.{option_or};
 ghost use Rattle.dwarf_bytes.specs.Refusals.{Gives};
 ghost use Rattle.dwarf_entries.specs.Bases.{CompilationUnit};
-ghost use Rattle.dwarf_entries.specs.Names.{Member, chain_within, first_on, name_on};
-ghost use Rattle.dwarf_entries.specs.Private.NameCache.{names_within};
+ghost use Rattle.dwarf_entries.specs.Names.{Member, chain_within, first_on, name_on, names_within};
 ghost use Rattle.dwarf_entries.specs.Private.Members.{IsMember, IsPlaceOf, IsRereadOf};
 ghost use Rattle.dwarf_entries.specs.Private.Members.{IsFirst, AreFirst, FindsFirst};
 

@@ -13,9 +13,9 @@ use Rattle.dwarf_entries.specs.declared.origin_chains.EntryNames.{EntryNames}
 use Rattle.dwarf_walk.specs.Sections.{Sections}
 use Rattle.dwarf_entries.specs.Bases.{CompilationUnit, optional}
 use Rattle.dwarf_entries.specs.Names.{Member, chain_within, name_on, target_of, first_on, text_of}
-use Rattle.dwarf_entries.specs.Names.{names_of, references_limit}
-use Rattle.dwarf_entries.specs.Private.NameCache.{names_within, CachedNames, slot_of, slot_at}
-use Rattle.dwarf_entries.specs.Private.NameCache.{second_names, target_names, IsCacheOf}
+use Rattle.dwarf_entries.specs.Names.{names_of, names_within, references_limit}
+use Rattle.dwarf_entries.specs.Private.NameCache.{CachedNames, slot_of, slot_at, second_names}
+use Rattle.dwarf_entries.specs.Private.NameCache.{target_names, IsCacheOf}
 use Rattle.dwarf_entries.specs.Private.Members.{AreFirst, FindsFirst, IsMember, LeadsTo, member_in}
 use Rattle.std.proofs.lemmas.Option.{same_Some}
 use Rattle.dwarf_units.specs.declared.attributes.AttributeValue.{AttributeValue}

@@ -25,8 +25,8 @@ use Rattle.dwarf_entries.specs.declared.origin_chains.EntryNames.{EntryNames}
 use Rattle.dwarf_entries.specs.declared.text_offset.TextOffset.{TextOffset}
 use Rattle.dwarf_walk.specs.Sections.{Sections}
 use Rattle.dwarf_entries.specs.Bases.{CompilationUnit, item_at, optional}
-use Rattle.dwarf_entries.specs.Names.{Member, path_of, text_in, text_of, first_on, name_on}
-use Rattle.dwarf_entries.specs.Names.{names_of}
+use Rattle.dwarf_entries.specs.Names.{Member, chain_within, text_in, text_of, first_on, name_on}
+use Rattle.dwarf_entries.specs.Names.{names_of, references_limit}
 use Rattle.dwarf_entries.specs.Scopes.{Scope, Tree, ParsedScope, tree_of}
 use Rattle.dwarf_entries.specs.TreeLaws.{section_bytes, IsTextAt, IsTextOf}
 use Rattle.dwarf_entries.proofs.Results.TreeParts.{after-tree, scope-at, all-are}
@@ -116,7 +116,7 @@ AreTexts s found = IfSome found.name (IsTextOf s) × IfSome found.linkage_name (
 names-are_texts : (s : Sections) (units : List CompilationUnit) (m : Member) (found : EntryNames)
     → names_of s units m ≡ Ok found → AreTexts s found
 names-are_texts s units m found h =
-    after-bind (path_of units m) _ found h (AreTexts s found) (λ path _ h1.
+    after-bind (chain_within references_limit units m) _ found h (AreTexts s found) (λ path _ h1.
     after-bind (name_on DW_AT_NAME s path) _ found h1 (AreTexts s found) (λ name name_is h2.
     after-bind (name_on DW_AT_LINKAGE_NAME s path) _ found h2 (AreTexts s found)
     (λ linkage_name linkage_is last.
@@ -128,17 +128,9 @@ names-are_texts s units m found h =
 abbrev HasTexts : Sections → Scope → Type 0
 HasTexts s scope = IfSome scope.name (IsTextOf s) × IfSome scope.linkage_name (IsTextOf s)
 
-all-strings : (s : Sections) (tree : Tree) → tree_of s ≡ Ok tree → All (HasTexts s) tree.scopes
+pub all-strings : (s : Sections) (tree : Tree) → tree_of s ≡ Ok tree → All (HasTexts s) tree.scopes
 all-strings s tree h = after-tree s tree h (λ tree. All (HasTexts s) tree.scopes)
     (λ us parsed us_are parsed_are. all-are (HasTexts s) parsed (λ n j there.
     let at = scope-at s us parsed parsed_are n j there in
     subst (λ (x : ParsedScope). HasTexts s x.scope) at.is
     (names-are_texts s us at.site.member at.found at.found_are)))
-
-pub names-are-strings : (s : Sections) (tree : Tree) → tree_of s ≡ Ok tree
-    → All (λ (scope : Scope). IfSome scope.name (IsTextOf s)) tree.scopes
-names-are-strings s tree h k d lt = (all-strings s tree h k d lt).0
-
-pub linkage-names-are-strings : (s : Sections) (tree : Tree) → tree_of s ≡ Ok tree
-    → All (λ (scope : Scope). IfSome scope.linkage_name (IsTextOf s)) tree.scopes
-linkage-names-are-strings s tree h k d lt = (all-strings s tree h k d lt).1

@@ -20,9 +20,8 @@ use Rattle.dwarf_entries.specs.Bases.{CompilationUnit, units_read}
 use Rattle.dwarf_entries.specs.Names.{names_of}
 use Rattle.dwarf_entries.specs.Ranges.{Covering}
 use Rattle.dwarf_entries.specs.Scopes.{Tree, Scope, ScopeSite, ParsedScope, scope_at, tree_of}
-use Rattle.dwarf_entries.specs.Scopes.{roots_from}
+use Rattle.dwarf_entries.specs.Scopes.{scope_of_site, covers_there, roots_from}
 use Rattle.dwarf_entries.specs.Private.Passes.{parse_scope, all_sites, all_scopes}
-use Rattle.dwarf_entries.proofs.ScopePasses.ScopeLaws.{scope_of_site, covers_there}
 use Rattle.dwarf_entries.proofs.ScopePasses.SiteLaws.{IsSiteAt, site-at}
 use Rattle.dwarf_entries.proofs.UnitPasses.PassLaws.{Faults, element, each-at}
 

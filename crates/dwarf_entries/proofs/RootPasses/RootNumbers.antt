@@ -1,6 +1,6 @@
 -- The stmt_list of a unit, found by the number of one of its scopes.
 use Rattle.std.proofs.Common.{◌≡◌, ℕ, zero, suc, ◌+◌, ◌<◌, ◌≤◌, List, [], ◌∷◌, length, take, get_or}
-use Rattle.std.proofs.Common.{Bool, cond, refl, ap, ◌∙◌, arith}
+use Rattle.std.proofs.Common.{refl, ap, ◌∙◌, arith}
 use Rattle.std.specs.Prelude.{Option, Some, None, slice_get, option_and_then, count_by, nat_lt}
 use Rattle.std.specs.List.{find}
 use Rattle.std.specs.List.Sorted.{IsNonDecreasingBy, IsPartitionPoint}
@@ -8,11 +8,10 @@ use Rattle.std.proofs.lemmas.Bool.{lt-ltb, le-ltb}
 use Rattle.std.proofs.lemmas.List.Folds.{find_at}
 use Rattle.std.proofs.lemmas.List.Sums.{position_or_len_is, sum_by-cons}
 use Rattle.std.proofs.lemmas.Option.{same_Some}
-use Rattle.dwarf_bytes.specs.declared.constants.TheConstants.{DW_AT_STMT_LIST}
 use Rattle.dwarf_entries.specs.declared.scope.Root.{Root}
 use Rattle.dwarf_units.specs.Entries.{Die}
 use Rattle.dwarf_entries.specs.Bases.{CompilationUnit}
-use Rattle.dwarf_walk.specs.ScopeEntries.{is_scope, number_of}
+use Rattle.dwarf_walk.specs.ScopeEntries.{is_scope}
 use Rattle.dwarf_entries.specs.Scopes.{stmt_list_of, stmt_list_by_number, root_of, roots_from}
 use Rattle.dwarf_entries.specs.Private.Passes.{first_number}
 
@@ -42,32 +41,12 @@ by_search list roots number index found same rise search there =
     (rw same at search) rise in
     ap (λ (o : Option Root). option_and_then (λ (r : Root). r.stmt_list) o) (at ∙ there)
 
-by_first : (root : Root) (roots : List Root) (number : ℕ) → number < root.past
-    → stmt_list_by_number (root ∷ roots) number ≡ root.stmt_list
-by_first root roots number inside =
-    ap (λ (b : Bool). option_and_then (λ (r : Root). r.stmt_list)
-    (cond b (Some root) (find (λ (r : Root). nat_lt number r.past) roots)))
-    (lt-ltb number root.past inside)
-
-by_later : (root : Root) (roots : List Root) (number : ℕ) → root.past ≤ number
-    → stmt_list_by_number (root ∷ roots) number ≡ stmt_list_by_number roots number
-by_later root roots number past =
-    ap (λ (b : Bool). option_and_then (λ (r : Root). r.stmt_list)
-    (cond b (Some root) (find (λ (r : Root). nat_lt number r.past) roots)))
-    (le-ltb number root.past past)
-
 -- The root of a unit before the scope is passed over.
 by_later_unit : (first past : ℕ) (dies : List Die) (roots : List Root) (number : ℕ) → past ≤ number
     → stmt_list_by_number (root_of first past dies roots) number
     ≡ stmt_list_by_number roots number
 by_later_unit first past [] roots number before = refl
-by_later_unit first past (die ∷ dies) roots number before =
-    by_later (record {
-      offset = die.offset;
-      stmt_list = number_of DW_AT_STMT_LIST die;
-      first = first;
-      past = past;
-    }) roots number before
+by_later_unit first past (die ∷ dies) roots number before = rw (le-ltb number past before) refl
 
 -- A unit with scopes has a root, which has its stmt_list.
 by_unit : (first past : ℕ) (dies : List Die) (roots : List Root) (number : ℕ) → first ≤ number
@@ -76,12 +55,7 @@ by_unit : (first past : ℕ) (dies : List Die) (roots : List Root) (number : ℕ
 by_unit first past [] roots number after inside past_is =
     absurd (omega (arith, after, inside, past_is))
 by_unit first past (die ∷ dies) roots number after inside past_is =
-    by_first (record {
-      offset = die.offset;
-      stmt_list = number_of DW_AT_STMT_LIST die;
-      first = first;
-      past = past;
-    }) roots number inside
+    rw (lt-ltb number past inside) refl
 
 -- ---- the scopes of the units before
 

@@ -2,7 +2,7 @@
 use Rattle.std.proofs.Common.{◌≡◌, ℕ, zero, suc, ◌+◌, List, [], ◌∷◌, map, refl, ap, sym, ◌∙◌, arith}
 use Rattle.std.specs.Prelude.{Option, Some, None, length, slice_get, option_map}
 use Rattle.std.specs.Option.{option_map_or, option_and_then}
-use Rattle.std.proofs.lemmas.Option.{slice_get-map}
+use Rattle.std.proofs.lemmas.Option.{slice_get-map, same_Some}
 use Rattle.dwarf_entries.specs.declared.calls.CallSite.{CallSite}
 use Rattle.dwarf_entries.specs.declared.scope.Range.{Range}
 use Rattle.dwarf_entries.specs.declared.scope.Root.{Root}
@@ -21,11 +21,7 @@ number-at : (first total i : ℕ) (ss : List Scope) (s : Scope) → AreNumbered 
     → slice_get ss i ≡ Some s → s.number ≡ first + i
 number-at first total i [] s are found = cc
 number-at first total zero (t ∷ ss) s are found =
-    let same : t ≡ s = some-same found in
-    ap (λ (x : Scope). x.number) (sym same) ∙ (are.0 ∙ omega arith)
-  where
-    some-same : {x y : Scope} → (let f : Scope → Option Scope = λ z. Some z in f x ≡ f y) → x ≡ y
-    some-same h = cc
+    ap (λ (x : Scope). x.number) (sym (same_Some t s found)) ∙ (are.0 ∙ omega arith)
 number-at first total (suc i) (t ∷ ss) s are found = number-at (suc first) total i ss s are.3 found
     ∙ omega arith
 
@@ -33,10 +29,7 @@ number-at first total (suc i) (t ∷ ss) s are found = number-at (suc first) tot
 own-found : (o : Option Scope) (k : StoredScope) → option_map own o ≡ Some (own_of k)
     → (s : Scope) × (o ≡ Some s) × (own_of k ≡ own s)
 own-found None k h = cc
-own-found (Some s) k h = (s, refl, sym (some-same h))
-  where
-    some-same : {x y : Own} → (let f : Own → Option Own = λ z. Some z in f x ≡ f y) → x ≡ y
-    some-same h = cc
+own-found (Some s) k h = (s, refl, sym (same_Some (own s) (own_of k) h))
 
 pub data-of : (scopes : List Scope) (stored : List StoredScope) (place : ℕ) (k : StoredScope)
     → AreInOrder scopes

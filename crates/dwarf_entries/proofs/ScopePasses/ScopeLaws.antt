@@ -1,14 +1,12 @@
 -- The scope of an entry, from the data stored for its unit.
-use Rattle.std.proofs.Common.{◌≡◌, ℕ, ◌+◌, ◌-◌, List, length, map, get_or, refl, ap, sym, ◌∙◌}
+use Rattle.std.proofs.Common.{◌≡◌, ℕ, ◌+◌, List, length, map, get_or, refl, ap, sym, ◌∙◌}
 use Rattle.std.proofs.Common.{subst, arith}
-use Rattle.std.specs.Prelude.{Result, Ok, Some, option_map, slice_get, sum_by}
+use Rattle.std.specs.Prelude.{Result, Ok, Some, option_map, slice_get}
 use Rattle.std.proofs.lemmas.Option.{get_or_from_slice_get, slice_get-map}
-use Rattle.dwarf_bytes.specs.declared.constants.TheConstants.{DW_AT_CALL_FILE, DW_AT_CALL_LINE}
 use Rattle.dwarf_bytes.specs.declared.fault.Cause.{Cause}
 use Rattle.dwarf_bytes.specs.Bind.{◌>>=◌}
 use Rattle.dwarf_bytes.specs.Refusals.{Fails}
 use Rattle.dwarf_walk.specs.declared.unit_entries.ScopeEntry.{ScopeEntry}
-use Rattle.dwarf_walk.specs.ScopeEntries.{number_of}
 use Rattle.dwarf_walk.specs.Sections.{Sections}
 use Rattle.dwarf_entries.specs.declared.bases.Bases.{Bases}
 use Rattle.dwarf_entries.specs.declared.origin_chains.EntryNames.{EntryNames}
@@ -17,37 +15,12 @@ use Rattle.dwarf_entries.specs.declared.unit_scopes.ScopeNumbers.{ScopeNumbers}
 use Rattle.dwarf_entries.specs.Bases.{CompilationUnit}
 use Rattle.dwarf_entries.specs.Names.{names_of}
 use Rattle.dwarf_entries.specs.Ranges.{Covering, covers_by, covers_of}
-use Rattle.dwarf_entries.specs.Scopes.{ParsedScope, ScopeSite, scope_by, scope_at, items_limit}
-use Rattle.dwarf_entries.specs.Scopes.{stmt_list_of, roots_from}
+use Rattle.dwarf_entries.specs.Scopes.{ParsedScope, ScopeSite, scope_by, scope_at, scope_of_site}
+use Rattle.dwarf_entries.specs.Scopes.{covers_there, roots_from}
 use Rattle.dwarf_entries.specs.Private.Members.{IsMember}
 use Rattle.dwarf_entries.specs.Private.Passes.{IsScopeSite, scope_facts, bases_of}
 use Rattle.dwarf_entries.specs.Private.Shared.{AddsRanges, AddsFacts}
 use Rattle.dwarf_entries.proofs.UnitPasses.PassLaws.{first-fails}
-
--- The scope of a site, given its names and ranges.
-abbrev pub scope_of_site : List ParsedScope → ScopeSite → EntryNames → Covering → ParsedScope
-scope_of_site before p names covering =
-    let die = p.member.die in
-    record {
-      items = covering.items;
-      scope = record {
-        kind = p.kind;
-        offset = die.offset;
-        number = length before;
-        end = length before + 1 + p.inside;
-        ranges = covering.ranges;
-        name = names.name;
-        linkage_name = names.linkage_name;
-        stmt_list = stmt_list_of p.member.unit.dies;
-        call_file = number_of DW_AT_CALL_FILE die;
-        call_line = number_of DW_AT_CALL_LINE die;
-      };
-    }
-
--- The ranges of a site, after the scopes before it.
-abbrev pub covers_there : Sections → List ParsedScope → ScopeSite → Result Covering Cause
-covers_there s before p = covers_of (items_limit - sum_by (λ s. s.items) before) s
-    p.member.unit.bases p.member.die
 
 -- The bases of a unit.
 pub bases-there : (bases : List Bases) (us : List CompilationUnit) → bases ≡ map bases_of us

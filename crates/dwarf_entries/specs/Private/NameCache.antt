@@ -1,6 +1,5 @@
 -- The cache of the names of reference targets, for the contracts of the pass over scopes.
 use Rattle.std.specs.Prelude.{◌≡◌, ℕ, ◌%◌, List, Option, Some, None, option_map, Result, Ok, get_or}
-use Rattle.dwarf_bytes.specs.declared.constants.TheConstants.{DW_AT_LINKAGE_NAME, DW_AT_NAME}
 use Rattle.dwarf_bytes.specs.declared.fault.Cause.{Cause}
 use Rattle.dwarf_bytes.specs.Bind.{◌>>=◌}
 use Rattle.dwarf_units.specs.declared.attributes.AttributeValue.{AttributeValue}
@@ -10,7 +9,7 @@ use Rattle.dwarf_entries.specs.declared.origin_chains.EntryNames.{EntryNames}
 use Rattle.dwarf_entries.specs.declared.references.UnitPlace.{UnitPlace}
 use Rattle.dwarf_walk.specs.Sections.{Sections}
 use Rattle.dwarf_entries.specs.Bases.{CompilationUnit}
-use Rattle.dwarf_entries.specs.Names.{Member, target_of, chain_within, name_on}
+use Rattle.dwarf_entries.specs.Names.{Member, target_of, names_within}
 use Rattle.dwarf_entries.specs.Scopes.{text_by}
 use Rattle.dwarf_entries.specs.Private.Members.{member_in}
 
@@ -36,14 +35,6 @@ cached_names_of packed = record {
 -- The contents of a slot.
 abbrev pub slot_at : NameCache → ℕ → Option CachedNames
 slot_at cache slot = option_map cached_names_of (get_or cache.slots.items slot None)
-
--- The names of an entry whose origin chain may follow at most `remaining` references.
-abbrev pub names_within : ℕ → Sections → List CompilationUnit → Member → Result EntryNames Cause
-names_within remaining s units m = do
-  path ← chain_within remaining units m
-  name ← name_on DW_AT_NAME s path
-  linkage_name ← name_on DW_AT_LINKAGE_NAME s path
-  Ok (record { name = name; linkage_name = linkage_name })
 
 -- The names of an entry that is the second one of an origin chain.
 abbrev pub second_names : Sections → List CompilationUnit → Member → Result EntryNames Cause
