@@ -97,6 +97,7 @@ fn live_range_from_base(base: u64, start: u64, end: u64) -> Result<Option<Range>
 }
 
 /// Reads an operand at the cursor. The value of an index is the address at the index.
+#[inline(always)]
 fn operand_value(
     operand: Operand,
     sections: &Sections<'_>,
