@@ -4,6 +4,6 @@ pub mod CoveredScopes
 pub mod EntryScopes
 pub mod OffsetLaws
 pub mod RootScopes
-pub mod ScopeOrder
+pub mod ScopePlaces
 pub mod SiteOrder
 pub mod TreeParts

@@ -1,4 +1,4 @@
-use Rattle.dwarf_entries.proofs.Results.ScopeOrder.{scopes-in-order}
+use Rattle.dwarf_entries.proofs.Results.ScopePlaces.{scopes-in-order}
 use Rattle.dwarf_entries.proofs.laws.scopes_are_in_order.Goals as goal
 
 pub returns : goal.returns
