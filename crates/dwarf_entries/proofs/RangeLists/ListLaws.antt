@@ -25,8 +25,8 @@ base_after-push : (base : Option ℕ) (before : List RangeListEntry) (x : RangeL
 base_after-push base [] x = refl
 base_after-push base (first ∷ before) x = base_after-push (next_base first base) before x
 
--- The loop invariant: the count and the base of the loop match the entries before the cursor, and the
--- ranges of these entries are appended to the earlier ones.
+-- The loop invariant: the count and the base of the loop match the entries before the cursor, and
+-- the ranges of these entries are appended to the earlier ones.
 pub record ListSoFar (budget : ℕ) (sections : Sections) (bases : Bases) (first : ℕ)
     (known : List Range) (at : Position) (count : ℕ) (base : Option ℕ) (ranges : List Range)
     : Type 0 where

@@ -36,7 +36,8 @@ scopes-hold s tree h = after-tree s tree h (λ tree.
     (λ us parsed us_are parsed_are. all-are (λ (scope : Scope). AllHold scope.ranges) parsed
     (λ n j there. (fits-at s us parsed parsed_are n j there).hold))
 
--- The scopes before a number have at most as many ranges as range items, which are within the limit.
+-- The scopes before a number have at most as many ranges as range items, which are within the
+-- limit.
 limited : (s : Sections) (us : List CompilationUnit) (parsed : List ParsedScope)
     → all_scopes s us ≡ Ok parsed → (n : ℕ) → n ≤ length parsed
     → (sum_by (λ j. length j.scope.ranges) (take n parsed) ≤ sum_by (λ j. j.items) (take n parsed))

@@ -121,7 +121,8 @@ roots-from-rise s from number (u ∷ us) are starts =
           first = number;
           past = past;
         } in (
-          All-cons (Within from (length s.debug_info)) root (roots_from past us) (omega (arith, start, first), omega (arith, fits, within))
+          All-cons (Within from (length s.debug_info)) root (roots_from past us)
+              (omega (arith, start, first), omega (arith, fits, within))
               (lower (omega (arith, start, first, fits)) past rest.0),
           AllPairs-cons (λ (a b : Root). a.offset < b.offset) root (roots_from past us)
               (All-weaker (Within u.header.end (length s.debug_info))

@@ -58,7 +58,8 @@ record IsRootOf (us : List CompilationUnit) (number : ℕ) (root : Root) : Type 
   pub first_is : root.first ≡ number + first_number us unit
   pub past_is : root.past ≡ root.first + count_by is_scope of.dies
 
-roots-of : (number : ℕ) (us : List CompilationUnit) → All (IsRootOf us number) (roots_from number us)
+roots-of : (number : ℕ) (us : List CompilationUnit)
+    → All (IsRootOf us number) (roots_from number us)
 roots-of number [] = All-nil (IsRootOf [] number)
 roots-of number (u ∷ us) =
     let past : ℕ = number + count_by is_scope u.dies in

@@ -61,7 +61,8 @@ module _ {us : List CompilationUnit} {index : ℕ} {unit : UnitEntries}
   past-is =
       let count = sites-stored unit here.unit here.stored in
       let next = first-next us index here.unit here.is in
-      let fits = sum_by-take-le (λ (u : CompilationUnit). count_by is_scope u.dies) us (index + 1) in
+      let fits = sum_by-take-le (λ (u : CompilationUnit). count_by is_scope u.dies) us (index + 1)
+      in
       let sites = sites-count here.unit here.unit.dies in
       let e : past ≡ first_number us (index + 1) =
       omega (arith, past_is, first_is, next, count, sites, unit.scopes.ok.0) in

@@ -26,7 +26,8 @@ pub seen-units : {v w : ObjectUnits} {units : List UnitEntries} {bitmap : EntryB
     {slice : List UnitEntries} → AreUnitsOf v units bitmap bases strings reader cache → v ≡ w
     → slice ≡ units → AreStored slice w.units
 seen-units {w = w} are same slice_is =
-    subst (λ (us : List UnitEntries). AreStored us w.units) (sym slice_is) (seen are same).stored_are
+    subst (λ (us : List UnitEntries). AreStored us w.units) (sym slice_is)
+    (seen are same).stored_are
 
 -- ---- the parts that change
 

@@ -32,7 +32,8 @@ drop-at {X} (y ∷ ys) zero x h = ap (λ (z : X). z ∷ ys) (same_Some y x h)
 drop-at (y ∷ ys) (suc n) x h = drop-at ys n x h
 
 -- An element of a mapped list.
-pub from-map : {X Y : Type 0} (f : X → Y) (xs : List X) (i : ℕ) (y : Y) → slice_get (map f xs) i ≡ Some y
+pub from-map : {X Y : Type 0} (f : X → Y) (xs : List X) (i : ℕ) (y : Y)
+    → slice_get (map f xs) i ≡ Some y
     → (x : X) × (slice_get xs i ≡ Some x) × (f x ≡ y)
 from-map f [] i y h = cc
 from-map f (x ∷ xs) zero y h = (x, refl, same_Some (f x) y h)

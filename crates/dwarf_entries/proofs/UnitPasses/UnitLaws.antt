@@ -83,7 +83,8 @@ module _ (s : Sections) (headers : List UnitHeader) (tables : List (List Declara
         let at = zip-at headers tables i from.0 from.1 in
         let within = slice_get_within headers i header at.0 in
         let header_at = get_or_from_slice_get headers i header header at.0 in
-        let read : declarations_of declarations_limit s.debug_abbrev header.abbreviations ≡ Ok table =
+        let read : declarations_of declarations_limit s.debug_abbrev header.abbreviations
+        ≡ Ok table =
         subst (λ (h : UnitHeader). declarations_of declarations_limit s.debug_abbrev h.abbreviations
         ≡ Ok table) header_at (table_is s.debug_abbrev headers tables i header tables_are within
         ∙ ap (λ (t : List Declaration). Ok t) (get_or_from_slice_get tables i table [] at.1)) in

@@ -13,7 +13,8 @@ pub returns-in_err-number-clause-units : goal.returns-in_err-number-clause-units
 returns-in_err-number-clause-units c tables all =
     let p = err_from_is_err_and c.from_residual.result c.from_residual.ensures.1 in
     rw (p.1, p.2) (inl (entries-table-fault (c.loop-header.invariant.so_far tables all) _ all _
-    c.loop-header-test.true c.in_err-number.field-0.0 (rw c.loop-header.invariant.section at c.in_err-number.ensures.err)))
+    c.loop-header-test.true c.in_err-number.field-0.0
+    (rw c.loop-header.invariant.section at c.in_err-number.ensures.err)))
 
 pub table-table-requires : goal.table-table-requires
 table-table-requires c = slice_get_within c.number_of.new.self.tables c.in_ok-number.number
@@ -44,5 +45,8 @@ loop-header-preserved c =
 
 pub returns-clause-units : goal.returns-clause-units
 returns-clause-units c tables all =
-    let so_far = c.loop-header.invariant.so_far tables all in
-    (so_far.made, entries-end so_far c.loop-header-test.false, (so_far.stored_are, so_far.marked_so))
+    let so_far = c.loop-header.invariant.so_far tables all in (
+      so_far.made,
+      entries-end so_far c.loop-header-test.false,
+      (so_far.stored_are, so_far.marked_so),
+    )

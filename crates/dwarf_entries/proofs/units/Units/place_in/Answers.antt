@@ -30,5 +30,5 @@ returns-clause-within c =
     let k = c.in_ok-stored.stored.now in
     let place = c.in_ok-offset.ensures in
     within-stored (object-units _ _ c.self.view_is) c.deref.result.now are c.args.unit
-    c.in_ok-offset.offset k (found-at _ _ c.args.unit k refl c.in_ok-stored.ensures.lookup.3) place.1
-    place.2
+    c.in_ok-offset.offset k
+    (found-at _ _ c.args.unit k refl c.in_ok-stored.ensures.lookup.3) place.1 place.2

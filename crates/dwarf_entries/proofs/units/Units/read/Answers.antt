@@ -30,9 +30,9 @@ returns-in_err-units-clause-units c =
     let p = err_from_is_err_and c.from_residual-in_err-units.result
     c.from_residual-in_err-units.ensures.1 in
     let tables = rw c.as_slice.ensures.value at c.in_ok-tables.ensures.ok in
-    rw (p.1, p.2) (entries-fault (sections_of c.args.sections.now) _ c.in_ok-headers.ensures tables.0
-    tables.1 _ ((rw c.as_slice-headers.ensures.value at c.in_err-units.ensures.units) tables.0
-    (in_section-ok names.DebugAbbrev _ tables.0 tables.1)))
+    rw (p.1, p.2) (entries-fault (sections_of c.args.sections.now) _ c.in_ok-headers.ensures
+    tables.0 tables.1 _ ((rw c.as_slice-headers.ensures.value at c.in_err-units.ensures.units)
+    tables.0 (in_section-ok names.DebugAbbrev _ tables.0 tables.1)))
 
 pub returns-in_err-bases-clause-units : goal.returns-in_err-bases-clause-units
 returns-in_err-bases-clause-units c =
@@ -53,7 +53,8 @@ invariant_of-result c =
     (in_section-ok names.DebugAbbrev _ tables.0 tables.1) in
     let all = (rw c.as_slice-2.ensures.value at c.in_ok-bases.ensures) units.0 units.2.0 in
     let object : ObjectUnits = record { sections = s; units = all.0 } in
-    let read = units-are s _ c.in_ok-headers.ensures tables.0 tables.1 units.0 units.1 all.0 all.1 in
+    let read = units-are s _ c.in_ok-headers.ensures tables.0 tables.1 units.0 units.1 all.0 all.1
+    in
     seen {v = object} (record {
       stored_are = units.2.0 ∙ sym (bases-stay stored_unit s _ units.0 all.0 all.1);
       bitmap_is = all-marked c.in_ok-bitmap.bitmap c.all_entries.new.bitmap units.0 all.0
@@ -63,8 +64,8 @@ invariant_of-result c =
       strings_are = c.of.ensures;
       reader_is = c.new-2.ensures;
       cache_is = cache-none s all.0 c.new-3.result c.new-3.ensures;
-    }) (ap (λ (r : _). (let v : ObjectUnits = record { sections = s; units = units_or_none r } in v))
-    (sym read))
+    }) (ap (λ (r : _).
+    (let v : ObjectUnits = record { sections = s; units = units_or_none r } in v)) (sym read))
 
 pub returns-clause-units : goal.returns-clause-units
 returns-clause-units c =
@@ -73,5 +74,6 @@ returns-clause-units c =
     let units = (rw c.as_slice-headers.ensures.value at c.in_ok-units.ensures.units) tables.0
     (in_section-ok names.DebugAbbrev _ tables.0 tables.1) in
     let all = (rw c.as_slice-2.ensures.value at c.in_ok-bases.ensures) units.0 units.2.0 in
-    let read = units-are s _ c.in_ok-headers.ensures tables.0 tables.1 units.0 units.1 all.0 all.1 in
+    let read = units-are s _ c.in_ok-headers.ensures tables.0 tables.1 units.0 units.1 all.0 all.1
+    in
     read ∙ ap (λ (r : _). Ok (units_or_none r)) (sym read)

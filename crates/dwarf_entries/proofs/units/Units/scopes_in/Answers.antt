@@ -11,5 +11,5 @@ returns c u found =
     let same = (seen c.self.invariant c.self.view_is).stored_are in
     let k = c.index.result.now in
     c.len.ensures ∙ (k.scopes.ok.0 ∙ sites-stored k u (stored-index _ us c.args.unit k same
-    (stored-here _ us c.args.unit k same (slice_get_within us c.args.unit u found) c.index.ensures) u
-    found))
+    (stored-here _ us c.args.unit k same (slice_get_within us c.args.unit u found) c.index.ensures)
+    u found))
