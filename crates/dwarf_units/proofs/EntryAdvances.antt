@@ -66,7 +66,7 @@ attribute-stays format s bytes at x le h =
     ) x last) in
     (omega (arith, first.0, second.0, place), omega (arith, second.1, place))))))
 
-attributes-stay : (format : Format) (declared : List AttributeSpecification) (bytes : List ℕ)
+pub attributes-stay : (format : Format) (declared : List AttributeSpecification) (bytes : List ℕ)
     (at : ℕ) (x : List Attribute × ℕ) → at ≤ length bytes → attributes_at format declared bytes at
     ≡ Ok x → StaysWithin bytes at x.1
 unfolding attributes_at

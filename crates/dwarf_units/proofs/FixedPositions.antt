@@ -34,7 +34,7 @@ HasValue format s bytes first n m value = attribute_at format s bytes (first + n
   first + n + m,
 )
 
-block-there : (n : ℕ) (bytes : List ℕ) (at : ℕ) → at + n ≤ length bytes
+pub block-there : (n : ℕ) (bytes : List ℕ) (at : ℕ) → at + n ≤ length bytes
     → (block : List ℕ) × (block_at n bytes at ≡ Ok (block, at + n))
 block-there n bytes at le = by_read (block_at n bytes at) refl (block-fixed n bytes at)
   where
@@ -44,6 +44,10 @@ block-there n bytes at le = by_read (block_at n bytes at) refl (block-fixed n by
     by_read (Ok block) is fixed =
         (block.0, is ∙ ap (λ (k : ℕ). Ok (block.0, k)) fixed.1)
     by_read (Err e) is fixed = absurd (omega (arith, fixed.1, le))
+
+pub direct-value : (n : ℕ) (s : AttributeSpecification) (layout : ValueLayout)
+    → form_of s.form ≡ Some (Direct layout) → used_value n s ≡ At n layout
+direct-value n s layout is = rw (is, used_value) refl
 
 -- If the attribute is not truncated, it has the value at this position. Otherwise the read fails.
 pub record IsAt (format : Format) (s : AttributeSpecification) (bytes : List ℕ) (first n m : ℕ)

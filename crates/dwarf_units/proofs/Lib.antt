@@ -11,8 +11,9 @@ pub mod RereadLaws
 pub mod FixedValues
 pub mod FixedReads
 pub mod FixedPositions
-pub mod FixedPrefixes
-pub mod PrefixTurns
+pub mod RunParts
+pub mod RunReads
+pub mod RunTurns
 pub mod StoredReads
 pub mod EntryReads
 pub mod NodeShapes

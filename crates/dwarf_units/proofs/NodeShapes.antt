@@ -1,11 +1,11 @@
 -- The precomputed shapes of nodes, and the nodes that have them.
 use Rattle.std.proofs.Common.{◌≡◌, ℕ, ◌+◌, ◌<◌, ◌≤◌, ◌⊎◌, inl, inr, List, [], ◌∷◌, ◌++◌, Bool, true}
 use Rattle.std.proofs.Common.{false, cond, length, length-append, refl, ap, sym, ◌∙◌, subst, arith}
-use Rattle.std.proofs.Common.{append-nil}
-use Rattle.std.specs.Prelude.{IfSome, ◌&&◌, Option, Some, None, Ok, nat_lt, ◌==◌}
+use Rattle.std.specs.Prelude.{Option, Some, None, Result, Ok, Err, nat_lt, ◌==◌}
+use Rattle.dwarf_bytes.specs.declared.fault.Cause.{Cause}
 use Rattle.std.specs.Prelude.{drop, find, option_and_then, option_map, slice_get}
-use Rattle.std.proofs.lemmas.Bool.{le-ltb, leb-true, ltb-true, ne_eqb}
-use Rattle.std.proofs.lemmas.List.{drop_all, drop_more}
+use Rattle.std.proofs.lemmas.Bool.{le-ltb, ltb-true, ne_eqb}
+use Rattle.std.proofs.lemmas.List.{drop_more}
 use Rattle.std.proofs.lemmas.Option.{get_or_from_slice_get, option_and_then_some, same_Some}
 use Rattle.std.proofs.lemmas.Option.{slice_get_within}
 use Rattle.dwarf_bytes.specs.declared.format.Format.{Format}
@@ -16,8 +16,6 @@ use Rattle.dwarf_forms.specs.declared.memoized_lists.MemoizedAttribute.{Memoized
 use Rattle.dwarf_forms.specs.Declarations.{Declaration}
 use Rattle.dwarf_forms.specs.declared.attribute.AttributeSpecification.{AttributeSpecification}
 use Rattle.dwarf_forms.specs.declared.shared.TheConstants.{UNSHARED}
-use Rattle.dwarf_forms.specs.Private.Memoized.{rest_attributes}
-use Rattle.dwarf_forms.specs.Private.Shared.{IsShared}
 use Rattle.dwarf_units.specs.declared.attributes.Attribute.{Attribute}
 use Rattle.dwarf_forms.specs.Private.SharedTables.{AreShared, SharedDeclaration, full_declaration}
 use Rattle.dwarf_forms.specs.Private.SharedTables.{full_declarations}
@@ -28,11 +26,18 @@ use Rattle.dwarf_units.specs.Entries.{depth_limit}
 use Rattle.dwarf_units.specs.Private.NodeShapes.{AreShapes, IsFixedSizeNode, code_limit}
 use Rattle.dwarf_units.specs.Private.NodeShapes.{null_shape, shape_at, shape_count}
 use Rattle.dwarf_units.specs.Private.NodeShapes.{shape_of, shape_of_code}
-use Rattle.dwarf_units.specs.Private.FixedSizes.{has_fixed_size, prefix_of}
+use Rattle.dwarf_units.specs.Private.Runs.{Run, fixed_size, runs_at, runs_of, size_before}
+use Rattle.dwarf_units.specs.Private.StoredAttributes.{stored_attributes_at}
+use Rattle.dwarf_units.specs.declared.attribute_run.LastAttribute.{LastAttribute}
+use Rattle.dwarf_units.specs.declared.attribute_run.LastAttribute.TheVariants.{Absent, Unchecked}
+use Rattle.dwarf_units.specs.declared.attribute_run.LastAttribute.TheVariants.{Checked}
+use Rattle.dwarf_units.specs.declared.used_position.UsedPosition.{UsedPosition}
 use Rattle.dwarf_units.specs.Private.AbbreviationTables.{Table}
-use Rattle.dwarf_units.proofs.FixedPrefixes.{prefix-whole}
+use Rattle.dwarf_bytes.proofs.Numbers.Moves.{same-ok}
+use Rattle.dwarf_units.proofs.FixedPositions.{block-there}
+use Rattle.dwarf_units.proofs.RunReads.{runs-read}
 use Rattle.dwarf_units.proofs.SharedTableLaws.{found-full}
-use Rattle.dwarf_units.proofs.StoredReads.{with_front}
+use Rattle.dwarf_units.proofs.StoredReads.{stored_all}
 
 -- ---- the shapes by code
 
@@ -43,9 +48,6 @@ pub code-shape : (memoized : List MemoizedAttribute) (format : Format)
     ≡ option_and_then (shape_of format) (option_map (full_declaration memoized) found)
 code-shape memoized format ds code found some is =
     rw (some, found-full memoized code ds found is) refl
-
-pub shapes-none : (format : Format) (ds : List SharedDeclaration) → AreShapes format ds 0 []
-shapes-none format ds = record { len = refl; each = λ memoized are code shape at. cc }
 
 pub shapes-more : (format : Format) (ds : List SharedDeclaration) (code : ℕ)
     (shapes : List (Option NodeShape)) (shape : Option NodeShape) → AreShapes format ds code shapes
@@ -84,66 +86,52 @@ one-byte bytes at code there small = uleb-again bytes at code (at + 1) (record {
   next_is = refl;
 })
 
-test-is : {A : Type 0} (b : Bool) (a x : A) → cond b (Some a) None ≡ Some x → (b ≡ true) × (a ≡ x)
-test-is true a x h = (refl, same_Some a x h)
-test-is false a x h = cc
-
 test-some : {A : Type 0} (b : Bool) (o : Option A) (x : A) → cond b o None ≡ Some x
     → (b ≡ true) × (o ≡ Some x)
 test-some true o x h = (refl, h)
 test-some false o x h = cc
 
--- Attributes that all have a fixed size are read as a prefix after which nothing is left.
-fixed-there : (format : Format) (declared : List AttributeSpecification) (bytes : List ℕ) (at : ℕ)
-    → has_fixed_size format declared ≡ true
-    → at + (prefix_of format declared).len ≤ length bytes → (all : List Attribute)
-    × (attributes_at format declared bytes at ≡ Ok (all, at + (prefix_of format declared).len))
-unfolding attributes_at
-fixed-there format declared bytes at fixed le =
-    let here = (prefix-whole format declared).there bytes at le in
-    let first : at + 0 ≡ at = omega arith in
-    let none : drop (prefix_of format declared).count declared ≡ [] =
-    drop_all (prefix_of format declared).count declared (leb-true (length declared)
-    (prefix_of format declared).count (second (nat_lt (length declared) UNSHARED) _ fixed)) in
-    let read : attributes_at format declared bytes at ≡ (attributes_at format
-    (drop (prefix_of format declared).count declared) bytes (at + (prefix_of format declared).len)
-    >>= with_front here.0) = rw first at here.2 in (
-      here.0 ++ [],
-      read ∙ ap (λ (l : List AttributeSpecification). attributes_at format l bytes
-          (at + (prefix_of format declared).len) >>= with_front here.0) none,
-    )
-  where
-    second : (a b : Bool) → (a && b) ≡ true → b ≡ true
-    second true b is = is
-    second false b is = cc
+mapped-some : {A : Type 0} (f : ℕ → A) (o : Option ℕ) (x : A) → option_map f o ≡ Some x
+    → (n : ℕ) × (o ≡ Some n) × (f n ≡ x)
+mapped-some f None x h = cc
+mapped-some f (Some n) x h = (n, refl, same_Some (f n) x h)
 
--- Whether attributes have a fixed size depends on the unshared ones only.
-pub shape-own : (memoized : List MemoizedAttribute) (format : Format) (d : SharedDeclaration)
-    → IsShared memoized d.list → shape_of format (record {
-      code = d.code;
-      tag = d.tag;
-      children = d.children;
-      attributes = d.list.own;
-    }) ≡ shape_of format (full_declaration memoized d)
-shape-own memoized format d is = by_rest d.list.rest is.full
-  where
-    of_list : List AttributeSpecification → Declaration
-    of_list attributes =
-        record { code = d.code; tag = d.tag; children = d.children; attributes = attributes }
+same-end : (end last : ℕ) → (let none : List Attribute = [] in
+    let first : Result (List Attribute × ℕ) Cause = Ok (none, end) in first) ≡ Ok ([], last)
+    → end ≡ last
+same-end end last h = ap (λ (r : List Attribute × ℕ). r.1) (same-ok ([], end) ([], last) h)
 
-    by_rest : (rest : Option ℕ) → IfSome rest (λ _. length d.list.own ≡ UNSHARED)
-        → shape_of format (of_list d.list.own)
-        ≡ shape_of format (of_list (d.list.own ++ rest_attributes memoized rest))
-    by_rest None full = ap (λ (l : List AttributeSpecification). shape_of format (of_list l))
-        (sym (append-nil d.list.own))
-    by_rest (Some number) full =
-        let rest : List AttributeSpecification = rest_attributes memoized (Some number) in
-        let own : nat_lt (length d.list.own) UNSHARED ≡ false =
-        le-ltb (length d.list.own) UNSHARED (omega (arith, full)) in
-        let all : nat_lt (length (d.list.own ++ rest)) UNSHARED ≡ false =
-        le-ltb (length (d.list.own ++ rest)) UNSHARED
-        (omega (arith, full, length-append d.list.own rest)) in
-        rw (own, all) refl
+-- Attributes that all have a fixed size end after this size.
+fixed-there : (format : Format) (declared : List AttributeSpecification) (bytes : List ℕ)
+    (at size : ℕ) → fixed_size (runs_of format declared) ≡ Some size → at + size ≤ length bytes
+    → (all : List Attribute) × (attributes_at format declared bytes at ≡ Ok (all, at + size))
+fixed-there format declared bytes at size is le = by_runs (runs_of format declared) is
+    (runs-read false format declared bytes at (omega (arith, le)))
+  where
+    by_read : (end : ℕ) (r : Result (List Attribute × ℕ) Cause) → Ok ([], end) ≡ (r
+        >>= stored_all false) → end ≡ at + size → (all : List Attribute) × (r ≡ Ok (all, at + size))
+    by_read end (Ok all) read same =
+        (all.0, ap (λ (k : ℕ). Ok (all.0, k)) (sym (same-end end all.1 read) ∙ same))
+    by_read end (Err e) read same = cc
+
+    by_last : (n : ℕ) (used : List UsedPosition) (last : LastAttribute)
+        → size_before n last ≡ Some size
+        → runs_at false format (record { len = n; used = used; last = last } ∷ []) bytes at
+        ≡ stored_attributes_at false format declared bytes at
+        → (all : List Attribute) × (attributes_at format declared bytes at ≡ Ok (all, at + size))
+    by_last n used Absent is read =
+        let len : n ≡ size = same_Some n size is in
+        by_read (at + n) (attributes_at format declared bytes at)
+        (rw (block-there n bytes at (omega (arith, len, le))).1 at read) (omega (arith, len))
+    by_last n used (Unchecked layout) is read = cc
+    by_last n used (Checked s) is read = cc
+
+    by_runs : (runs : List Run) → fixed_size runs ≡ Some size → runs_at false format runs bytes at
+        ≡ stored_attributes_at false format declared bytes at
+        → (all : List Attribute) × (attributes_at format declared bytes at ≡ Ok (all, at + size))
+    by_runs [] is read = cc
+    by_runs (run ∷ []) is read = by_last run.len run.used run.last is read
+    by_runs (run ∷ next ∷ runs) is read = cc
 
 pub shape-there : (table : Table) (depth code : ℕ) (unit : List ℕ) (at : ℕ) (shape : NodeShape)
     → shape_at table code ≡ Some shape → slice_get unit at ≡ Some code → 0 < depth
@@ -168,13 +156,18 @@ shape-there table depth code unit at shape is there below within fits =
         → declaration_of table.declarations code ≡ Some d
         → shape_of table.format d ≡ Some shape → IsThere shape
     by_found some d found h =
-        let fixed = test-is (has_fixed_size table.format d.attributes) _ shape h in
-        let size : (prefix_of table.format d.attributes).len ≡ shape.len =
-        ap (λ (x : NodeShape). x.len) fixed.1 in
-        let read = fixed-there table.format d.attributes unit (at + 1) fixed.0
+        let fixed = mapped-some (λ len. record {
+          is_null = false;
+          tag = d.tag;
+          children = d.children;
+          len = len;
+        }) (fixed_size (runs_of table.format d.attributes)) shape
+        (test-some (nat_lt (length d.attributes) UNSHARED) _ shape h).1 in
+        let size : fixed.0 ≡ shape.len = ap (λ (x : NodeShape). x.len) fixed.2 in
+        let read = fixed-there table.format d.attributes unit (at + 1) fixed.0 fixed.1
         (omega (arith, size, fits)) in
         let deeper : (depth == 0) ≡ false = ne_eqb depth 0 (λ e. absurd (omega (arith, e, below)))
-        in subst IsThere fixed.1 (
+        in subst IsThere fixed.2 (
           Entry d.tag d.children read.0,
           rw (coded, some, found, deeper, le-ltb depth_limit depth within, read.1) refl,
           (refl, refl, refl),

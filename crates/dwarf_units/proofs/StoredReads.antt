@@ -1,13 +1,13 @@
 -- Reading the attributes of an entry one by one, and storing the used ones.
 use Rattle.std.proofs.Common.{◌≡◌, ℕ, List, [], ◌∷◌, ◌++◌, Bool, true, false, refl, ap, sym, ◌∙◌}
-use Rattle.std.proofs.Common.{subst, ◌⊎◌, inl, inr}
+use Rattle.std.proofs.Common.{◌⊎◌, inl, inr}
 use Rattle.std.specs.Prelude.{Some, None, Result, Ok, Err}
 use Rattle.std.proofs.lemmas.List.Elements.{filter-append}
 use Rattle.dwarf_bytes.specs.declared.fault.Cause.{Cause}
 use Rattle.dwarf_bytes.specs.declared.format.Format.{Format}
 use Rattle.dwarf_bytes.specs.Bind.{◌>>=◌}
-use Rattle.dwarf_bytes.specs.Position.{Position}
 use Rattle.dwarf_bytes.specs.Refusals.{Fails}
+use Rattle.dwarf_bytes.specs.Position.{Position}
 use Rattle.dwarf_forms.specs.declared.attribute.AttributeSpecification.{AttributeSpecification}
 use Rattle.dwarf_units.specs.declared.attributes.Attribute.{Attribute}
 use Rattle.dwarf_units.specs.declared.used_name.UsedName.{UsedName}
@@ -17,7 +17,7 @@ use Rattle.dwarf_units.specs.Private.Names.{named_attribute, used_name}
 use Rattle.dwarf_units.specs.Private.StoredAttributes.{stored_attributes, stored_attributes_at}
 use Rattle.dwarf_units.specs.Private.Used.{Used, used_after, used_among, with_used}
 use Rattle.dwarf_units.proofs.NameLaws.{found-number, used-none, used-some}
-use Rattle.dwarf_units.proofs.UsedLaws.{with-none, with-twice}
+use Rattle.dwarf_units.proofs.UsedLaws.{nothing-used, with-none, with-twice}
 
 -- ---- two lists of attributes
 
@@ -80,33 +80,71 @@ pub stored-both : (keep : Bool) (xs ys : List Attribute)
 stored-both true xs ys = filter-append (λ (a : Attribute). is_used a.name) xs ys
 stored-both false xs ys = refl
 
--- The stored attributes of two lists, after those that are stored already.
+-- A read of attributes, and then another one from its end.
+abbrev pub then_read : Result (List Attribute × ℕ) Cause → (ℕ → Result (List Attribute × ℕ) Cause)
+    → Result (List Attribute × ℕ) Cause
+then_read read next = read >>= λ first. next first.1 >>= with_front first.0
+
+-- The stored attributes of two lists.
 pub stored-append : (keep : Bool) (format : Format) (xs ys : List AttributeSpecification)
-    (bytes : List ℕ) (at : ℕ) (used : Used)
-    → used_after used (stored_attributes_at keep format (xs ++ ys) bytes at)
-    ≡ (used_after used (stored_attributes_at keep format xs bytes at)
-    >>= λ first. used_after first.0 (stored_attributes_at keep format ys bytes first.1))
-stored-append keep format xs ys bytes at used =
+    (bytes : List ℕ) (at : ℕ) → stored_attributes_at keep format (xs ++ ys) bytes at
+    ≡ then_read (stored_attributes_at keep format xs bytes at)
+    (λ place. stored_attributes_at keep format ys bytes place)
+stored-append keep format xs ys bytes at =
     rw (attributes-append format xs ys bytes at) (by_first (attributes_at format xs bytes at))
   where
     by_rest : (front : List Attribute) (r : Result (List Attribute × ℕ) Cause)
-        → used_after used ((r >>= with_front front)
-        >>= stored_all keep)
-        ≡ used_after (with_used used (stored_attributes keep front))
-        (r >>= stored_all keep)
-    by_rest front (Ok rest) = ap (λ (u : Used). Ok (u, rest.1))
-        (ap (with_used used) (stored-both keep front rest.0)
-        ∙ sym (with-twice used (stored_attributes keep front) (stored_attributes keep rest.0)))
+        → ((r >>= with_front front) >>= stored_all keep)
+        ≡ ((r >>= stored_all keep) >>= with_front (stored_attributes keep front))
+    by_rest front (Ok rest) =
+        ap (λ (all : List Attribute). Ok (all, rest.1)) (stored-both keep front rest.0)
     by_rest front (Err e) = refl
 
     by_first : (r : Result (List Attribute × ℕ) Cause)
-        → used_after used ((r
-        >>= λ first. attributes_at format ys bytes first.1 >>= with_front first.0)
+        → ((r >>= λ first. attributes_at format ys bytes first.1 >>= with_front first.0)
         >>= stored_all keep)
-        ≡ (used_after used (r >>= stored_all keep)
-        >>= λ first. used_after first.0 (stored_attributes_at keep format ys bytes first.1))
+        ≡ then_read (r >>= stored_all keep)
+        (λ place. stored_attributes_at keep format ys bytes place)
     by_first (Ok first) = by_rest first.0 (attributes_at format ys bytes first.1)
     by_first (Err e) = refl
+
+-- If the first attribute cannot be read, the list cannot.
+pub fault-first : (keep : Bool) (format : Format) (s : AttributeSpecification)
+    (ss : List AttributeSpecification) (bytes : List ℕ) (at : ℕ) (cause : Cause)
+    → attribute_at format s bytes at ≡ Err cause
+    → stored_attributes_at keep format (s ∷ ss) bytes at ≡ Err cause
+unfolding attributes_at
+fault-first keep format s ss bytes at cause read = rw read refl
+
+pub used-front : (u : Used) (front : List Attribute) (r : Result (List Attribute × ℕ) Cause)
+    → used_after u (r >>= with_front front) ≡ used_after (with_used u front) r
+used-front u front (Ok rest) = ap (λ (v : Used). Ok (v, rest.1)) (sym (with-twice u front rest.0))
+used-front u front (Err e) = refl
+
+-- The used attributes of two reads, after those that are stored already.
+used-both : (u : Used) (r : Result (List Attribute × ℕ) Cause)
+    (next : ℕ → Result (List Attribute × ℕ) Cause) → used_after u (then_read r next)
+    ≡ (used_after u r >>= λ first. used_after first.0 (next first.1))
+used-both u (Err e) next = refl
+used-both u (Ok first) next = used-front u first.0 (next first.1)
+
+-- The first of two reads is done.
+pub next-read : (u stored : Used) (r : Result (List Attribute × ℕ) Cause)
+    (next : ℕ → Result (List Attribute × ℕ) Cause) (place : ℕ) (whole : Result (Used × ℕ) Cause)
+    → used_after u (then_read r next) ≡ whole → used_after u r ≡ Ok (stored, place)
+    → used_after stored (next place) ≡ whole
+next-read u stored r next place whole so_far read =
+    sym (ap (λ (q : Result (Used × ℕ) Cause). q >>= λ first. used_after first.0 (next first.1))
+    read) ∙ sym (used-both u r next) ∙ so_far
+
+-- The first of two reads fails, or memory runs out.
+pub next-fault : (u : Used) (r : Result (List Attribute × ℕ) Cause)
+    (next : ℕ → Result (List Attribute × ℕ) Cause) (cause : Cause) (whole : Result (Used × ℕ) Cause)
+    → used_after u (then_read r next) ≡ whole → Fails cause (used_after u r) → Fails cause whole
+next-fault u r next cause whole so_far (inl memory) = inl memory
+next-fault u r next cause whole so_far (inr read) =
+    inr (sym so_far ∙ (used-both u r next
+    ∙ ap (λ (q : Result (Used × ℕ) Cause). q >>= λ first. used_after first.0 (next first.1)) read))
 
 -- ---- one attribute
 
@@ -151,13 +189,25 @@ one-left keep format s bytes at used a why read =
     by_keep true (inr none) = rw (used-none a.0.name none) refl
     by_keep false left = refl
 
--- ---- the loops over attributes
+-- ---- the loop over shared attributes
 
 -- The attributes stored so far, completed by those of the remaining list, are the whole result.
 abbrev pub StoredSoFar : Bool → Format → List AttributeSpecification → List ℕ → Used → ℕ
     → Result (Used × ℕ) Cause → Type 0
 StoredSoFar keep format left bytes used place whole =
     used_after used (stored_attributes_at keep format left bytes place) ≡ whole
+
+-- The first attribute of the remaining list, and the others.
+stored-first : (keep : Bool) (format : Format) (s : AttributeSpecification)
+    (left behind : List AttributeSpecification) (bytes : List ℕ) (used : Used) (place : ℕ)
+    (whole : Result (Used × ℕ) Cause) → left ≡ s ∷ behind
+    → StoredSoFar keep format left bytes used place whole → used_after used
+    (then_read (stored_attributes_at keep format (s ∷ []) bytes place)
+    (λ k. stored_attributes_at keep format behind bytes k)) ≡ whole
+stored-first keep format s left behind bytes used place whole parts so_far =
+    ap (used_after used) (sym (stored-append keep format (s ∷ []) behind bytes place))
+    ∙ (ap (λ (l : List AttributeSpecification). used_after used
+    (stored_attributes_at keep format l bytes place)) (sym parts) ∙ so_far)
 
 -- The invariant after an attribute is read.
 pub stored-next : (keep : Bool) (format : Format) (s : AttributeSpecification)
@@ -167,14 +217,10 @@ pub stored-next : (keep : Bool) (format : Format) (s : AttributeSpecification)
     → used_after used (stored_attributes_at keep format (s ∷ []) old.bytes old.place)
     ≡ Ok (stored, new.place) → StoredSoFar keep format behind bytes stored new.place whole
 stored-next keep format s left behind bytes used stored old new whole parts same so_far read =
-    let here : used_after used (stored_attributes_at keep format (s ∷ []) bytes old.place)
-    ≡ Ok (stored, new.place) = subst (λ (b : List ℕ). used_after used
-    (stored_attributes_at keep format (s ∷ []) b old.place) ≡ Ok (stored, new.place)) same read in
-    sym (ap (λ (r : Result (Used × ℕ) Cause). r >>= λ first. used_after first.0
-    (stored_attributes_at keep format behind bytes first.1)) here)
-    ∙ sym (stored-append keep format (s ∷ []) behind bytes old.place used)
-    ∙ (ap (λ (l : List AttributeSpecification). used_after used
-    (stored_attributes_at keep format l bytes old.place)) (sym parts) ∙ so_far)
+    next-read used stored (stored_attributes_at keep format (s ∷ []) bytes old.place)
+    (λ k. stored_attributes_at keep format behind bytes k) new.place whole
+    (stored-first keep format s left behind bytes used old.place whole parts so_far)
+    (rw same at read)
 
 -- The whole read fails if an attribute fails or memory runs out.
 pub stored-fault : (keep : Bool) (format : Format) (s : AttributeSpecification)
@@ -183,27 +229,22 @@ pub stored-fault : (keep : Bool) (format : Format) (s : AttributeSpecification)
     → StoredSoFar keep format left bytes used old.place whole
     → Fails cause (used_after used (stored_attributes_at keep format (s ∷ []) old.bytes old.place))
     → Fails cause whole
-stored-fault keep format s left behind bytes used old cause whole parts same so_far (inl memory) =
-    inl memory
-stored-fault keep format s left behind bytes used old cause whole parts same so_far (inr read) =
-    let here : used_after used (stored_attributes_at keep format (s ∷ []) bytes old.place)
-    ≡ Err cause = subst (λ (b : List ℕ). used_after used
-    (stored_attributes_at keep format (s ∷ []) b old.place) ≡ Err cause) same read in
-    inr (sym so_far ∙ (ap (λ (l : List AttributeSpecification). used_after used
-    (stored_attributes_at keep format l bytes old.place)) parts
-    ∙ (stored-append keep format (s ∷ []) behind bytes old.place used
-    ∙ ap (λ (r : Result (Used × ℕ) Cause). r >>= λ first. used_after first.0
-    (stored_attributes_at keep format behind bytes first.1)) here)))
+stored-fault keep format s left behind bytes used old cause whole parts same so_far read =
+    next-fault used (stored_attributes_at keep format (s ∷ []) bytes old.place)
+    (λ k. stored_attributes_at keep format behind bytes k) cause whole
+    (stored-first keep format s left behind bytes used old.place whole parts so_far)
+    (rw same at read)
 
 pub stored-end : (keep : Bool) (format : Format) (left : List AttributeSpecification)
     (bytes : List ℕ) (used : Used) (place : ℕ) (whole : Result (Used × ℕ) Cause) → left ≡ []
     → StoredSoFar keep format left bytes used place whole → whole ≡ Ok (used, place)
 unfolding attributes_at
 stored-end keep format left bytes used place whole none so_far =
-    sym so_far ∙ (ap (λ (l : List AttributeSpecification). used_after used
-    (stored_attributes_at keep format l bytes place)) none
-    ∙ ap (λ (all : Used). Ok (all, place)) (by_keep keep))
+    sym so_far ∙ nothing-used used (stored_attributes_at keep format left bytes place) place
+    (ap (λ (l : List AttributeSpecification). stored_attributes_at keep format l bytes place) none
+    ∙ by_keep keep)
   where
-    by_keep : (k : Bool) → with_used used (stored_attributes k []) ≡ used
-    by_keep true = with-none used
-    by_keep false = with-none used
+    by_keep : (k : Bool) → (let none : List Attribute = stored_attributes k [] in
+        let all : Result (List Attribute × ℕ) Cause = Ok (none, place) in all) ≡ Ok ([], place)
+    by_keep true = refl
+    by_keep false = refl

@@ -7,6 +7,7 @@ pub mod Rising
 pub mod Numbers
 pub mod Tables
 pub mod FixedSizes
+pub mod Runs
 pub mod NodeShapes
 pub mod Names
 pub mod Used

@@ -9,12 +9,12 @@ ghost use Rattle.dwarf_forms.specs.Private.SharedTables.{full_declarations};
 ghost use Rattle.dwarf_forms.specs.Private.Memoized.{Grows};
 ghost use Rattle.dwarf_forms.specs.declared.memoized_lists.MemoizedAttribute.{MemoizedAttribute};
 ghost use Rattle.dwarf_forms.specs.Private.SharedTables.{AreShared};
-ghost use Rattle.dwarf_units.specs.Private.FixedSizes.{prefix_of, prefixes_of};
+ghost use Rattle.dwarf_units.specs.Private.Runs.{own_runs, runs_of};
 ghost use Rattle.dwarf_units.specs.Private.NodeShapes.{AreShapes, shape_at, shape_count};
 ghost use Rattle.dwarf_units.specs.Private.SharedTables.{IsReadable, own_size};
 ghost use Rattle.dwarf_units.specs.Private.SharedTables.{full_table};
 
-use crate::fixed_prefix::{FixedPrefix, prefixes};
+use crate::attribute_runs::{AttributeRuns, own_runs};
 use crate::linked_lists::LinkedLists;
 use crate::node_shape::{NodeShape, shapes};
 use crate::unit_headers::UnitHeader;
@@ -30,15 +30,15 @@ pub(crate) struct CachedTable {
     offset: u64,
     format: Format,
     table: AbbreviationTable,
-    /// The prefixes of the unshared attributes of each declaration.
-    prefixes: Vec<FixedPrefix>,
+    /// The unshared attributes of each declaration.
+    runs: Vec<AttributeRuns>,
     /// The shapes of nodes by their code.
     shapes: Vec<Option<NodeShape>>,
 }
 
 impl Model for CachedTable {
     ghost use Rattle.std.specs.Prelude.{◌≡◌};
-    ghost use Rattle.dwarf_units.specs.Private.FixedSizes.{prefixes_of};
+    ghost use Rattle.dwarf_units.specs.Private.Runs.{own_runs};
     ghost use Rattle.dwarf_units.specs.Private.NodeShapes.{AreShapes, shape_count};
     ghost use Rattle.dwarf_units.specs.Private.SharedTables.{SharedTable};
 
@@ -50,7 +50,7 @@ impl Model for CachedTable {
       declarations = t.table;
     } };
 
-    ghost invariant = { λ t. (t.prefixes.items ≡ prefixes_of t.format t.table)
+    ghost invariant = { λ t. (t.runs.items ≡ own_runs t.format t.table)
         × AreShapes t.format t.table (shape_count t.table) t.shapes.items };
 }
 
@@ -73,13 +73,13 @@ impl CachedTable {
         ensures grows { Grows lists.old.places lists.new.places }
     {
         let table = lists.table(alloc, offset, left)?;
-        let prefixes = prefixes(alloc, format, &table)?;
-        let shapes = shapes(alloc, &table, &prefixes)?;
+        let runs = own_runs(alloc, format, &table)?;
+        let shapes = shapes(alloc, &table, &runs)?;
         Ok(CachedTable {
             offset,
             format,
             table,
-            prefixes,
+            runs,
             shapes,
         })
     }
@@ -97,15 +97,15 @@ impl CachedTable {
         self.offset
     }
 
-    /// Returns the declaration of a code and the prefix of its unshared attributes.
-    pub(crate) fn find(&self, code: u64) -> Option<(&AbbreviationDeclaration, &FixedPrefix)>
+    /// Returns the declaration of a code and its unshared attributes.
+    pub(crate) fn find(&self, code: u64) -> Option<(&AbbreviationDeclaration, &AttributeRuns)>
         ensures some { IfSome result (λ found. (find
             (λ declaration. declaration.code == code) self.now.declarations ≡ Some found.0.now)
-            × (found.1.now ≡ prefix_of self.now.format found.0.now.list.own)) }
+            × (found.1.now ≡ runs_of self.now.format found.0.now.list.own)) }
         ensures none { IfNone result (find
             (λ declaration. declaration.code == code) self.now.declarations ≡ None) }
     {
-        declaration_and_prefix(&self.table, &self.prefixes, code)
+        declaration_and_runs(&self.table, &self.runs, code)
     }
 
     /// Returns the shape of the nodes with a one-byte code, if there is one.
@@ -142,22 +142,22 @@ impl CachedTable {
     }
 }
 
-/// Returns the declaration of a code and its prefix. `prefixes` is parallel to the declarations.
-fn declaration_and_prefix<'a>(
+/// Returns the declaration of a code and its runs. `runs` is parallel to the declarations.
+fn declaration_and_runs<'a>(
     table: &'a AbbreviationTable,
-    prefixes: &'a [FixedPrefix],
+    runs: &'a [AttributeRuns],
     code: u64,
-) -> Option<(&'a AbbreviationDeclaration, &'a FixedPrefix)>
-    ensures some { (format : Format) → prefixes.now ≡ prefixes_of format table.now
+) -> Option<(&'a AbbreviationDeclaration, &'a AttributeRuns)>
+    ensures some { (format : Format) → runs.now ≡ own_runs format table.now
         → IfSome result (λ found. (find (λ declaration. declaration.code == code) table.now
-        ≡ Some found.0.now) × (found.1.now ≡ prefix_of format found.0.now.list.own)) }
-    ensures none { (format : Format) → prefixes.now ≡ prefixes_of format table.now
+        ≡ Some found.0.now) × (found.1.now ≡ runs_of format found.0.now.list.own)) }
+    ensures none { (format : Format) → runs.now ≡ own_runs format table.now
         → IfNone result (find (λ declaration. declaration.code == code) table.now ≡ None) }
 {
     let place = table.position(code)?;
     let declaration = table.declarations().get(place)?;
-    let prefix = prefixes.get(place)?;
-    Some((declaration, prefix))
+    let runs = runs.get(place)?;
+    Some((declaration, runs))
 }
 
 /// Counts the unshared attributes of declarations.

@@ -5,13 +5,12 @@ ghost use Rattle.dwarf_bytes.specs.Refusals.{ReadsField};
 ghost use Rattle.dwarf_forms.specs.Private.SharedTables.{full_declaration};
 ghost use Rattle.dwarf_forms.specs.Private.Memoized.{IsMemoized};
 ghost use Rattle.dwarf_units.specs.Entries.{depth_limit};
-ghost use Rattle.dwarf_units.specs.Private.FixedSizes.{prefix_of};
+ghost use Rattle.dwarf_units.specs.Private.Runs.{runs_of};
 ghost use Rattle.dwarf_units.specs.Private.Heads.{head_at, used_entry_at, ReturnsAndFills};
 ghost use Rattle.dwarf_units.specs.Private.StoredAttributes.{Fills};
 ghost use Rattle.dwarf_units.specs.Private.Used.{used_attributes_at};
 
-use crate::attribute_reader::read_each;
-use crate::fixed_prefix::FixedPrefix;
+use crate::attribute_runs::AttributeRuns;
 use crate::linked_lists::LinkedLists;
 use crate::unit_table::UnitTable;
 use crate::used_attributes::UsedAttributes;
@@ -27,8 +26,8 @@ pub(crate) const DEPTH_LIMIT: u32 = 256;
 pub struct EntryHead<'a> {
     format: Format,
     declaration: &'a AbbreviationDeclaration,
-    /// The prefix of the attributes that the declaration does not share.
-    prefix: &'a FixedPrefix,
+    /// The attributes that the declaration does not share.
+    runs: &'a AttributeRuns,
     lists: &'a LinkedLists<'a>,
 }
 
@@ -36,8 +35,8 @@ impl<'a> Model for EntryHead<'a> {
     ghost use Rattle.std.specs.Prelude.{◌≡◌};
     ghost use Rattle.dwarf_forms.specs.Private.SharedTables.{full_declaration};
     ghost use Rattle.dwarf_forms.specs.Private.Memoized.{IsMemoized};
-    ghost use Rattle.dwarf_units.specs.Private.FixedSizes.{prefix_of};
     ghost use Rattle.dwarf_units.specs.Private.Heads.{Head};
+    ghost use Rattle.dwarf_units.specs.Private.Runs.{runs_of};
 
     ghost Value = { Head };
 
@@ -46,7 +45,7 @@ impl<'a> Model for EntryHead<'a> {
       declaration = full_declaration h.lists.now.places.memoized h.declaration.now;
     } };
 
-    ghost invariant = { λ h. (h.prefix.now ≡ prefix_of h.format h.declaration.now.list.own)
+    ghost invariant = { λ h. (h.runs.now ≡ runs_of h.format h.declaration.now.list.own)
         × IsMemoized h.lists.now.places.memoized h.declaration.now.list.rest };
 }
 
@@ -97,10 +96,10 @@ impl<'a> EntryHead<'a> {
     pub(crate) fn new(
         format: Format,
         declaration: &'a AbbreviationDeclaration,
-        prefix: &'a FixedPrefix,
+        runs: &'a AttributeRuns,
         lists: &'a LinkedLists<'a>,
     ) -> EntryHead<'a>
-        requires prefix { prefix.now ≡ prefix_of format declaration.now.list.own }
+        requires runs { runs.now ≡ runs_of format declaration.now.list.own }
         requires memoized { IsMemoized lists.now.places.memoized declaration.now.list.rest }
         ensures { result ≡ record {
           format = format;
@@ -110,7 +109,7 @@ impl<'a> EntryHead<'a> {
         EntryHead {
             format,
             declaration,
-            prefix,
+            runs,
             lists,
         }
     }
@@ -143,11 +142,9 @@ impl<'a> EntryHead<'a> {
     {
         // The contract of `place` is needed: the offset is within the bytes or at their end.
         let _ = cursor.place();
-        self.prefix.read(keep, self.format, cursor, found)?;
-        let list = self.declaration.list();
-        let rest = self.prefix.rest(list.own());
-        read_each(keep, self.format, rest, cursor, found)?;
-        self.lists
-            .read(keep, self.format, list.rest(), cursor, found)
+        found.clear();
+        self.runs.read(keep, self.format, cursor, found)?;
+        let rest = self.declaration.list().rest();
+        self.lists.read(keep, self.format, rest, cursor, found)
     }
 }

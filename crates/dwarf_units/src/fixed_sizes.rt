@@ -3,8 +3,9 @@
 ghost use Rattle.std.specs.Prelude.{◌≡◌};
 ghost use Rattle.dwarf_bytes.specs.Forms.{byte_len};
 ghost use Rattle.dwarf_units.specs.Private.FixedSizes.{constant_len, end_of, fixed_len, layout_len};
+ghost use Rattle.dwarf_units.specs.Private.Runs.{is_signed, unchecked_layout, valid_layout};
 
-use crate::attributes::{accepts, is_negative_count};
+use crate::attributes::{accepts, is_negative_count, is_used};
 use dwarf_bytes::{Content, Form, Format, ValueLayout, Width};
 use dwarf_forms::AttributeSpecification;
 
@@ -34,6 +35,36 @@ pub(crate) fn fixed_len(format: Format, specification: &AttributeSpecification) 
         Form::ImplicitConst => constant_len(specification),
         Form::Indirect => None,
     }
+}
+
+/// Returns the layout of an attribute, if every value in this layout is valid.
+#[tactic(auto, unfolding(crate::specs::Private::Runs::unchecked_layout))]
+pub(crate) fn unchecked_layout(specification: &AttributeSpecification) -> Option<ValueLayout>
+    ensures { result ≡ unchecked_layout specification.now }
+{
+    if !accepts(specification.name, specification.form) {
+        return None;
+    }
+    match Form::of(specification.form)? {
+        Form::Direct(layout) => valid_layout(specification.name, layout),
+        Form::ImplicitConst | Form::Indirect => None,
+    }
+}
+
+/// Returns a layout, if an attribute cannot have an invalid value in it.
+fn valid_layout(name: u64, layout: ValueLayout) -> Option<ValueLayout>
+    ensures { result ≡ valid_layout name layout }
+{
+    if is_used(name) && is_signed(layout) {
+        return None;
+    }
+    Some(layout)
+}
+
+fn is_signed(layout: ValueLayout) -> bool
+    ensures { result ≡ is_signed layout }
+{
+    matches!(layout, ValueLayout::Signed)
 }
 
 /// Returns the size of an attribute whose value is in its declaration: 0 if the value is valid,

@@ -3,10 +3,11 @@
 #![tactic(auto)]
 
 mod attribute_reader;
+mod attribute_run;
+mod attribute_runs;
 mod attributes;
 mod cached_table;
 mod entry_head;
-mod fixed_prefix;
 mod fixed_sizes;
 pub mod laws;
 mod linked_lists;

@@ -7,11 +7,11 @@ ghost use Rattle.dwarf_forms.specs.Private.Shared.{IsShared};
 ghost use Rattle.dwarf_forms.specs.Private.SharedTables.{AreShared, full_declaration};
 ghost use Rattle.dwarf_forms.specs.Private.SharedTables.{full_declarations};
 ghost use Rattle.dwarf_bytes.specs.declared.format.Format.{Format};
-ghost use Rattle.dwarf_units.specs.Private.FixedSizes.{prefix_of, prefixes_of};
+ghost use Rattle.dwarf_units.specs.Private.Runs.{own_runs, runs_of};
 ghost use Rattle.dwarf_units.specs.Private.NodeShapes.{AreShapes, null_shape};
 ghost use Rattle.dwarf_units.specs.Private.NodeShapes.{shape_of, shape_of_code, shape_count};
 
-use crate::fixed_prefix::FixedPrefix;
+use crate::attribute_runs::AttributeRuns;
 use dwarf_forms::{AbbreviationDeclaration, AbbreviationTable, UNSHARED};
 use std::alloc::{AllocError, Global};
 
@@ -43,50 +43,46 @@ impl NodeShape {
     }
 
     /// Returns the shape of the entries of a declaration, if their size is fixed.
-    fn of(declaration: &AbbreviationDeclaration, prefix: &FixedPrefix) -> Option<NodeShape>
+    fn of(declaration: &AbbreviationDeclaration, runs: &AttributeRuns) -> Option<NodeShape>
         ensures { (memoized : List MemoizedAttribute) (format : Format)
             → IsShared memoized declaration.now.list
-            → prefix.now ≡ prefix_of format declaration.now.list.own
+            → runs.now ≡ runs_of format declaration.now.list.own
             → result ≡ shape_of format (full_declaration memoized declaration.now) }
     {
-        let attributes = declaration.list().own().len();
-        if attributes >= UNSHARED || attributes > prefix.count() {
+        let len = runs.fixed_size()?;
+        if declaration.list().own().len() >= UNSHARED {
             return None;
         }
         Some(NodeShape {
             is_null: false,
             tag: declaration.tag(),
             children: declaration.children(),
-            len: prefix.len(),
+            len,
         })
     }
 }
 
 /// Computes the shapes of the codes from 0 up to the number of declarations, at most 127.
-/// `prefixes` is parallel to the declarations.
+/// `runs` is parallel to the declarations.
 pub(crate) fn shapes(
     alloc: Global,
     table: &AbbreviationTable,
-    prefixes: &[FixedPrefix],
+    runs: &[AttributeRuns],
 ) -> Result<Vec<Option<NodeShape>>, AllocError>
-    ensures { IfOk result (λ shapes. (format : Format) → prefixes.now ≡ prefixes_of format table.now
+    ensures { IfOk result (λ shapes. (format : Format) → runs.now ≡ own_runs format table.now
         → AreShapes format table.now (shape_count table.now) shapes.items) }
 {
     let mut shapes = Vec::new(alloc);
     for code in 0..table.declarations().len().min(CODE_LIMIT) + 1 {
-        shapes.push(shape_of_code(table, prefixes, code as u64))?;
+        shapes.push(shape_of_code(table, runs, code as u64))?;
     }
     Ok(shapes)
 }
 
 /// Returns the shape of the nodes with a code, if their size is fixed.
-fn shape_of_code(
-    table: &AbbreviationTable,
-    prefixes: &[FixedPrefix],
-    code: u64,
-) -> Option<NodeShape>
+fn shape_of_code(table: &AbbreviationTable, runs: &[AttributeRuns], code: u64) -> Option<NodeShape>
     ensures { (memoized : List MemoizedAttribute) (format : Format) → AreShared memoized table.now
-        → prefixes.now ≡ prefixes_of format table.now
+        → runs.now ≡ own_runs format table.now
         → result ≡ shape_of_code format (full_declarations memoized table.now) code }
 {
     if code == 0 {
@@ -94,5 +90,5 @@ fn shape_of_code(
     }
     let place = table.position(code)?;
     let declaration = table.declarations().get(place)?;
-    NodeShape::of(declaration, prefixes.get(place)?)
+    NodeShape::of(declaration, runs.get(place)?)
 }

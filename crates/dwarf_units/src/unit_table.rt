@@ -44,8 +44,8 @@ impl<'a> UnitTable<'a> {
         ensures { result
             ≡ option_map (head_in self.now) (declaration_of self.now.declarations code) }
     {
-        let (declaration, prefix) = self.table.find(code)?;
-        Some(EntryHead::new(self.table.format(), declaration, prefix, self.lists))
+        let (declaration, runs) = self.table.find(code)?;
+        Some(EntryHead::new(self.table.format(), declaration, runs, self.lists))
     }
 
     /// Returns the shape of the nodes with a one-byte code, if there is one.

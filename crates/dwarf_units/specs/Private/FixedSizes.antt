@@ -1,10 +1,9 @@
--- Attributes of a fixed size: their sizes, and where the used ones are in an entry that starts with
--- such attributes.
-use Rattle.std.specs.Prelude.{ℕ, suc, ◌+◌, List, [], ◌∷◌, ◌++◌, length, map, Option, Some, None}
+-- The sizes of attributes, and the positions of used attributes after attributes of a fixed size.
+use Rattle.std.specs.Prelude.{ℕ, ◌+◌, List, map, Option, Some, None}
 use Rattle.std.specs.Prelude.{Result}
-use Rattle.std.specs.Prelude.{Ok, Err, Bool, ◌&&◌, nat_le, nat_lt, if◌then◌else◌, option_and_then}
+use Rattle.std.specs.Prelude.{Ok, Err, nat_le, if◌then◌else◌, option_and_then}
 use Rattle.std.specs.Prelude.{option_map}
-use Rattle.std.specs.Option.{option_map_or, option_to_list}
+use Rattle.std.specs.Option.{option_map_or}
 use Rattle.dwarf_bytes.specs.declared.fault.Cause.{Cause}
 use Rattle.dwarf_bytes.specs.declared.format.Format.{Format}
 use Rattle.dwarf_bytes.specs.declared.form.ValueLayout.{ValueLayout}
@@ -19,15 +18,12 @@ use Rattle.dwarf_bytes.specs.Forms.{form_of, byte_len}
 use Rattle.dwarf_bytes.specs.Items.{reading}
 use Rattle.dwarf_bytes.specs.Numbers.{block_at, offset_len}
 use Rattle.dwarf_forms.specs.declared.attribute.AttributeSpecification.{AttributeSpecification}
-use Rattle.dwarf_forms.specs.declared.shared.TheConstants.{UNSHARED}
-use Rattle.dwarf_forms.specs.Private.SharedTables.{SharedDeclaration}
 use Rattle.dwarf_units.specs.declared.attributes.Attribute.{Attribute}
 use Rattle.dwarf_units.specs.declared.used_position.UsedPosition.{UsedPosition}
 use Rattle.dwarf_units.specs.declared.used_position.UsedValue.{UsedValue}
 use Rattle.dwarf_units.specs.declared.used_position.UsedValue.TheVariants.{Constant, At}
 use Rattle.dwarf_units.specs.Attributes.{accepts, is_negative_count, number_of}
 use Rattle.dwarf_units.specs.Private.Names.{named_attribute, used_name}
-use Rattle.dwarf_units.specs.Private.Used.{Used, used_among}
 
 -- ---- sizes of attributes
 
@@ -85,42 +81,6 @@ abbrev pub used_position : ℕ → AttributeSpecification → Option UsedPositio
 used_position n s = option_map
     (λ name. record { name = name; form = s.form; value = used_value n s }) (used_name s.name)
 
--- The first attributes of an entry, as far as they have a fixed size: their size in bytes, the
--- positions of the used ones, and their number.
-pub record Prefix : Type 0 where
-  pub len : ℕ
-  pub used : List UsedPosition
-  pub count : ℕ
-
--- One more attribute, and its position if it is used.
-abbrev pub with_position : Option UsedPosition → Prefix → Prefix
-with_position position rest = record {
-  len = rest.len;
-  used = option_to_list position ++ rest.used;
-  count = suc rest.count;
-}
-
--- The attributes from n bytes on.
-unfoldable pub prefix_from : Format → ℕ → List AttributeSpecification → Prefix
-prefix_from format n [] = record { len = n; used = []; count = 0 }
-prefix_from format n (s ∷ ss) = option_map_or
-    (λ end. with_position (used_position n s) (prefix_from format end ss)) (end_of format n s)
-    (record { len = n; used = []; count = 0 })
-
-abbrev pub prefix_of : Format → List AttributeSpecification → Prefix
-prefix_of format declared = prefix_from format 0 declared
-
--- The prefixes of the unshared attributes of declarations.
-abbrev pub prefixes_of : Format → List SharedDeclaration → List Prefix
-prefixes_of format declarations = map (λ declaration. prefix_of format declaration.list.own)
-    declarations
-
--- Whether all attributes have a fixed size. A declaration with UNSHARED attributes or more may
--- share some.
-abbrev pub has_fixed_size : Format → List AttributeSpecification → Bool
-has_fixed_size format declared = nat_lt (length declared) UNSHARED
-    && nat_le (length declared) (prefix_of format declared).count
-
 -- ---- attributes at their positions
 
 -- The value at an offset in a layout, as a number, and the offset after it.
@@ -151,8 +111,3 @@ attribute_in format bytes first p = named_attribute p.name
 
 abbrev pub attributes_in : Format → List ℕ → ℕ → List UsedPosition → List Attribute
 attributes_in format bytes first used = map (attribute_in format bytes first) used
-
--- The used attributes of a prefix, if they are stored, and the offset after all of its attributes.
-abbrev pub prefix_at : Bool → Format → Prefix → List ℕ → ℕ → Result (Used × ℕ) Cause
-prefix_at keep format prefix bytes at = reading (block_at prefix.len bytes at) >>= λ block.
-    Ok (used_among (if keep then attributes_in format bytes at prefix.used else []), block.1)

@@ -1,28 +1,30 @@
 -- Nodes of a fixed size: null entries, and entries whose attributes all have a fixed size.
 use Rattle.std.specs.Prelude.{◌≡◌, ℕ, ◌+◌, min, List, length, true, false, ◌==◌}
 use Rattle.std.specs.Prelude.{◌||◌, nat_lt, Option, Some, None, Ok, if◌then◌else◌}
-use Rattle.std.specs.Prelude.{option_and_then, slice_get}
+use Rattle.std.specs.Prelude.{option_and_then, option_map, slice_get}
 use Rattle.dwarf_bytes.specs.declared.format.Format.{Format}
 use Rattle.dwarf_forms.specs.declared.memoized_lists.MemoizedAttribute.{MemoizedAttribute}
+use Rattle.dwarf_forms.specs.declared.shared.TheConstants.{UNSHARED}
 use Rattle.dwarf_forms.specs.Declarations.{Declaration}
 use Rattle.dwarf_forms.specs.Private.SharedTables.{AreShared, SharedDeclaration, full_declarations}
 use Rattle.dwarf_units.specs.declared.node_shape.NodeShape.{NodeShape}
 use Rattle.dwarf_units.specs.Entries.{Node, Entry, Null, declaration_of, depth_limit, node_at_depth}
-use Rattle.dwarf_units.specs.Private.FixedSizes.{has_fixed_size, prefix_of}
+use Rattle.dwarf_units.specs.Private.Runs.{fixed_size, runs_of}
 use Rattle.dwarf_units.specs.Private.AbbreviationTables.{Table}
 
 -- The shape of a null entry.
 abbrev pub null_shape : NodeShape
 null_shape = record { is_null = true; tag = 0; children = false; len = 0 }
 
--- The shape of the entries of a declaration, if their size is fixed.
+-- The shape of the entries of a declaration, if their size is fixed. A declaration with UNSHARED
+-- attributes or more may share some.
 abbrev pub shape_of : Format → Declaration → Option NodeShape
-shape_of format d = if has_fixed_size format d.attributes then Some (record {
+shape_of format d = if nat_lt (length d.attributes) UNSHARED then option_map (λ len. record {
   is_null = false;
   tag = d.tag;
   children = d.children;
-  len = (prefix_of format d.attributes).len;
-}) else None
+  len = len;
+}) (fixed_size (runs_of format d.attributes)) else None
 
 -- The shape of the nodes with a code.
 abbrev pub shape_of_code : Format → List Declaration → ℕ → Option NodeShape

@@ -4,7 +4,7 @@ use Rattle.std.proofs.lemmas.Bool.{ne_eqb}
 use Rattle.dwarf_forms.specs.Private.Shared.{IsShared}
 use Rattle.dwarf_forms.specs.Private.SharedTables.{SharedDeclaration}
 use Rattle.dwarf_forms.proofs.Codes.{find-place, got}
-use Rattle.dwarf_units.specs.Private.FixedSizes.{prefix_of}
+use Rattle.dwarf_units.specs.Private.Runs.{runs_of}
 use Rattle.dwarf_units.proofs.NodeShapes.{code-shape}
 use Rattle.dwarf_units.proofs.SharedTableLaws.{all-found, at-place}
 use Rattle.dwarf_units.proofs.node_shape.shape_of_code.Goals as goal
@@ -27,12 +27,12 @@ returns c memoized format shared are =
     let found : find (λ d. d.code == c.args.code) c.args.table.now ≡ Some declaration =
     find-place (λ (d : SharedDeclaration). d.code == c.args.code) c.args.table.now (Some place)
     (sym c.in_ok-place.ensures) ∙ here in
-    let prefix : slice_get c.args.prefixes.now place ≡ Some c.in_ok-get.field-0.now =
-    sym (got c.args.prefixes.now place c.get-2.result c.get-2.ensures.lookup.0
+    let runs : slice_get c.args.runs.now place ≡ Some c.in_ok-get.field-0.now =
+    sym (got c.args.runs.now place c.get-2.result c.get-2.ensures.lookup.0
     c.get-2.ensures.lookup.1) ∙ ap (λ r. option_copied r) c.in_ok-get.was in
     c.of.ensures memoized format (all-found (λ (d : SharedDeclaration). IsShared memoized d.list)
     (λ d. d.code == c.args.code) c.args.table.now declaration shared found)
-    (at-place (λ (d : SharedDeclaration). prefix_of format d.list.own) c.args.table.now
-    c.args.prefixes.now place declaration c.in_ok-get.field-0.now are here prefix)
+    (at-place (λ (d : SharedDeclaration). runs_of format d.list.own) c.args.table.now
+    c.args.runs.now place declaration c.in_ok-get.field-0.now are here runs)
     ∙ sym (code-shape memoized format c.args.table.now c.args.code (Some declaration)
     (ne_eqb c.args.code 0 c.if-code-eq0.false) found)

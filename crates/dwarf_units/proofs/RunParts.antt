@@ -1,0 +1,174 @@
+-- Reading the attributes of one run.
+use Rattle.std.proofs.Common.{◌≡◌, ℕ, ◌+◌, ◌<◌, ◌≤◌, List, [], ◌∷◌, ◌++◌, Bool, true}
+use Rattle.std.proofs.Common.{false, cond, length, refl, ap, sym, ◌∙◌, arith, append_assoc, append-nil}
+use Rattle.std.specs.Prelude.{Option, Some, None, Result, Ok, Err, option_map}
+use Rattle.std.specs.Option.{option_to_list}
+use Rattle.std.proofs.lemmas.List.{map-append}
+use Rattle.dwarf_bytes.specs.declared.fault.ReadFault.{ReadFault}
+use Rattle.dwarf_bytes.specs.declared.fault.ReadFault.TheVariants as faults
+use Rattle.dwarf_bytes.specs.declared.fault.Cause.{Cause}
+use Rattle.dwarf_bytes.specs.declared.format.Format.{Format}
+use Rattle.dwarf_bytes.specs.declared.form.ValueLayout.{ValueLayout}
+use Rattle.dwarf_bytes.specs.Bind.{◌>>=◌}
+use Rattle.dwarf_bytes.specs.Contents.{Content, content_at}
+use Rattle.dwarf_bytes.specs.Items.{reading}
+use Rattle.dwarf_bytes.specs.Numbers.{block_at}
+use Rattle.dwarf_bytes.specs.Words.{cause_of}
+use Rattle.dwarf_bytes.proofs.Numbers.Moves.{same-ok}
+use Rattle.dwarf_forms.specs.declared.attribute.AttributeSpecification.{AttributeSpecification}
+use Rattle.dwarf_units.specs.declared.attribute_run.LastAttribute.TheVariants.{Unchecked}
+use Rattle.dwarf_units.specs.declared.attribute_run.LastAttribute.TheVariants.{Checked}
+use Rattle.dwarf_units.specs.declared.attributes.Attribute.{Attribute}
+use Rattle.dwarf_units.specs.declared.used_name.UsedName.{UsedName}
+use Rattle.dwarf_units.specs.declared.used_position.UsedPosition.{UsedPosition}
+use Rattle.dwarf_units.specs.Attributes.{number_of}
+use Rattle.dwarf_units.specs.Entries.{attribute_at, attributes_at}
+use Rattle.dwarf_units.specs.Private.FixedSizes.{attribute_in, attributes_in}
+use Rattle.dwarf_units.specs.Private.FixedSizes.{number_in, used_position, used_value}
+use Rattle.dwarf_units.specs.Private.Names.{used_name}
+use Rattle.dwarf_units.specs.Private.Runs.{Run, run_at}
+use Rattle.dwarf_units.specs.Private.Runs.{unchecked_layout}
+use Rattle.dwarf_units.specs.Private.StoredAttributes.{stored_attributes, stored_attributes_at}
+use Rattle.dwarf_units.proofs.EntryAdvances.{attributes-stay}
+use Rattle.dwarf_units.proofs.FixedPositions.{block-there, direct-value}
+use Rattle.dwarf_units.proofs.FixedReads.{ReadsFixed, block-fixed}
+use Rattle.dwarf_units.proofs.FixedValues.{IsInLayout, unchecked-read}
+use Rattle.dwarf_units.proofs.NameLaws.{found-number, used-none, used-some}
+use Rattle.dwarf_units.proofs.StoredReads.{fault-first, stored_all}
+use Rattle.dwarf_units.proofs.StoredReads.{with_front}
+
+-- The stored attributes among those at these positions.
+abbrev pub kept_in : Bool → Format → List ℕ → ℕ → List UsedPosition → List Attribute
+kept_in keep format bytes first used = cond keep (attributes_in format bytes first used) []
+
+-- ---- one attribute at its position
+
+kept-one : (keep : Bool) (format : Format) (s : AttributeSpecification) (bytes : List ℕ)
+    (first n : ℕ) → (let a : Attribute = record {
+      name = s.name;
+      value = record { form = s.form; number = number_in format bytes first (used_value n s) };
+    } in stored_attributes keep (a ∷ []))
+    ≡ kept_in keep format bytes first (option_to_list (used_position n s))
+kept-one false format s bytes first n = refl
+kept-one true format s bytes first n = by_name (used_name s.name) refl
+  where
+    a : ℕ → Attribute
+    a name = record {
+      name = name;
+      value = record { form = s.form; number = number_in format bytes first (used_value n s) };
+    }
+
+    by_name : (found : Option UsedName) → used_name s.name ≡ found
+        → stored_attributes true (a s.name ∷ []) ≡ attributes_in format bytes first
+        (option_to_list (option_map
+        (λ name. record { name = name; form = s.form; value = used_value n s }) found))
+    by_name None is = rw (used-none s.name is) refl
+    by_name (Some name) is =
+        rw (used-some s.name name is) (ap (λ (k : ℕ). a k ∷ []) (found-number s.name name is))
+
+-- An attribute with the value at its position is stored as the attribute at this position.
+pub stored-one : (keep : Bool) (format : Format) (s : AttributeSpecification) (bytes : List ℕ)
+    (first n end : ℕ) → attribute_at format s bytes (first + n) ≡ Ok (
+      record {
+        name = s.name;
+        value = record { form = s.form; number = number_in format bytes first (used_value n s) };
+      },
+      end,
+    ) → stored_attributes_at keep format (s ∷ []) bytes (first + n)
+    ≡ Ok (kept_in keep format bytes first (option_to_list (used_position n s)), end)
+unfolding attributes_at
+stored-one keep format s bytes first n end has =
+    rw has (ap (λ (l : List Attribute). Ok (l, end)) (kept-one keep format s bytes first n))
+
+pub block-short : (n : ℕ) (bytes : List ℕ) (at : ℕ) → length bytes < at + n
+    → block_at n bytes at ≡ Err faults.Short
+block-short n bytes at lt = by_read (block_at n bytes at) refl (block-fixed n bytes at)
+  where
+    by_read : (r : Result (List ℕ × ℕ) ReadFault) → block_at n bytes at ≡ r
+        → ReadsFixed (λ _. Unit {0}) faults.Short n bytes at r
+        → block_at n bytes at ≡ Err faults.Short
+    by_read (Ok block) is fixed = absurd (omega (arith, fixed.2, lt))
+    by_read (Err e) is fixed = is ∙ ap (λ (e : ReadFault). Err e) fixed.0
+
+-- The stored attributes of a list, after those at some positions.
+pub front-more : (keep : Bool) (format : Format) (bytes : List ℕ) (first : ℕ)
+    (used more : List UsedPosition) (r : Result (List Attribute × ℕ) Cause)
+    → ((r >>= with_front (kept_in keep format bytes first more))
+    >>= with_front (kept_in keep format bytes first used))
+    ≡ (r >>= with_front (kept_in keep format bytes first (used ++ more)))
+front-more keep format bytes first used more (Err e) = refl
+front-more keep format bytes first used more (Ok rest) =
+    ap (λ (l : List Attribute). Ok (l, rest.1)) (by_keep keep)
+  where
+    by_keep : (k : Bool) → kept_in k format bytes first used
+        ++ (kept_in k format bytes first more ++ rest.0)
+        ≡ kept_in k format bytes first (used ++ more) ++ rest.0
+    by_keep true = sym (append_assoc (attributes_in format bytes first used)
+        (attributes_in format bytes first more) rest.0)
+        ∙ ap (λ (l : List Attribute). l ++ rest.0)
+        (sym (map-append (attribute_in format bytes first) used more))
+    by_keep false = refl
+
+-- ---- the last attribute of a run
+
+pub stored-within : (keep : Bool) (format : Format) (declared : List AttributeSpecification)
+    (bytes : List ℕ) (at : ℕ) (x : List Attribute × ℕ) → at ≤ length bytes
+    → stored_attributes_at keep format declared bytes at ≡ Ok x → x.1 ≤ length bytes
+stored-within keep format declared bytes at x le is =
+    by_read (attributes_at format declared bytes at) refl is
+  where
+    by_read : (r : Result (List Attribute × ℕ) Cause) → attributes_at format declared bytes at ≡ r
+        → (r >>= stored_all keep) ≡ Ok x → x.1 ≤ length bytes
+    by_read (Ok all) read is =
+        let end : all.1 ≡ x.1 = ap (λ (r : List Attribute × ℕ). r.1)
+        (same-ok (stored_attributes keep all.0, all.1) x is) in
+        omega (arith, end, (attributes-stay format declared bytes at all le read).1)
+    by_read (Err e) read is = cc
+
+-- What follows the first n bytes of a run is read as an attribute.
+abbrev pub ReadsLast : Format → ℕ → List UsedPosition → AttributeSpecification → Run → Type 0
+ReadsLast format n used s run = (keep : Bool) (bytes : List ℕ) (first : ℕ)
+    → first + n ≤ length bytes → run_at keep format run bytes first
+    ≡ (stored_attributes_at keep format (s ∷ []) bytes (first + n)
+    >>= with_front (kept_in keep format bytes first used))
+
+pub checked-one : (format : Format) (n : ℕ) (used : List UsedPosition) (s : AttributeSpecification)
+    → ReadsLast format n used s (record { len = n; used = used; last = Checked s })
+checked-one format n used s keep bytes first le = rw (block-there n bytes first le).1 refl
+
+pub unchecked-one : (format : Format) (n : ℕ) (used : List UsedPosition) (s : AttributeSpecification)
+    (layout : ValueLayout) → unchecked_layout s ≡ Some layout → ReadsLast format n used s (record {
+      len = n;
+      used = used ++ option_to_list (used_position n s);
+      last = Unchecked layout;
+    })
+unchecked-one format n used s layout unchecked keep bytes first le =
+    rw (block-there n bytes first le).1
+    (by_content (content_at layout format bytes (first + n)) refl)
+  where
+    position : List UsedPosition
+    position = option_to_list (used_position n s)
+
+    kept : List UsedPosition → List Attribute
+    kept ps = kept_in keep format bytes first ps
+
+    is : IsInLayout format s layout bytes (first + n)
+    is = unchecked-read format s layout bytes (first + n) unchecked
+
+    by_content : (r : Result (Content × ℕ) ReadFault)
+        → content_at layout format bytes (first + n) ≡ r
+        → (((reading r >>= λ content. Ok content.1) >>= λ end. Ok ([], end))
+        >>= with_front (kept (used ++ position)))
+        ≡ (stored_attributes_at keep format (s ∷ []) bytes (first + n) >>= with_front (kept used))
+    by_content (Ok c) read =
+        let number : number_in format bytes first (used_value n s) ≡ number_of c.0 c.1 =
+        ap (number_in format bytes first) (direct-value n s layout is.form)
+        ∙ rw ((block-there n bytes first le).1, read) refl in
+        let here = stored-one keep format s bytes first n c.1
+        (sym is.read ∙ rw (read, number) refl) in
+        sym (front-more keep format bytes first used position (Ok ([], c.1)))
+        ∙ ap (λ (l : List Attribute). Ok (kept used ++ l, c.1)) (append-nil (kept position))
+        ∙ sym (ap (λ (r : Result (List Attribute × ℕ) Cause). r >>= with_front (kept used)) here)
+    by_content (Err e) read = sym (ap (λ (r : Result (List Attribute × ℕ) Cause). r
+        >>= with_front (kept used)) (fault-first keep format s [] bytes (first + n) (cause_of e)
+        (sym is.read ∙ rw read refl)))

@@ -1,0 +1,194 @@
+-- Reading attributes in runs is reading them one by one.
+use Rattle.std.proofs.Common.{◌≡◌, ℕ, ◌+◌, ◌<◌, ◌≤◌, ◌⊎◌, inl, inr, List, [], ◌∷◌, ◌++◌, Bool, true}
+use Rattle.std.proofs.Common.{false, cond, length, refl, ap, sym, ◌∙◌, subst, arith, append_assoc, append-nil}
+use Rattle.std.specs.Prelude.{Option, Some, None, Result, Ok, Err, nat_le}
+use Rattle.std.specs.Option.{option_map_or, option_to_list}
+use Rattle.std.proofs.lemmas.Bool.{cases_lt}
+use Rattle.std.proofs.lemmas.Option.{option_and_then_some, same_Some}
+use Rattle.dwarf_bytes.specs.declared.fault.Cause.{Cause}
+use Rattle.dwarf_bytes.specs.declared.fault.Cause.TheVariants as causes
+use Rattle.dwarf_bytes.specs.declared.format.Format.{Format}
+use Rattle.dwarf_bytes.specs.declared.form.ValueLayout.{ValueLayout}
+use Rattle.dwarf_bytes.specs.Bind.{◌>>=◌}
+use Rattle.dwarf_forms.specs.declared.attribute.AttributeSpecification.{AttributeSpecification}
+use Rattle.dwarf_units.specs.declared.attribute_run.LastAttribute.TheVariants.{Unchecked}
+use Rattle.dwarf_units.specs.declared.attribute_run.LastAttribute.TheVariants.{Checked}
+use Rattle.dwarf_units.specs.declared.attributes.Attribute.{Attribute}
+use Rattle.dwarf_units.specs.declared.used_position.UsedPosition.{UsedPosition}
+use Rattle.dwarf_units.specs.Entries.{attributes_at}
+use Rattle.dwarf_units.specs.Private.FixedSizes.{attributes_in, end_of, fixed_len}
+use Rattle.dwarf_units.specs.Private.FixedSizes.{used_position}
+use Rattle.dwarf_units.specs.Private.Runs.{Run, run_before, runs_at, runs_from}
+use Rattle.dwarf_units.specs.Private.Runs.{runs_of, unchecked_layout}
+use Rattle.dwarf_units.specs.Private.StoredAttributes.{stored_attributes, stored_attributes_at}
+use Rattle.dwarf_units.proofs.FixedPositions.{block-there, fixed-at}
+use Rattle.dwarf_units.proofs.StoredReads.{fault-first, front-none, stored-append}
+use Rattle.dwarf_units.proofs.StoredReads.{then_read, with_front}
+use Rattle.dwarf_units.proofs.RunParts.{ReadsLast, block-short, checked-one, front-more, kept_in}
+use Rattle.dwarf_units.proofs.RunParts.{stored-one, stored-within, unchecked-one}
+
+-- The runs of attributes that start n bytes after the start of the first run read these attributes.
+-- `used` has the positions in the first n bytes, which the first run contains.
+record AreRuns (format : Format) (n : ℕ) (used : List UsedPosition)
+    (declared : List AttributeSpecification) (runs : List Run) : Type 0 where
+  same : (keep : Bool) (bytes : List ℕ) (first : ℕ) → first + n ≤ length bytes
+      → runs_at keep format runs bytes first
+      ≡ (stored_attributes_at keep format declared bytes (first + n)
+      >>= with_front (kept_in keep format bytes first used))
+  short : (keep : Bool) (bytes : List ℕ) (first : ℕ) → length bytes < first + n
+      → runs_at keep format runs bytes first ≡ Err causes.Short
+
+start-same : (format : Format) (declared : List AttributeSpecification) (runs : List Run)
+    → AreRuns format 0 [] declared runs → (keep : Bool) (bytes : List ℕ) (at : ℕ)
+    → at ≤ length bytes → runs_at keep format runs bytes at
+    ≡ stored_attributes_at keep format declared bytes at
+start-same format declared runs are keep bytes at le =
+    let same : at + 0 ≡ at = omega arith in
+    rw same at (are.same keep bytes at (omega (arith, le)))
+    ∙ by_keep keep (stored_attributes_at keep format declared bytes at)
+  where
+    by_keep : (k : Bool) (r : Result (List Attribute × ℕ) Cause)
+        → (r >>= with_front (cond k (attributes_in format bytes at []) [])) ≡ r
+    by_keep true r = front-none r
+    by_keep false r = front-none r
+
+-- ---- one more attribute of a fixed size
+
+fixed-more : (format : Format) (n m : ℕ) (used : List UsedPosition) (s : AttributeSpecification)
+    (ss : List AttributeSpecification) (runs : List Run) → fixed_len format s ≡ Some m
+    → AreRuns format (n + m) (used ++ option_to_list (used_position n s)) ss runs
+    → AreRuns format n used (s ∷ ss) runs
+fixed-more format n m used s ss runs len more = record {
+  same = λ keep bytes first le.
+      by_first keep bytes first le (cases_lt (length bytes) (first + n + m));
+  short = λ keep bytes first lt. more.short keep bytes first (omega (arith, lt));
+}
+  where
+    by_first : (keep : Bool) (bytes : List ℕ) (first : ℕ) → first + n ≤ length bytes
+        → (length bytes < first + n + m) ⊎ (first + n + m ≤ length bytes)
+        → runs_at keep format runs bytes first
+        ≡ (stored_attributes_at keep format (s ∷ ss) bytes (first + n)
+        >>= with_front (kept_in keep format bytes first used))
+    by_first keep bytes first le (inl lt) =
+        let fault = fault-first keep format s ss bytes (first + n) causes.Short
+        ((fixed-at format s bytes first n m len le).short lt) in
+        more.short keep bytes first (omega (arith, lt))
+        ∙ sym (ap (λ (r : Result (List Attribute × ℕ) Cause). r
+        >>= with_front (kept_in keep format bytes first used)) fault)
+    by_first keep bytes first le (inr there) =
+        let place : first + n + m ≡ first + (n + m) = omega arith in
+        let position : List UsedPosition = option_to_list (used_position n s) in
+        let here = stored-one keep format s bytes first n (first + n + m)
+        ((fixed-at format s bytes first n m len le).there there) in
+        let both = stored-append keep format (s ∷ []) ss bytes (first + n)
+        ∙ ap (λ (r : Result (List Attribute × ℕ) Cause). then_read r
+        (λ k. stored_attributes_at keep format ss bytes k)) here in
+        more.same keep bytes first (omega (arith, there))
+        ∙ (sym (front-more keep format bytes first used position
+        (stored_attributes_at keep format ss bytes (first + (n + m))))
+        ∙ (ap (λ (k : ℕ). (stored_attributes_at keep format ss bytes k
+        >>= with_front (kept_in keep format bytes first position))
+        >>= with_front (kept_in keep format bytes first used)) (sym place)
+        ∙ sym (ap (λ (r : Result (List Attribute × ℕ) Cause). r
+        >>= with_front (kept_in keep format bytes first used)) both)))
+
+-- ---- a run that ends with an attribute
+
+then-same : (r : Result (List Attribute × ℕ) Cause) (next other : ℕ → Result (List Attribute × ℕ)
+    Cause) (front : List Attribute)
+    → ((x : List Attribute × ℕ) → r ≡ Ok x → next x.1 ≡ other x.1)
+    → then_read (r >>= with_front front) next ≡ (then_read r other >>= with_front front)
+then-same (Err e) next other front same = refl
+then-same (Ok x) next other front same =
+    rw (same x refl) (by_rest (other x.1))
+  where
+    by_rest : (r : Result (List Attribute × ℕ) Cause) → (r >>= with_front (front ++ x.0))
+        ≡ ((r >>= with_front x.0) >>= with_front front)
+    by_rest (Ok rest) =
+        ap (λ (l : List Attribute). Ok (l, rest.1)) (append_assoc front x.0 rest.0)
+    by_rest (Err e) = refl
+
+last-more : (format : Format) (n : ℕ) (used : List UsedPosition) (s : AttributeSpecification)
+    (ss : List AttributeSpecification) (run : Run) (runs : List Run) → run.len ≡ n
+    → ReadsLast format n used s run → AreRuns format 0 [] ss runs
+    → AreRuns format n used (s ∷ ss) (run ∷ runs)
+last-more format n used s ss run runs len one more = record {
+  same = λ keep bytes first le.
+      ap (λ (r : Result (List Attribute × ℕ) Cause). then_read r (runs_at keep format runs bytes))
+      (one keep bytes first le)
+      ∙ (then-same (stored_attributes_at keep format (s ∷ []) bytes (first + n))
+      (runs_at keep format runs bytes) (λ k. stored_attributes_at keep format ss bytes k) _
+      (λ x is. from-start keep bytes x.1 (stored-within keep format (s ∷ []) bytes (first + n) x le
+      is))
+      ∙ ap (λ (r : Result (List Attribute × ℕ) Cause). r
+      >>= with_front (kept_in keep format bytes first used))
+      (sym (stored-append keep format (s ∷ []) ss bytes (first + n))));
+  short = λ keep bytes first lt.
+      rw (block-short run.len bytes first (omega (arith, len, lt))) refl;
+}
+  where
+    from-start : (keep : Bool) (bytes : List ℕ) (at : ℕ) → at ≤ length bytes
+        → runs_at keep format runs bytes at ≡ stored_attributes_at keep format ss bytes at
+    from-start keep bytes at le = start-same format ss runs more keep bytes at le
+
+-- ---- all attributes
+
+ended : (n m end : ℕ) (b : Bool) → cond b (Some (n + m)) None ≡ Some end → n + m ≡ end
+ended n m end true is = same_Some (n + m) end is
+ended n m end false is = cc
+
+have-runs : (format : Format) (n : ℕ) (used : List UsedPosition)
+    (declared : List AttributeSpecification)
+    → AreRuns format n used declared (runs_from format n used declared)
+unfolding runs_from attributes_at
+have-runs format n used [] = record {
+  same = λ keep bytes first le. rw (block-there n bytes first le).1
+      (by_keep keep (kept_in keep format bytes first used) (first + n));
+  short = λ keep bytes first lt. rw (block-short n bytes first lt) refl;
+}
+  where
+    result : List Attribute → ℕ → Result (List Attribute × ℕ) Cause
+    result all end = Ok (all, end)
+
+    by_keep : (k : Bool) (front : List Attribute) (end : ℕ) → result ((front ++ []) ++ []) end
+        ≡ result (front ++ stored_attributes k []) end
+    by_keep true front end = ap (λ l. result l end) (append-nil (front ++ []))
+    by_keep false front end = ap (λ l. result l end) (append-nil (front ++ []))
+have-runs format n used (s ∷ ss) =
+    by_end (λ end more. have-runs format end more ss) (end_of format n s) refl
+  where
+    position : List UsedPosition
+    position = option_to_list (used_position n s)
+
+    by_layout : (layout : Option ValueLayout) → unchecked_layout s ≡ layout
+        → AreRuns format 0 [] ss (runs_from format 0 [] ss)
+        → AreRuns format n used (s ∷ ss) (option_map_or (λ layout. record {
+          len = n;
+          used = used ++ position;
+          last = Unchecked layout;
+        }) layout (record { len = n; used = used; last = Checked s }) ∷ runs_from format 0 [] ss)
+    by_layout None is more = last-more format n used s ss _ (runs_from format 0 [] ss) refl
+        (checked-one format n used s) more
+    by_layout (Some layout) is more = last-more format n used s ss _ (runs_from format 0 [] ss)
+        refl (unchecked-one format n used s layout is) more
+
+    by_end : ((end : ℕ) (more : List UsedPosition)
+        → AreRuns format end more ss (runs_from format end more ss))
+        → (end : Option ℕ) → end_of format n s ≡ end → AreRuns format n used (s ∷ ss)
+        (option_map_or (λ end. runs_from format end (used ++ position) ss) end
+        (run_before n used s ∷ runs_from format 0 [] ss))
+    by_end more None is = by_layout (unchecked_layout s) refl (more 0 [])
+    by_end more (Some end) is =
+        option_and_then_some (λ m. cond (nat_le (n + m) 65535) (Some (n + m)) None)
+        (fixed_len format s) end is (λ m len small.
+        let same : n + m ≡ end = ended n m end (nat_le (n + m) 65535) small in
+        subst (λ (k : ℕ). AreRuns format n used (s ∷ ss) (runs_from format k (used ++ position) ss))
+        same (fixed-more format n m used s ss (runs_from format (n + m) (used ++ position) ss) len
+        (more (n + m) (used ++ position))))
+
+pub runs-read : (keep : Bool) (format : Format) (declared : List AttributeSpecification)
+    (bytes : List ℕ) (at : ℕ) → at ≤ length bytes
+    → runs_at keep format (runs_of format declared) bytes at
+    ≡ stored_attributes_at keep format declared bytes at
+runs-read keep format declared bytes at le = start-same format declared
+    (runs_of format declared) (have-runs format 0 [] declared) keep bytes at le

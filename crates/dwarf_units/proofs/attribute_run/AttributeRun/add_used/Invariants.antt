@@ -1,0 +1,10 @@
+use Rattle.std.proofs.Common.{◌≡◌, drop}
+use Rattle.dwarf_units.specs.Private.FixedSizes.{attributes_in}
+use Rattle.dwarf_units.specs.Private.Used.{with_used}
+use Rattle.dwarf_units.proofs.attribute_run.AttributeRun.add_used.Given as goal
+
+abbrev pub invariant-loop-position : goal.invariant-loop-position
+invariant-loop-position l =
+    with_used l.found (attributes_in l.format l.first.bytes l.first.place
+    (drop l.position-index l.position-items))
+    ≡ with_used l.fn.found (attributes_in l.format l.first.bytes l.first.place l.self.used)

@@ -1,0 +1,121 @@
+-- The attributes of a declaration in runs: attributes of a fixed size, and the attribute after them.
+use Rattle.std.specs.Prelude.{ℕ, List, [], ◌∷◌, ◌++◌, map, Option, Some, None, Result, Ok}
+use Rattle.std.specs.Prelude.{Bool, true, false, ◌&&◌, if◌then◌else◌}
+use Rattle.std.specs.Option.{option_map_or, option_to_list}
+use Rattle.dwarf_bytes.specs.declared.fault.Cause.{Cause}
+use Rattle.dwarf_bytes.specs.declared.format.Format.{Format}
+use Rattle.dwarf_bytes.specs.declared.form.ValueLayout.{ValueLayout}
+use Rattle.dwarf_bytes.specs.declared.form.ValueLayout.TheVariants as layouts
+use Rattle.dwarf_bytes.specs.declared.form.ValueLayout.TheVariants.{Fixed, Offset, Present}
+use Rattle.dwarf_bytes.specs.declared.form.ValueLayout.TheVariants.{Unsigned, Text, Sixteen, Block}
+use Rattle.dwarf_bytes.specs.declared.form.ValueLayout.TheVariants.{LongBlock}
+use Rattle.dwarf_bytes.specs.declared.form.Form.TheVariants.{Direct, ImplicitConst, Indirect}
+use Rattle.dwarf_bytes.specs.Bind.{◌>>=◌}
+use Rattle.dwarf_bytes.specs.Contents.{content_at}
+use Rattle.dwarf_bytes.specs.Forms.{form_of}
+use Rattle.dwarf_bytes.specs.Items.{reading}
+use Rattle.dwarf_bytes.specs.Numbers.{block_at}
+use Rattle.dwarf_forms.specs.declared.attribute.AttributeSpecification.{AttributeSpecification}
+use Rattle.dwarf_forms.specs.Private.SharedTables.{SharedDeclaration}
+use Rattle.dwarf_units.specs.declared.attributes.Attribute.{Attribute}
+use Rattle.dwarf_units.specs.declared.attribute_run.LastAttribute.{LastAttribute}
+use Rattle.dwarf_units.specs.declared.attribute_run.LastAttribute.TheVariants.{Absent, Unchecked}
+use Rattle.dwarf_units.specs.declared.attribute_run.LastAttribute.TheVariants.{Checked}
+use Rattle.dwarf_units.specs.declared.used_position.UsedPosition.{UsedPosition}
+use Rattle.dwarf_units.specs.Attributes.{accepts, is_used}
+use Rattle.dwarf_units.specs.Private.FixedSizes.{attributes_in, end_of, used_position}
+use Rattle.dwarf_units.specs.Private.StoredAttributes.{stored_attributes_at}
+
+-- ---- attributes whose values need no check
+
+abbrev pub is_signed : ValueLayout → Bool
+is_signed layouts.Signed = true
+is_signed layout = false
+
+-- A layout, if an attribute with this name has no invalid value in it. A used attribute must not be
+-- negative.
+abbrev pub valid_layout : ℕ → ValueLayout → Option ValueLayout
+valid_layout name layout = if is_used name && is_signed layout then None else Some layout
+
+-- The layout of an attribute, if it may have its form and every value in this layout is valid.
+unfoldable pub unchecked_layout : AttributeSpecification → Option ValueLayout
+unchecked_layout s = if accepts s.name s.form then (elim (form_of s.form) [
+  | None ↦ None
+  | Some (Direct layout) ↦ valid_layout s.name layout
+  | Some ImplicitConst ↦ None
+  | Some Indirect ↦ None
+]) else None
+
+-- ---- runs
+
+-- The size of the attributes of a fixed size, the positions of the used attributes relative to the
+-- start of the run, and the attribute after those of a fixed size.
+pub record Run : Type 0 where
+  pub len : ℕ
+  pub used : List UsedPosition
+  pub last : LastAttribute
+
+-- The run of n bytes that ends with an attribute. `used` has the positions before it.
+abbrev pub run_before : ℕ → List UsedPosition → AttributeSpecification → Run
+run_before n used s = option_map_or (λ layout. record {
+  len = n;
+  used = used ++ option_to_list (used_position n s);
+  last = Unchecked layout;
+}) (unchecked_layout s) (record { len = n; used = used; last = Checked s })
+
+-- The runs of attributes, the first of which starts n bytes after the start of its run. `used` has
+-- the positions before it.
+unfoldable pub runs_from : Format → ℕ → List UsedPosition → List AttributeSpecification → List Run
+runs_from format n used [] = record { len = n; used = used; last = Absent } ∷ []
+runs_from format n used (s ∷ ss) = option_map_or
+    (λ end. runs_from format end (used ++ option_to_list (used_position n s)) ss)
+    (end_of format n s) (run_before n used s ∷ runs_from format 0 [] ss)
+
+abbrev pub runs_of : Format → List AttributeSpecification → List Run
+runs_of format declared = runs_from format 0 [] declared
+
+-- The runs of the unshared attributes of each declaration.
+abbrev pub own_runs : Format → List SharedDeclaration → List (List Run)
+own_runs format declarations = map (λ declaration. runs_of format declaration.list.own) declarations
+
+-- ---- the size of all attributes
+
+abbrev pub size_before : ℕ → LastAttribute → Option ℕ
+size_before n Absent = Some n
+size_before n (Unchecked layout) = None
+size_before n (Checked s) = None
+
+-- The size of all attributes, if it is fixed.
+abbrev pub fixed_size : List Run → Option ℕ
+fixed_size [] = None
+fixed_size (run ∷ []) = size_before run.len run.last
+fixed_size (run ∷ next ∷ runs) = None
+
+-- ---- attributes that are read in runs
+
+-- The offset after a value in a layout.
+abbrev pub end_in : ValueLayout → Format → List ℕ → ℕ → Result ℕ Cause
+end_in layout format bytes at =
+    reading (content_at layout format bytes at) >>= λ content. Ok content.1
+
+-- The stored attributes and the offset after the last attribute. The positions of the run include a
+-- used attribute whose value needs no check.
+abbrev pub last_at : Bool → Format → LastAttribute → List ℕ → ℕ
+    → Result (List Attribute × ℕ) Cause
+last_at keep format Absent bytes at = Ok ([], at)
+last_at keep format (Unchecked layout) bytes at =
+    end_in layout format bytes at >>= λ end. Ok ([], end)
+last_at keep format (Checked s) bytes at = stored_attributes_at keep format (s ∷ []) bytes at
+
+abbrev pub run_at : Bool → Format → Run → List ℕ → ℕ → Result (List Attribute × ℕ) Cause
+run_at keep format run bytes at = do
+  block ← reading (block_at run.len bytes at)
+  last ← last_at keep format run.last bytes block.1
+  Ok ((if keep then attributes_in format bytes at run.used else []) ++ last.0, last.1)
+
+abbrev pub runs_at : Bool → Format → List Run → List ℕ → ℕ → Result (List Attribute × ℕ) Cause
+runs_at keep format [] bytes at = Ok ([], at)
+runs_at keep format (run ∷ runs) bytes at = do
+  first ← run_at keep format run bytes at
+  rest ← runs_at keep format runs bytes first.1
+  Ok (first.0 ++ rest.0, rest.1)

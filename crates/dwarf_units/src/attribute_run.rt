@@ -1,0 +1,172 @@
+//! A run of attributes: attributes of a fixed size, and the attribute after them (DWARF 5, 7.5.3).
+
+ghost use Rattle.std.specs.Prelude.{◌≡◌, ◌++◌, [], IfOk, OnOk, if◌then◌else◌};
+ghost use Rattle.std.specs.Option.{option_to_list};
+ghost use Rattle.dwarf_bytes.specs.Refusals.{ReadsPlace};
+ghost use Rattle.dwarf_units.specs.Private.FixedSizes.{attributes_in};
+ghost use Rattle.dwarf_units.specs.Private.Runs.{end_in, last_at, run_at, run_before, size_before};
+ghost use Rattle.dwarf_units.specs.Private.StoredAttributes.{Fills};
+ghost use Rattle.dwarf_units.specs.Private.Used.{used_after, with_used};
+
+use crate::attribute_reader::read_one;
+use crate::fixed_sizes::unchecked_layout;
+use crate::used_attributes::UsedAttributes;
+use crate::used_position::UsedPosition;
+use dwarf_bytes::{Cause, Content, Cursor, Format, ValueLayout};
+use dwarf_forms::AttributeSpecification;
+use std::alloc::AllocError;
+use std::marker::Model;
+
+/// The attribute after the attributes of a fixed size.
+#[derive(Clone, Copy)]
+pub(crate) enum LastAttribute {
+    /// There is none.
+    Absent,
+    /// An attribute whose value has this layout and needs no check.
+    Unchecked(ValueLayout),
+    /// Any other attribute.
+    Checked(AttributeSpecification),
+}
+
+/// Attributes of a fixed size, and the attribute after them.
+#[derive(Drop)]
+pub(crate) struct AttributeRun {
+    /// The size of the attributes of a fixed size in bytes.
+    pub(crate) len: u16,
+    pub(crate) used: Vec<UsedPosition>,
+    pub(crate) last: LastAttribute,
+}
+
+impl Model for AttributeRun {
+    ghost use Rattle.dwarf_units.specs.Private.Runs.{Run};
+
+    ghost Value = { Run };
+
+    ghost view = { λ r. record { len = r.len; used = r.used.items; last = r.last } };
+}
+
+impl AttributeRun {
+    /// Ends a run with an attribute that starts `len` bytes after the start of the run. `used` has
+    /// the positions of the attributes before it.
+    pub(crate) fn of(
+        len: u16,
+        mut used: Vec<UsedPosition>,
+        specification: &AttributeSpecification,
+    ) -> Result<AttributeRun, AllocError>
+        ensures { IfOk result (λ run. run ≡ run_before len used.items specification.now) }
+    {
+        let Some(layout) = unchecked_layout(specification) else {
+            let last = LastAttribute::Checked(*specification);
+            return Ok(AttributeRun { len, used, last });
+        };
+        push_position(&mut used, UsedPosition::of(len, specification))?;
+        let last = LastAttribute::Unchecked(layout);
+        Ok(AttributeRun { len, used, last })
+    }
+
+    /// Returns the size of the attributes, if there is none after those of a fixed size.
+    pub(crate) fn fixed_size(&self) -> Option<u16>
+        ensures { result ≡ size_before self.now.len self.now.last }
+    {
+        match self.last {
+            LastAttribute::Absent => Some(self.len),
+            _ => None,
+        }
+    }
+
+    /// Reads the attributes of an entry, which start at the cursor. Adds the used ones to `found`
+    /// if `keep` is set.
+    // Inlined: called for each entry.
+    #[inline(always)]
+    pub(crate) fn read(
+        &self,
+        keep: bool,
+        format: Format,
+        cursor: &mut Cursor,
+        found: &mut UsedAttributes,
+    ) -> Result<(), Cause>
+        ensures { Fills result found.new (λ bytes at. used_after found.old
+            (run_at keep format self.now bytes at)) cursor.old cursor.new }
+    {
+        let first = cursor.fork();
+        cursor.block(u64::from(self.len))?;
+        self.add_used(keep, format, &first, found);
+        self.last.read(keep, format, cursor, found)
+    }
+
+    /// Adds the used attributes of an entry whose first attribute of the run is at the cursor, if
+    /// `keep` is set.
+    // Inlined: called for each entry.
+    #[inline(always)]
+    fn add_used(&self, keep: bool, format: Format, first: &Cursor, found: &mut UsedAttributes)
+        ensures { found.new ≡ with_used found.old (if keep then attributes_in format
+            first.now.bytes first.now.place self.now.used else []) }
+    {
+        if !keep {
+            return;
+        }
+        for position in &self.used {
+            found.add(position.name, position.read(format, first));
+        }
+    }
+}
+
+impl LastAttribute {
+    /// Reads the attribute at the cursor. Adds a checked attribute to `found` if it is used and
+    /// `keep` is set.
+    // Inlined: called for each entry.
+    #[inline(always)]
+    fn read(
+        &self,
+        keep: bool,
+        format: Format,
+        cursor: &mut Cursor,
+        found: &mut UsedAttributes,
+    ) -> Result<(), Cause>
+        ensures { Fills result found.new (λ bytes at. used_after found.old
+            (last_at keep format self.now bytes at)) cursor.old cursor.new }
+    {
+        match self {
+            LastAttribute::Absent => Ok(()),
+            LastAttribute::Unchecked(layout) => skip(*layout, format, cursor),
+            LastAttribute::Checked(specification) => {
+                read_one(keep, format, specification, cursor, found)
+            }
+        }
+    }
+}
+
+/// Skips a value. The most common layouts have an arm of their own.
+// Inlined: called for each entry.
+#[inline(always)]
+#[tactic(auto, unfolding(dwarf_bytes::specs::Contents::content_at))]
+fn skip(layout: ValueLayout, format: Format, cursor: &mut Cursor) -> Result<(), Cause>
+    ensures { ReadsPlace result (end_in layout format) cursor.old cursor.new }
+{
+    match layout {
+        ValueLayout::Unsigned => {
+            cursor.uleb()?;
+        }
+        ValueLayout::LongBlock => {
+            let len = cursor.uleb()?;
+            cursor.block(len)?;
+        }
+        _ => {
+            Content::read(layout, format, cursor)?;
+        }
+    }
+    Ok(())
+}
+
+/// Appends a position, if there is one.
+pub(crate) fn push_position(
+    used: &mut Vec<UsedPosition>,
+    position: Option<UsedPosition>,
+) -> Result<(), AllocError>
+    ensures { OnOk result (used.new.items ≡ used.old.items ++ option_to_list position) }
+{
+    if let Some(position) = position {
+        used.push(position)?;
+    }
+    Ok(())
+}

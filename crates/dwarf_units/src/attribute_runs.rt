@@ -1,0 +1,104 @@
+//! The attributes of a declaration in runs (DWARF 5, 7.5.3).
+
+ghost use Rattle.std.specs.Prelude.{◌≡◌, IfOk};
+ghost use Rattle.dwarf_units.specs.Private.Runs.{fixed_size, own_runs, runs_at, runs_of};
+ghost use Rattle.dwarf_units.specs.Private.StoredAttributes.{Fills};
+ghost use Rattle.dwarf_units.specs.Private.Used.{used_after};
+
+use crate::attribute_run::{AttributeRun, LastAttribute, push_position};
+use crate::fixed_sizes::end_of;
+use crate::used_attributes::UsedAttributes;
+use crate::used_position::UsedPosition;
+use dwarf_bytes::{Cause, Cursor, Format};
+use dwarf_forms::{AbbreviationTable, AttributeSpecification};
+use std::alloc::{AllocError, Global};
+use std::marker::Model;
+
+/// The unshared attributes of the entries of a declaration. Only the last run may lack an attribute
+/// after those of a fixed size.
+#[derive(Drop)]
+pub(crate) struct AttributeRuns {
+    runs: Vec<AttributeRun>,
+}
+
+impl Model for AttributeRuns {
+    ghost use Rattle.std.specs.Prelude.{List};
+    ghost use Rattle.dwarf_units.specs.Private.Runs.{Run};
+
+    ghost Value = { List Run };
+
+    ghost view = { λ r. r.runs.items };
+}
+
+impl AttributeRuns {
+    /// Computes the runs of a list of attributes.
+    fn of(
+        alloc: Global,
+        format: Format,
+        declared: &[AttributeSpecification],
+    ) -> Result<AttributeRuns, AllocError>
+        ensures { IfOk result (λ runs. runs ≡ runs_of format declared.now) }
+    {
+        let mut runs = Vec::new(alloc);
+        let mut len = 0u16;
+        let mut used = Vec::new(alloc);
+        for specification in declared {
+            if let Some(end) = end_of(format, len, specification) {
+                push_position(&mut used, UsedPosition::of(len, specification))?;
+                len = end;
+                continue;
+            }
+            runs.push(AttributeRun::of(len, used, specification)?)?;
+            len = 0;
+            used = Vec::new(alloc);
+        }
+        let last = LastAttribute::Absent;
+        runs.push(AttributeRun { len, used, last })?;
+        Ok(AttributeRuns { runs })
+    }
+
+    /// Returns the size of all attributes in bytes, if it is fixed.
+    pub(crate) fn fixed_size(&self) -> Option<u16>
+        ensures { result ≡ fixed_size self.now }
+    {
+        match self.runs.as_slice() {
+            [run] => run.fixed_size(),
+            _ => None,
+        }
+    }
+
+    /// Reads the attributes of an entry, which start at the cursor. Adds the used ones to `found`
+    /// if `keep` is set.
+    // Inlined: called for each entry.
+    #[inline(always)]
+    pub(crate) fn read(
+        &self,
+        keep: bool,
+        format: Format,
+        cursor: &mut Cursor,
+        found: &mut UsedAttributes,
+    ) -> Result<(), Cause>
+        ensures { Fills result found.new (λ bytes at. used_after found.old
+            (runs_at keep format self.now bytes at)) cursor.old cursor.new }
+    {
+        for run in &self.runs {
+            run.read(keep, format, cursor, found)?;
+        }
+        Ok(())
+    }
+}
+
+/// Computes the runs of the unshared attributes of each declaration of a table.
+pub(crate) fn own_runs(
+    alloc: Global,
+    format: Format,
+    table: &AbbreviationTable,
+) -> Result<Vec<AttributeRuns>, AllocError>
+    ensures { IfOk result (λ runs. runs.items ≡ own_runs format table.now) }
+{
+    let mut runs = Vec::new(alloc);
+    for declaration in table.declarations() {
+        runs.push(AttributeRuns::of(alloc, format, declaration.list().own())?)?;
+    }
+    Ok(runs)
+}
