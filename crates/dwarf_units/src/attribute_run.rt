@@ -151,8 +151,13 @@ fn skip(layout: ValueLayout, format: Format, cursor: &mut Cursor) -> Result<(), 
             let len = cursor.uleb()?;
             cursor.block(len)?;
         }
+        ValueLayout::Text => {
+            cursor.cstr()?;
+        }
         _ => {
-            Content::read(layout, format, cursor)?;
+            let mut copy = cursor.fork();
+            Content::read(layout, format, &mut copy)?;
+            *cursor = copy;
         }
     }
     Ok(())

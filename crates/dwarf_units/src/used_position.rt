@@ -124,7 +124,12 @@ fn read_number(format: Format, layout: ValueLayout, cursor: &mut Cursor) -> Resu
         ValueLayout::Fixed(Width::Two) => u64::from(cursor.u16()?),
         ValueLayout::Fixed(Width::Four) => u64::from(cursor.u32()?),
         ValueLayout::Fixed(Width::Eight) => cursor.u64()?,
-        _ => read_content(format, layout, cursor)?,
+        _ => {
+            let mut copy = cursor.fork();
+            let number = read_content(format, layout, &mut copy)?;
+            *cursor = copy;
+            number
+        }
     })
 }
 
