@@ -9,6 +9,7 @@ pub mod NodeLaws
 pub mod EntryOrder
 pub mod RereadLaws
 pub mod FixedValues
+pub mod UncheckedValues
 pub mod FixedReads
 pub mod FixedPositions
 pub mod RunParts

@@ -26,12 +26,8 @@ use Rattle.dwarf_units.specs.Entries.{depth_limit}
 use Rattle.dwarf_units.specs.Private.NodeShapes.{AreShapes, IsFixedSizeNode, code_limit}
 use Rattle.dwarf_units.specs.Private.NodeShapes.{null_shape, shape_at, shape_count}
 use Rattle.dwarf_units.specs.Private.NodeShapes.{shape_of, shape_of_code}
-use Rattle.dwarf_units.specs.Private.Runs.{Run, fixed_size, runs_at, runs_of, size_before}
+use Rattle.dwarf_units.specs.Private.Runs.{Run, Stretch, fixed_size, runs_at, runs_of}
 use Rattle.dwarf_units.specs.Private.StoredAttributes.{stored_attributes_at}
-use Rattle.dwarf_units.specs.declared.attribute_run.LastAttribute.{LastAttribute}
-use Rattle.dwarf_units.specs.declared.attribute_run.LastAttribute.TheVariants.{Absent, Unchecked}
-use Rattle.dwarf_units.specs.declared.attribute_run.LastAttribute.TheVariants.{Checked}
-use Rattle.dwarf_units.specs.declared.used_position.UsedPosition.{UsedPosition}
 use Rattle.dwarf_units.specs.Private.AbbreviationTables.{Table}
 use Rattle.dwarf_bytes.proofs.Numbers.Moves.{same-ok}
 use Rattle.dwarf_units.proofs.FixedPositions.{block-there}
@@ -105,7 +101,8 @@ same-end end last h = ap (λ (r : List Attribute × ℕ). r.1) (same-ok ([], end
 fixed-there : (format : Format) (declared : List AttributeSpecification) (bytes : List ℕ)
     (at size : ℕ) → fixed_size (runs_of format declared) ≡ Some size → at + size ≤ length bytes
     → (all : List Attribute) × (attributes_at format declared bytes at ≡ Ok (all, at + size))
-fixed-there format declared bytes at size is le = by_runs (runs_of format declared) is
+fixed-there format declared bytes at size is le =
+    by_runs (runs_of format declared).runs (runs_of format declared).rest is
     (runs-read false format declared bytes at (omega (arith, le)))
   where
     by_read : (end : ℕ) (r : Result (List Attribute × ℕ) Cause) → Ok ([], end) ≡ (r
@@ -114,24 +111,22 @@ fixed-there format declared bytes at size is le = by_runs (runs_of format declar
         (all.0, ap (λ (k : ℕ). Ok (all.0, k)) (sym (same-end end all.1 read) ∙ same))
     by_read end (Err e) read same = cc
 
-    by_last : (n : ℕ) (used : List UsedPosition) (last : LastAttribute)
-        → size_before n last ≡ Some size
-        → runs_at false format (record { len = n; used = used; last = last } ∷ []) bytes at
+    by_runs : (runs : List Run) (rest : Stretch)
+        → cond (length runs == 0) (Some rest.len) None ≡ Some size
+        → runs_at false format runs rest bytes at
         ≡ stored_attributes_at false format declared bytes at
         → (all : List Attribute) × (attributes_at format declared bytes at ≡ Ok (all, at + size))
-    by_last n used Absent is read =
-        let len : n ≡ size = same_Some n size is in
-        by_read (at + n) (attributes_at format declared bytes at)
-        (rw (block-there n bytes at (omega (arith, len, le))).1 at read) (omega (arith, len))
-    by_last n used (Unchecked layout) is read = cc
-    by_last n used (Checked s) is read = cc
-
-    by_runs : (runs : List Run) → fixed_size runs ≡ Some size → runs_at false format runs bytes at
-        ≡ stored_attributes_at false format declared bytes at
-        → (all : List Attribute) × (attributes_at format declared bytes at ≡ Ok (all, at + size))
-    by_runs [] is read = cc
-    by_runs (run ∷ []) is read = by_last run.len run.used run.last is read
-    by_runs (run ∷ next ∷ runs) is read = cc
+    by_runs [] rest is read =
+        let len : rest.len ≡ size = same_Some rest.len size is in
+        by_read (at + rest.len) (attributes_at format declared bytes at)
+        (rw (block-there rest.len bytes at (omega (arith, len, le))).1 at read) (omega (arith, len))
+    by_runs (run ∷ runs) rest is read = by_test (length (run ∷ runs) == 0)
+        (ne_eqb (length (run ∷ runs)) 0 (λ e. absurd (omega (arith, e)))) is
+      where
+        by_test : (b : Bool) → b ≡ false → cond b (Some rest.len) None ≡ Some size
+            → (all : List Attribute) × (attributes_at format declared bytes at ≡ Ok (all, at + size))
+        by_test true apart is = cc
+        by_test false apart is = cc
 
 pub shape-there : (table : Table) (depth code : ℕ) (unit : List ℕ) (at : ℕ) (shape : NodeShape)
     → shape_at table code ≡ Some shape → slice_get unit at ≡ Some code → 0 < depth

@@ -32,7 +32,7 @@ use Rattle.dwarf_units.specs.Private.StoredAttributes.{stored_attributes, stored
 use Rattle.dwarf_units.proofs.EntryAdvances.{attributes-stay}
 use Rattle.dwarf_units.proofs.FixedPositions.{block-there, direct-value}
 use Rattle.dwarf_units.proofs.FixedReads.{ReadsFixed, block-fixed}
-use Rattle.dwarf_units.proofs.FixedValues.{IsInLayout, unchecked-read}
+use Rattle.dwarf_units.proofs.UncheckedValues.{IsInLayout, unchecked-read}
 use Rattle.dwarf_units.proofs.NameLaws.{found-number, used-none, used-some}
 use Rattle.dwarf_units.proofs.StoredReads.{fault-first, stored_all}
 use Rattle.dwarf_units.proofs.StoredReads.{with_front}
@@ -133,13 +133,15 @@ ReadsLast format n used s run = (keep : Bool) (bytes : List ℕ) (first : ℕ)
     >>= with_front (kept_in keep format bytes first used))
 
 pub checked-one : (format : Format) (n : ℕ) (used : List UsedPosition) (s : AttributeSpecification)
-    → ReadsLast format n used s (record { len = n; used = used; last = Checked s })
+    → ReadsLast format n used s (record {
+      stretch = record { len = n; used = used };
+      last = Checked s;
+    })
 checked-one format n used s keep bytes first le = rw (block-there n bytes first le).1 refl
 
 pub unchecked-one : (format : Format) (n : ℕ) (used : List UsedPosition) (s : AttributeSpecification)
     (layout : ValueLayout) → unchecked_layout s ≡ Some layout → ReadsLast format n used s (record {
-      len = n;
-      used = used ++ option_to_list (used_position n s);
+      stretch = record { len = n; used = used ++ option_to_list (used_position n s) };
       last = Unchecked layout;
     })
 unchecked-one format n used s layout unchecked keep bytes first le =

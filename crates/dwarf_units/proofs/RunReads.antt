@@ -18,31 +18,31 @@ use Rattle.dwarf_units.specs.declared.used_position.UsedPosition.{UsedPosition}
 use Rattle.dwarf_units.specs.Entries.{attributes_at}
 use Rattle.dwarf_units.specs.Private.FixedSizes.{attributes_in, end_of, fixed_len}
 use Rattle.dwarf_units.specs.Private.FixedSizes.{used_position}
-use Rattle.dwarf_units.specs.Private.Runs.{Run, run_before, runs_at, runs_from}
-use Rattle.dwarf_units.specs.Private.Runs.{runs_of, unchecked_layout}
+use Rattle.dwarf_units.specs.Private.Runs.{Run, Runs, all_at, run_before, runs_from, runs_of}
+use Rattle.dwarf_units.specs.Private.Runs.{then_read, unchecked_layout}
 use Rattle.dwarf_units.specs.Private.StoredAttributes.{stored_attributes, stored_attributes_at}
 use Rattle.dwarf_units.proofs.FixedPositions.{block-there, fixed-at}
 use Rattle.dwarf_units.proofs.StoredReads.{fault-first, front-none, stored-append}
-use Rattle.dwarf_units.proofs.StoredReads.{then_read, with_front}
+use Rattle.dwarf_units.proofs.StoredReads.{with_front}
 use Rattle.dwarf_units.proofs.RunParts.{ReadsLast, block-short, checked-one, front-more, kept_in}
 use Rattle.dwarf_units.proofs.RunParts.{stored-one, stored-within, unchecked-one}
 
 -- The runs of attributes that start n bytes after the start of the first run read these attributes.
 -- `used` has the positions in the first n bytes, which the first run contains.
 record AreRuns (format : Format) (n : ℕ) (used : List UsedPosition)
-    (declared : List AttributeSpecification) (runs : List Run) : Type 0 where
+    (declared : List AttributeSpecification) (all : Runs) : Type 0 where
   same : (keep : Bool) (bytes : List ℕ) (first : ℕ) → first + n ≤ length bytes
-      → runs_at keep format runs bytes first
+      → all_at keep format all bytes first
       ≡ (stored_attributes_at keep format declared bytes (first + n)
       >>= with_front (kept_in keep format bytes first used))
   short : (keep : Bool) (bytes : List ℕ) (first : ℕ) → length bytes < first + n
-      → runs_at keep format runs bytes first ≡ Err causes.Short
+      → all_at keep format all bytes first ≡ Err causes.Short
 
-start-same : (format : Format) (declared : List AttributeSpecification) (runs : List Run)
-    → AreRuns format 0 [] declared runs → (keep : Bool) (bytes : List ℕ) (at : ℕ)
-    → at ≤ length bytes → runs_at keep format runs bytes at
+start-same : (format : Format) (declared : List AttributeSpecification) (all : Runs)
+    → AreRuns format 0 [] declared all → (keep : Bool) (bytes : List ℕ) (at : ℕ)
+    → at ≤ length bytes → all_at keep format all bytes at
     ≡ stored_attributes_at keep format declared bytes at
-start-same format declared runs are keep bytes at le =
+start-same format declared all are keep bytes at le =
     let same : at + 0 ≡ at = omega arith in
     rw same at (are.same keep bytes at (omega (arith, le)))
     ∙ by_keep keep (stored_attributes_at keep format declared bytes at)
@@ -55,10 +55,10 @@ start-same format declared runs are keep bytes at le =
 -- ---- one more attribute of a fixed size
 
 fixed-more : (format : Format) (n m : ℕ) (used : List UsedPosition) (s : AttributeSpecification)
-    (ss : List AttributeSpecification) (runs : List Run) → fixed_len format s ≡ Some m
-    → AreRuns format (n + m) (used ++ option_to_list (used_position n s)) ss runs
-    → AreRuns format n used (s ∷ ss) runs
-fixed-more format n m used s ss runs len more = record {
+    (ss : List AttributeSpecification) (all : Runs) → fixed_len format s ≡ Some m
+    → AreRuns format (n + m) (used ++ option_to_list (used_position n s)) ss all
+    → AreRuns format n used (s ∷ ss) all
+fixed-more format n m used s ss all len more = record {
   same = λ keep bytes first le.
       by_first keep bytes first le (cases_lt (length bytes) (first + n + m));
   short = λ keep bytes first lt. more.short keep bytes first (omega (arith, lt));
@@ -66,7 +66,7 @@ fixed-more format n m used s ss runs len more = record {
   where
     by_first : (keep : Bool) (bytes : List ℕ) (first : ℕ) → first + n ≤ length bytes
         → (length bytes < first + n + m) ⊎ (first + n + m ≤ length bytes)
-        → runs_at keep format runs bytes first
+        → all_at keep format all bytes first
         ≡ (stored_attributes_at keep format (s ∷ ss) bytes (first + n)
         >>= with_front (kept_in keep format bytes first used))
     by_first keep bytes first le (inl lt) =
@@ -109,27 +109,23 @@ then-same (Ok x) next other front same =
     by_rest (Err e) = refl
 
 last-more : (format : Format) (n : ℕ) (used : List UsedPosition) (s : AttributeSpecification)
-    (ss : List AttributeSpecification) (run : Run) (runs : List Run) → run.len ≡ n
-    → ReadsLast format n used s run → AreRuns format 0 [] ss runs
-    → AreRuns format n used (s ∷ ss) (run ∷ runs)
-last-more format n used s ss run runs len one more = record {
+    (ss : List AttributeSpecification) (run : Run) (others : Runs) → run.stretch.len ≡ n
+    → ReadsLast format n used s run → AreRuns format 0 [] ss others
+    → AreRuns format n used (s ∷ ss) (record others { runs = run ∷ others.runs })
+last-more format n used s ss run others len one more = record {
   same = λ keep bytes first le.
-      ap (λ (r : Result (List Attribute × ℕ) Cause). then_read r (runs_at keep format runs bytes))
+      ap (λ (r : Result (List Attribute × ℕ) Cause). then_read r (all_at keep format others bytes))
       (one keep bytes first le)
       ∙ (then-same (stored_attributes_at keep format (s ∷ []) bytes (first + n))
-      (runs_at keep format runs bytes) (λ k. stored_attributes_at keep format ss bytes k) _
-      (λ x is. from-start keep bytes x.1 (stored-within keep format (s ∷ []) bytes (first + n) x le
-      is))
+      (all_at keep format others bytes) (λ k. stored_attributes_at keep format ss bytes k) _
+      (λ x is. start-same format ss others more keep bytes x.1
+      (stored-within keep format (s ∷ []) bytes (first + n) x le is))
       ∙ ap (λ (r : Result (List Attribute × ℕ) Cause). r
       >>= with_front (kept_in keep format bytes first used))
       (sym (stored-append keep format (s ∷ []) ss bytes (first + n))));
   short = λ keep bytes first lt.
-      rw (block-short run.len bytes first (omega (arith, len, lt))) refl;
+      rw (block-short run.stretch.len bytes first (omega (arith, len, lt))) refl;
 }
-  where
-    from-start : (keep : Bool) (bytes : List ℕ) (at : ℕ) → at ≤ length bytes
-        → runs_at keep format runs bytes at ≡ stored_attributes_at keep format ss bytes at
-    from-start keep bytes at le = start-same format ss runs more keep bytes at le
 
 -- ---- all attributes
 
@@ -150,33 +146,38 @@ have-runs format n used [] = record {
     result : List Attribute → ℕ → Result (List Attribute × ℕ) Cause
     result all end = Ok (all, end)
 
-    by_keep : (k : Bool) (front : List Attribute) (end : ℕ) → result ((front ++ []) ++ []) end
+    by_keep : (k : Bool) (front : List Attribute) (end : ℕ) → result front end
         ≡ result (front ++ stored_attributes k []) end
-    by_keep true front end = ap (λ l. result l end) (append-nil (front ++ []))
-    by_keep false front end = ap (λ l. result l end) (append-nil (front ++ []))
+    by_keep true front end = ap (λ l. result l end) (sym (append-nil front))
+    by_keep false front end = ap (λ l. result l end) (sym (append-nil front))
 have-runs format n used (s ∷ ss) =
     by_end (λ end more. have-runs format end more ss) (end_of format n s) refl
   where
     position : List UsedPosition
     position = option_to_list (used_position n s)
 
+    others : Runs
+    others = runs_from format 0 [] ss
+
     by_layout : (layout : Option ValueLayout) → unchecked_layout s ≡ layout
-        → AreRuns format 0 [] ss (runs_from format 0 [] ss)
-        → AreRuns format n used (s ∷ ss) (option_map_or (λ layout. record {
-          len = n;
-          used = used ++ position;
-          last = Unchecked layout;
-        }) layout (record { len = n; used = used; last = Checked s }) ∷ runs_from format 0 [] ss)
-    by_layout None is more = last-more format n used s ss _ (runs_from format 0 [] ss) refl
+        → AreRuns format 0 [] ss others
+        → AreRuns format n used (s ∷ ss) (record others {
+          runs = option_map_or (λ layout. record {
+            stretch = record { len = n; used = used ++ position };
+            last = Unchecked layout;
+          }) layout (record { stretch = record { len = n; used = used }; last = Checked s })
+              ∷ others.runs;
+        })
+    by_layout None is more = last-more format n used s ss _ others refl
         (checked-one format n used s) more
-    by_layout (Some layout) is more = last-more format n used s ss _ (runs_from format 0 [] ss)
+    by_layout (Some layout) is more = last-more format n used s ss _ others
         refl (unchecked-one format n used s layout is) more
 
     by_end : ((end : ℕ) (more : List UsedPosition)
         → AreRuns format end more ss (runs_from format end more ss))
         → (end : Option ℕ) → end_of format n s ≡ end → AreRuns format n used (s ∷ ss)
         (option_map_or (λ end. runs_from format end (used ++ position) ss) end
-        (run_before n used s ∷ runs_from format 0 [] ss))
+        (record others { runs = run_before n used s ∷ others.runs }))
     by_end more None is = by_layout (unchecked_layout s) refl (more 0 [])
     by_end more (Some end) is =
         option_and_then_some (λ m. cond (nat_le (n + m) 65535) (Some (n + m)) None)
@@ -188,7 +189,7 @@ have-runs format n used (s ∷ ss) =
 
 pub runs-read : (keep : Bool) (format : Format) (declared : List AttributeSpecification)
     (bytes : List ℕ) (at : ℕ) → at ≤ length bytes
-    → runs_at keep format (runs_of format declared) bytes at
+    → all_at keep format (runs_of format declared) bytes at
     ≡ stored_attributes_at keep format declared bytes at
 runs-read keep format declared bytes at le = start-same format declared
     (runs_of format declared) (have-runs format 0 [] declared) keep bytes at le

@@ -14,7 +14,8 @@ use Rattle.dwarf_units.specs.declared.used_name.UsedName.{UsedName}
 use Rattle.dwarf_units.specs.Attributes.{is_used}
 use Rattle.dwarf_units.specs.Entries.{attribute_at, attributes_at}
 use Rattle.dwarf_units.specs.Private.Names.{named_attribute, used_name}
-use Rattle.dwarf_units.specs.Private.StoredAttributes.{stored_attributes, stored_attributes_at}
+use Rattle.dwarf_units.specs.Private.Runs.{then_read}
+use Rattle.dwarf_units.specs.Private.StoredAttributes.{Fills, stored_attributes, stored_attributes_at}
 use Rattle.dwarf_units.specs.Private.Used.{Used, used_after, used_among, with_used}
 use Rattle.dwarf_units.proofs.NameLaws.{found-number, used-none, used-some}
 use Rattle.dwarf_units.proofs.UsedLaws.{nothing-used, with-none, with-twice}
@@ -80,11 +81,6 @@ pub stored-both : (keep : Bool) (xs ys : List Attribute)
 stored-both true xs ys = filter-append (λ (a : Attribute). is_used a.name) xs ys
 stored-both false xs ys = refl
 
--- A read of attributes, and then another one from its end.
-abbrev pub then_read : Result (List Attribute × ℕ) Cause → (ℕ → Result (List Attribute × ℕ) Cause)
-    → Result (List Attribute × ℕ) Cause
-then_read read next = read >>= λ first. next first.1 >>= with_front first.0
-
 -- The stored attributes of two lists.
 pub stored-append : (keep : Bool) (format : Format) (xs ys : List AttributeSpecification)
     (bytes : List ℕ) (at : ℕ) → stored_attributes_at keep format (xs ++ ys) bytes at
@@ -146,6 +142,21 @@ next-fault u r next cause whole so_far (inr read) =
     inr (sym so_far ∙ (used-both u r next
     ∙ ap (λ (q : Result (Used × ℕ) Cause). q >>= λ first. used_after first.0 (next first.1)) read))
 
+-- The last of several reads gives their outcome.
+pub last-read : (u used : Used) (read : List ℕ → ℕ → Result (List Attribute × ℕ) Cause)
+    (whole : List ℕ → ℕ → Result (Used × ℕ) Cause) (old mid new : Position)
+    (result : Result (Unit {0}) Cause) → mid.bytes ≡ old.bytes
+    → used_after u (read old.bytes mid.place) ≡ whole old.bytes old.place
+    → Fills result used (λ bytes at. used_after u (read bytes at)) mid new
+    → Fills result used whole old new
+last-read u used read whole old mid new (Ok done) same so_far last = (
+  sym so_far ∙ (ap (λ (b : List ℕ). used_after u (read b mid.place)) (sym same) ∙ last.0),
+  last.1 ∙ same,
+)
+last-read u used read whole old mid new (Err cause) same so_far (inl memory) = inl memory
+last-read u used read whole old mid new (Err cause) same so_far (inr last) =
+    inr (sym so_far ∙ (ap (λ (b : List ℕ). used_after u (read b mid.place)) (sym same) ∙ last))
+
 -- ---- one attribute
 
 one-read : (keep : Bool) (format : Format) (s : AttributeSpecification) (bytes : List ℕ) (at : ℕ)
@@ -197,43 +208,17 @@ abbrev pub StoredSoFar : Bool → Format → List AttributeSpecification → Lis
 StoredSoFar keep format left bytes used place whole =
     used_after used (stored_attributes_at keep format left bytes place) ≡ whole
 
--- The first attribute of the remaining list, and the others.
-stored-first : (keep : Bool) (format : Format) (s : AttributeSpecification)
+-- An attribute is left, and others may follow.
+pub stored-left : (keep : Bool) (format : Format) (s : AttributeSpecification)
     (left behind : List AttributeSpecification) (bytes : List ℕ) (used : Used) (place : ℕ)
     (whole : Result (Used × ℕ) Cause) → left ≡ s ∷ behind
     → StoredSoFar keep format left bytes used place whole → used_after used
     (then_read (stored_attributes_at keep format (s ∷ []) bytes place)
     (λ k. stored_attributes_at keep format behind bytes k)) ≡ whole
-stored-first keep format s left behind bytes used place whole parts so_far =
+stored-left keep format s left behind bytes used place whole parts so_far =
     ap (used_after used) (sym (stored-append keep format (s ∷ []) behind bytes place))
     ∙ (ap (λ (l : List AttributeSpecification). used_after used
     (stored_attributes_at keep format l bytes place)) (sym parts) ∙ so_far)
-
--- The invariant after an attribute is read.
-pub stored-next : (keep : Bool) (format : Format) (s : AttributeSpecification)
-    (left behind : List AttributeSpecification) (bytes : List ℕ) (used stored : Used)
-    (old new : Position) (whole : Result (Used × ℕ) Cause) → left ≡ s ∷ behind → old.bytes ≡ bytes
-    → StoredSoFar keep format left bytes used old.place whole
-    → used_after used (stored_attributes_at keep format (s ∷ []) old.bytes old.place)
-    ≡ Ok (stored, new.place) → StoredSoFar keep format behind bytes stored new.place whole
-stored-next keep format s left behind bytes used stored old new whole parts same so_far read =
-    next-read used stored (stored_attributes_at keep format (s ∷ []) bytes old.place)
-    (λ k. stored_attributes_at keep format behind bytes k) new.place whole
-    (stored-first keep format s left behind bytes used old.place whole parts so_far)
-    (rw same at read)
-
--- The whole read fails if an attribute fails or memory runs out.
-pub stored-fault : (keep : Bool) (format : Format) (s : AttributeSpecification)
-    (left behind : List AttributeSpecification) (bytes : List ℕ) (used : Used) (old : Position)
-    (cause : Cause) (whole : Result (Used × ℕ) Cause) → left ≡ s ∷ behind → old.bytes ≡ bytes
-    → StoredSoFar keep format left bytes used old.place whole
-    → Fails cause (used_after used (stored_attributes_at keep format (s ∷ []) old.bytes old.place))
-    → Fails cause whole
-stored-fault keep format s left behind bytes used old cause whole parts same so_far read =
-    next-fault used (stored_attributes_at keep format (s ∷ []) bytes old.place)
-    (λ k. stored_attributes_at keep format behind bytes k) cause whole
-    (stored-first keep format s left behind bytes used old.place whole parts so_far)
-    (rw same at read)
 
 pub stored-end : (keep : Bool) (format : Format) (left : List AttributeSpecification)
     (bytes : List ℕ) (used : Used) (place : ℕ) (whole : Result (Used × ℕ) Cause) → left ≡ []

@@ -1,10 +1,10 @@
 //! A run of attributes: attributes of a fixed size, and the attribute after them (DWARF 5, 7.5.3).
 
-ghost use Rattle.std.specs.Prelude.{◌≡◌, ◌++◌, [], IfOk, OnOk, if◌then◌else◌};
+ghost use Rattle.std.specs.Prelude.{◌≡◌, ◌++◌, IfOk, OnOk};
 ghost use Rattle.std.specs.Option.{option_to_list};
 ghost use Rattle.dwarf_bytes.specs.Refusals.{ReadsPlace};
 ghost use Rattle.dwarf_units.specs.Private.FixedSizes.{attributes_in};
-ghost use Rattle.dwarf_units.specs.Private.Runs.{end_in, last_at, run_at, run_before, size_before};
+ghost use Rattle.dwarf_units.specs.Private.Runs.{end_in, last_at, run_at, run_before, stretch_at};
 ghost use Rattle.dwarf_units.specs.Private.StoredAttributes.{Fills};
 ghost use Rattle.dwarf_units.specs.Private.Used.{used_after, with_used};
 
@@ -17,11 +17,19 @@ use dwarf_forms::AttributeSpecification;
 use std::alloc::AllocError;
 use std::marker::Model;
 
-/// The attribute after the attributes of a fixed size.
+/// Consecutive attributes of a fixed size.
+#[derive(Drop)]
+pub(crate) struct Stretch {
+    /// Their size in bytes.
+    pub(crate) len: u16,
+    /// The positions of the used ones. If the next attribute is unchecked and used, its position
+    /// is the last one.
+    pub(crate) used: Vec<UsedPosition>,
+}
+
+/// The attribute after a stretch.
 #[derive(Clone, Copy)]
 pub(crate) enum LastAttribute {
-    /// There is none.
-    Absent,
     /// An attribute whose value has this layout and needs no check.
     Unchecked(ValueLayout),
     /// Any other attribute.
@@ -31,10 +39,16 @@ pub(crate) enum LastAttribute {
 /// Attributes of a fixed size, and the attribute after them.
 #[derive(Drop)]
 pub(crate) struct AttributeRun {
-    /// The size of the attributes of a fixed size in bytes.
-    pub(crate) len: u16,
-    pub(crate) used: Vec<UsedPosition>,
-    pub(crate) last: LastAttribute,
+    stretch: Stretch,
+    last: LastAttribute,
+}
+
+impl Model for Stretch {
+    ghost use Rattle.dwarf_units.specs.Private.Runs.{Stretch as StretchOf};
+
+    ghost Value = { StretchOf };
+
+    ghost view = { λ s. record { len = s.len; used = s.used.items } };
 }
 
 impl Model for AttributeRun {
@@ -42,7 +56,43 @@ impl Model for AttributeRun {
 
     ghost Value = { Run };
 
-    ghost view = { λ r. record { len = r.len; used = r.used.items; last = r.last } };
+    ghost view = { λ r. record { stretch = r.stretch; last = r.last } };
+}
+
+impl Stretch {
+    /// Reads the attributes of an entry, which start at the cursor. Adds the used ones to `found`
+    /// if `keep` is set.
+    // Inlined: called for each entry.
+    #[inline(always)]
+    pub(crate) fn read(
+        &self,
+        keep: bool,
+        format: Format,
+        cursor: &mut Cursor,
+        found: &mut UsedAttributes,
+    ) -> Result<(), Cause>
+        ensures { Fills result found.new (λ bytes at. used_after found.old
+            (stretch_at keep format self.now bytes at)) cursor.old cursor.new }
+    {
+        let first = cursor.fork();
+        cursor.block(u64::from(self.len))?;
+        if keep {
+            self.add_used(format, &first, found);
+        }
+        Ok(())
+    }
+
+    /// Adds the used attributes of an entry whose first attribute of the stretch is at the cursor.
+    // Inlined: called for each entry.
+    #[inline(always)]
+    fn add_used(&self, format: Format, first: &Cursor, found: &mut UsedAttributes)
+        ensures { found.new ≡ with_used found.old
+            (attributes_in format first.now.bytes first.now.place self.now.used) }
+    {
+        for position in &self.used {
+            found.add(position.name, position.read(format, first));
+        }
+    }
 }
 
 impl AttributeRun {
@@ -56,22 +106,14 @@ impl AttributeRun {
         ensures { IfOk result (λ run. run ≡ run_before len used.items specification.now) }
     {
         let Some(layout) = unchecked_layout(specification) else {
+            let stretch = Stretch { len, used };
             let last = LastAttribute::Checked(*specification);
-            return Ok(AttributeRun { len, used, last });
+            return Ok(AttributeRun { stretch, last });
         };
         push_position(&mut used, UsedPosition::of(len, specification))?;
+        let stretch = Stretch { len, used };
         let last = LastAttribute::Unchecked(layout);
-        Ok(AttributeRun { len, used, last })
-    }
-
-    /// Returns the size of the attributes, if there is none after those of a fixed size.
-    pub(crate) fn fixed_size(&self) -> Option<u16>
-        ensures { result ≡ size_before self.now.len self.now.last }
-    {
-        match self.last {
-            LastAttribute::Absent => Some(self.len),
-            _ => None,
-        }
+        Ok(AttributeRun { stretch, last })
     }
 
     /// Reads the attributes of an entry, which start at the cursor. Adds the used ones to `found`
@@ -88,26 +130,8 @@ impl AttributeRun {
         ensures { Fills result found.new (λ bytes at. used_after found.old
             (run_at keep format self.now bytes at)) cursor.old cursor.new }
     {
-        let first = cursor.fork();
-        cursor.block(u64::from(self.len))?;
-        self.add_used(keep, format, &first, found);
+        self.stretch.read(keep, format, cursor, found)?;
         self.last.read(keep, format, cursor, found)
-    }
-
-    /// Adds the used attributes of an entry whose first attribute of the run is at the cursor, if
-    /// `keep` is set.
-    // Inlined: called for each entry.
-    #[inline(always)]
-    fn add_used(&self, keep: bool, format: Format, first: &Cursor, found: &mut UsedAttributes)
-        ensures { found.new ≡ with_used found.old (if keep then attributes_in format
-            first.now.bytes first.now.place self.now.used else []) }
-    {
-        if !keep {
-            return;
-        }
-        for position in &self.used {
-            found.add(position.name, position.read(format, first));
-        }
     }
 }
 
@@ -127,7 +151,6 @@ impl LastAttribute {
             (last_at keep format self.now bytes at)) cursor.old cursor.new }
     {
         match self {
-            LastAttribute::Absent => Ok(()),
             LastAttribute::Unchecked(layout) => skip(*layout, format, cursor),
             LastAttribute::Checked(specification) => {
                 read_one(keep, format, specification, cursor, found)

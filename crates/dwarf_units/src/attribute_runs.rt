@@ -1,11 +1,11 @@
 //! The attributes of a declaration in runs (DWARF 5, 7.5.3).
 
 ghost use Rattle.std.specs.Prelude.{◌≡◌, IfOk};
-ghost use Rattle.dwarf_units.specs.Private.Runs.{fixed_size, own_runs, runs_at, runs_of};
+ghost use Rattle.dwarf_units.specs.Private.Runs.{all_at, fixed_size, own_runs, runs_of};
 ghost use Rattle.dwarf_units.specs.Private.StoredAttributes.{Fills};
 ghost use Rattle.dwarf_units.specs.Private.Used.{used_after};
 
-use crate::attribute_run::{AttributeRun, LastAttribute, push_position};
+use crate::attribute_run::{AttributeRun, Stretch, push_position};
 use crate::fixed_sizes::end_of;
 use crate::used_attributes::UsedAttributes;
 use crate::used_position::UsedPosition;
@@ -14,20 +14,20 @@ use dwarf_forms::{AbbreviationTable, AttributeSpecification};
 use std::alloc::{AllocError, Global};
 use std::marker::Model;
 
-/// The unshared attributes of the entries of a declaration. Only the last run may lack an attribute
-/// after those of a fixed size.
+/// The unshared attributes of the entries of a declaration.
 #[derive(Drop)]
 pub(crate) struct AttributeRuns {
     runs: Vec<AttributeRun>,
+    /// The attributes after the runs.
+    rest: Stretch,
 }
 
 impl Model for AttributeRuns {
-    ghost use Rattle.std.specs.Prelude.{List};
-    ghost use Rattle.dwarf_units.specs.Private.Runs.{Run};
+    ghost use Rattle.dwarf_units.specs.Private.Runs.{Runs};
 
-    ghost Value = { List Run };
+    ghost Value = { Runs };
 
-    ghost view = { λ r. r.runs.items };
+    ghost view = { λ r. record { runs = r.runs.items; rest = r.rest } };
 }
 
 impl AttributeRuns {
@@ -52,19 +52,15 @@ impl AttributeRuns {
             len = 0;
             used = Vec::new(alloc);
         }
-        let last = LastAttribute::Absent;
-        runs.push(AttributeRun { len, used, last })?;
-        Ok(AttributeRuns { runs })
+        let rest = Stretch { len, used };
+        Ok(AttributeRuns { runs, rest })
     }
 
     /// Returns the size of all attributes in bytes, if it is fixed.
     pub(crate) fn fixed_size(&self) -> Option<u16>
         ensures { result ≡ fixed_size self.now }
     {
-        match self.runs.as_slice() {
-            [run] => run.fixed_size(),
-            _ => None,
-        }
+        self.runs.is_empty().then_some(self.rest.len)
     }
 
     /// Reads the attributes of an entry, which start at the cursor. Adds the used ones to `found`
@@ -79,12 +75,12 @@ impl AttributeRuns {
         found: &mut UsedAttributes,
     ) -> Result<(), Cause>
         ensures { Fills result found.new (λ bytes at. used_after found.old
-            (runs_at keep format self.now bytes at)) cursor.old cursor.new }
+            (all_at keep format self.now bytes at)) cursor.old cursor.new }
     {
         for run in &self.runs {
             run.read(keep, format, cursor, found)?;
         }
-        Ok(())
+        self.rest.read(keep, format, cursor, found)
     }
 }
 

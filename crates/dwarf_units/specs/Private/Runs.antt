@@ -1,5 +1,5 @@
 -- The attributes of a declaration in runs: attributes of a fixed size, and the attribute after them.
-use Rattle.std.specs.Prelude.{ℕ, List, [], ◌∷◌, ◌++◌, map, Option, Some, None, Result, Ok}
+use Rattle.std.specs.Prelude.{ℕ, List, [], ◌∷◌, ◌++◌, length, ◌==◌, map, Option, Some, None, Result, Ok}
 use Rattle.std.specs.Prelude.{Bool, true, false, ◌&&◌, if◌then◌else◌}
 use Rattle.std.specs.Option.{option_map_or, option_to_list}
 use Rattle.dwarf_bytes.specs.declared.fault.Cause.{Cause}
@@ -19,8 +19,7 @@ use Rattle.dwarf_forms.specs.declared.attribute.AttributeSpecification.{Attribut
 use Rattle.dwarf_forms.specs.Private.SharedTables.{SharedDeclaration}
 use Rattle.dwarf_units.specs.declared.attributes.Attribute.{Attribute}
 use Rattle.dwarf_units.specs.declared.attribute_run.LastAttribute.{LastAttribute}
-use Rattle.dwarf_units.specs.declared.attribute_run.LastAttribute.TheVariants.{Absent, Unchecked}
-use Rattle.dwarf_units.specs.declared.attribute_run.LastAttribute.TheVariants.{Checked}
+use Rattle.dwarf_units.specs.declared.attribute_run.LastAttribute.TheVariants.{Checked, Unchecked}
 use Rattle.dwarf_units.specs.declared.used_position.UsedPosition.{UsedPosition}
 use Rattle.dwarf_units.specs.Attributes.{accepts, is_used}
 use Rattle.dwarf_units.specs.Private.FixedSizes.{attributes_in, end_of, used_position}
@@ -48,74 +47,87 @@ unchecked_layout s = if accepts s.name s.form then (elim (form_of s.form) [
 
 -- ---- runs
 
--- The size of the attributes of a fixed size, the positions of the used attributes relative to the
--- start of the run, and the attribute after those of a fixed size.
-pub record Run : Type 0 where
+-- Consecutive attributes of a fixed size: their size in bytes, and the positions of the used ones.
+-- If the next attribute needs no check, its position is the last one.
+pub record Stretch : Type 0 where
   pub len : ℕ
   pub used : List UsedPosition
+
+-- A stretch, and the attribute after it.
+pub record Run : Type 0 where
+  pub stretch : Stretch
   pub last : LastAttribute
+
+-- All attributes: the runs, and the stretch after them.
+pub record Runs : Type 0 where
+  pub runs : List Run
+  pub rest : Stretch
 
 -- The run of n bytes that ends with an attribute. `used` has the positions before it.
 abbrev pub run_before : ℕ → List UsedPosition → AttributeSpecification → Run
 run_before n used s = option_map_or (λ layout. record {
-  len = n;
-  used = used ++ option_to_list (used_position n s);
+  stretch = record { len = n; used = used ++ option_to_list (used_position n s) };
   last = Unchecked layout;
-}) (unchecked_layout s) (record { len = n; used = used; last = Checked s })
+}) (unchecked_layout s) (record { stretch = record { len = n; used = used }; last = Checked s })
 
--- The runs of attributes, the first of which starts n bytes after the start of its run. `used` has
--- the positions before it.
-unfoldable pub runs_from : Format → ℕ → List UsedPosition → List AttributeSpecification → List Run
-runs_from format n used [] = record { len = n; used = used; last = Absent } ∷ []
+-- The attributes of a list, the first of which starts n bytes after the start of its stretch.
+-- `used` has the positions before it.
+unfoldable pub runs_from : Format → ℕ → List UsedPosition → List AttributeSpecification → Runs
+runs_from format n used [] = record { runs = []; rest = record { len = n; used = used } }
 runs_from format n used (s ∷ ss) = option_map_or
     (λ end. runs_from format end (used ++ option_to_list (used_position n s)) ss)
-    (end_of format n s) (run_before n used s ∷ runs_from format 0 [] ss)
+    (end_of format n s) (let others = runs_from format 0 [] ss in
+    record others { runs = run_before n used s ∷ others.runs })
 
-abbrev pub runs_of : Format → List AttributeSpecification → List Run
+abbrev pub runs_of : Format → List AttributeSpecification → Runs
 runs_of format declared = runs_from format 0 [] declared
 
 -- The runs of the unshared attributes of each declaration.
-abbrev pub own_runs : Format → List SharedDeclaration → List (List Run)
+abbrev pub own_runs : Format → List SharedDeclaration → List Runs
 own_runs format declarations = map (λ declaration. runs_of format declaration.list.own) declarations
 
--- ---- the size of all attributes
-
-abbrev pub size_before : ℕ → LastAttribute → Option ℕ
-size_before n Absent = Some n
-size_before n (Unchecked layout) = None
-size_before n (Checked s) = None
-
 -- The size of all attributes, if it is fixed.
-abbrev pub fixed_size : List Run → Option ℕ
-fixed_size [] = None
-fixed_size (run ∷ []) = size_before run.len run.last
-fixed_size (run ∷ next ∷ runs) = None
+abbrev pub fixed_size : Runs → Option ℕ
+fixed_size all = if length all.runs == 0 then Some all.rest.len else None
 
 -- ---- attributes that are read in runs
+
+-- The stored attributes of a stretch, and the offset after it.
+abbrev pub stretch_at : Bool → Format → Stretch → List ℕ → ℕ → Result (List Attribute × ℕ) Cause
+stretch_at keep format stretch bytes at = reading (block_at stretch.len bytes at) >>= λ block.
+    Ok (if keep then attributes_in format bytes at stretch.used else [], block.1)
 
 -- The offset after a value in a layout.
 abbrev pub end_in : ValueLayout → Format → List ℕ → ℕ → Result ℕ Cause
 end_in layout format bytes at =
     reading (content_at layout format bytes at) >>= λ content. Ok content.1
 
--- The stored attributes and the offset after the last attribute. The positions of the run include a
--- used attribute whose value needs no check.
+-- The stored attributes and the offset after the last attribute of a run. If it needs no check, it
+-- is stored with the stretch.
 abbrev pub last_at : Bool → Format → LastAttribute → List ℕ → ℕ
     → Result (List Attribute × ℕ) Cause
-last_at keep format Absent bytes at = Ok ([], at)
 last_at keep format (Unchecked layout) bytes at =
     end_in layout format bytes at >>= λ end. Ok ([], end)
 last_at keep format (Checked s) bytes at = stored_attributes_at keep format (s ∷ []) bytes at
 
-abbrev pub run_at : Bool → Format → Run → List ℕ → ℕ → Result (List Attribute × ℕ) Cause
-run_at keep format run bytes at = do
-  block ← reading (block_at run.len bytes at)
-  last ← last_at keep format run.last bytes block.1
-  Ok ((if keep then attributes_in format bytes at run.used else []) ++ last.0, last.1)
-
-abbrev pub runs_at : Bool → Format → List Run → List ℕ → ℕ → Result (List Attribute × ℕ) Cause
-runs_at keep format [] bytes at = Ok ([], at)
-runs_at keep format (run ∷ runs) bytes at = do
-  first ← run_at keep format run bytes at
-  rest ← runs_at keep format runs bytes first.1
+-- One read after another.
+abbrev pub then_read : Result (List Attribute × ℕ) Cause → (ℕ → Result (List Attribute × ℕ) Cause)
+    → Result (List Attribute × ℕ) Cause
+then_read read next = do
+  first ← read
+  rest ← next first.1
   Ok (first.0 ++ rest.0, rest.1)
+
+abbrev pub run_at : Bool → Format → Run → List ℕ → ℕ → Result (List Attribute × ℕ) Cause
+run_at keep format run bytes at =
+    then_read (stretch_at keep format run.stretch bytes at) (last_at keep format run.last bytes)
+
+-- Runs, and the stretch after them.
+abbrev pub runs_at : Bool → Format → List Run → Stretch → List ℕ → ℕ
+    → Result (List Attribute × ℕ) Cause
+runs_at keep format [] rest bytes at = stretch_at keep format rest bytes at
+runs_at keep format (run ∷ runs) rest bytes at =
+    then_read (run_at keep format run bytes at) (runs_at keep format runs rest bytes)
+
+abbrev pub all_at : Bool → Format → Runs → List ℕ → ℕ → Result (List Attribute × ℕ) Cause
+all_at keep format all bytes at = runs_at keep format all.runs all.rest bytes at

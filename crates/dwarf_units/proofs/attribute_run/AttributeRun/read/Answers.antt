@@ -1,9 +1,21 @@
-use Rattle.dwarf_units.proofs.RunTurns.{run-last}
+use Rattle.std.proofs.Common.{refl}
+use Rattle.std.proofs.lemmas.Result.{err_from_is_err_and}
+use Rattle.dwarf_units.specs.Private.Runs.{last_at, stretch_at}
+use Rattle.dwarf_units.proofs.StoredReads.{last-read, next-fault, next-read}
 use Rattle.dwarf_units.proofs.attribute_run.AttributeRun.read.Goals as goal
+
+pub returns-in_err-read : goal.returns-in_err-read
+returns-in_err-read c =
+    let p = err_from_is_err_and c.from_residual.result c.from_residual.ensures.1 in
+    rw (p.1, p.2, ← c.self.view_is)
+    (next-fault c.args.found.now _ (last_at c.args.keep c.args.format c.self.inside.last
+    c.args.cursor.now.bytes) c.in_err-read.field-0.0 _ refl c.in_err-read.ensures)
 
 pub returns : goal.returns
 returns c = rw (← c.self.view_is)
-    (run-last c.args.keep c.args.format _ c.args.found.now c.read.new.found _
-    c.args.cursor.now c.block.new.self c.read.new.cursor c.read.result
-    (rw c.from.ensures at c.in_ok-block.ensures.block.0) c.in_ok-block.ensures.block.1
-    (rw (c.add_used.ensures, c.fork-first.ensures, ← c.self.view_is) at c.read.ensures))
+    (last-read c.read.new.found c.read-2.new.found
+    (last_at c.args.keep c.args.format c.self.inside.last) _ c.args.cursor.now c.read.new.cursor
+    c.read-2.new.cursor c.read-2.result c.in_ok-read.ensures.1
+    (next-read c.args.found.now c.read.new.found (stretch_at c.args.keep c.args.format
+    c.self.inside.stretch c.args.cursor.now.bytes c.args.cursor.now.place) _ c.read.new.cursor.place
+    _ refl c.in_ok-read.ensures.0) c.read-2.ensures)

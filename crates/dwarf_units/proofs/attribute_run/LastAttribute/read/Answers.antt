@@ -1,11 +1,5 @@
-use Rattle.std.proofs.Common.{refl}
 use Rattle.dwarf_units.proofs.RunTurns.{last-skipped}
-use Rattle.dwarf_units.proofs.UsedLaws.{nothing-used}
 use Rattle.dwarf_units.proofs.attribute_run.LastAttribute.read.Goals as goal
-
-pub returns-in-Absent : goal.returns-in-Absent
-returns-in-Absent c = rw c.in-Absent.is
-    (nothing-used c.args.found.now _ c.args.cursor.now.place refl, refl)
 
 pub returns-in-Unchecked : goal.returns-in-Unchecked
 returns-in-Unchecked c = rw c.in-Unchecked.is

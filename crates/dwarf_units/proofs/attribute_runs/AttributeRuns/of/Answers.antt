@@ -1,8 +1,7 @@
 use Rattle.std.proofs.Common.{drop, sym, ◌∙◌, arith}
 use Rattle.std.proofs.lemmas.List.{drop_all, drop_more}
 use Rattle.dwarf_bytes.proofs.Items.Turns.{None-from-no-Some}
-use Rattle.dwarf_units.specs.Private.Runs.{runs_from}
-use Rattle.dwarf_units.proofs.RunTurns.{runs-ended, runs-more}
+use Rattle.dwarf_units.proofs.RunTurns.{runs-all, runs-ended, runs-more}
 use Rattle.dwarf_units.proofs.attribute_runs.AttributeRuns.of.Goals as goal
 
 pub loop-specification-preserved-in-Some : goal.loop-specification-preserved-in-Some
@@ -25,8 +24,8 @@ loop-specification-preserved c =
     (rw c.in_ok-of.ensures at c.in_ok-push.ensures.items) loop.invariant)
 
 pub returns : goal.returns
-unfolding runs_from
 returns c =
     let loop = c.loop-specification in
-    let none = drop_all loop.specification-index c.args.declared.now (omega arith) in
-    c.in_ok-push-2.ensures.items ∙ rw none at loop.invariant
+    runs-all c.args.format loop.len loop.runs.items loop.used.items
+    (drop loop.specification-index c.args.declared.now) _
+    (drop_all loop.specification-index c.args.declared.now (omega arith)) loop.invariant

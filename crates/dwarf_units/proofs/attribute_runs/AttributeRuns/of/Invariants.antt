@@ -1,8 +1,9 @@
-use Rattle.std.proofs.Common.{◌≡◌, ◌++◌, drop}
+use Rattle.std.proofs.Common.{◌≡◌, drop}
 use Rattle.dwarf_units.specs.Private.Runs.{runs_from, runs_of}
+use Rattle.dwarf_units.proofs.RunTurns.{after_these}
 use Rattle.dwarf_units.proofs.attribute_runs.AttributeRuns.of.Given as goal
 
 abbrev pub invariant-loop-specification : goal.invariant-loop-specification
-invariant-loop-specification l = l.runs.items
-    ++ runs_from l.format l.len l.used.items (drop l.specification-index l.declared)
+invariant-loop-specification l = after_these l.runs.items
+    (runs_from l.format l.len l.used.items (drop l.specification-index l.declared))
     ≡ runs_of l.format l.declared

@@ -1,8 +1,9 @@
 use Rattle.std.proofs.Common.{◌≤◌, length, ap, ◌∙◌, arith}
 use Rattle.std.proofs.lemmas.Result.{err_from_is_err_and}
 use Rattle.dwarf_forms.specs.Private.Memoized.{rest_attributes}
-use Rattle.dwarf_units.proofs.EntryReads.{own-rest, read-rest}
-use Rattle.dwarf_units.proofs.StoredReads.{next-fault}
+use Rattle.dwarf_units.specs.Private.StoredAttributes.{stored_attributes_at}
+use Rattle.dwarf_units.proofs.EntryReads.{own-rest}
+use Rattle.dwarf_units.proofs.StoredReads.{last-read, next-fault, next-read}
 use Rattle.dwarf_units.proofs.entry_head.EntryHead.read_attributes.Goals as goal
 
 pub returns-in_err-read : goal.returns-in_err-read
@@ -28,8 +29,12 @@ returns c =
     omega (arith, c.place.ensures.place, c.place.ensures.within) in
     let shared = c.rest-rest.ensures ∙ ap (λ l. l.rest) c.list.ensures in
     rw (← c.self.view_is)
-    (read-rest c.args.keep inside.format list.own
-    (rest_attributes inside.lists.now.places.memoized list.rest) c.args.cursor.now
-    c.read.new.cursor c.read-2.new.cursor c.read.new.found c.read-2.new.found c.read-2.result
-    within (rw (c.self.invariant.0, c.clear.ensures) at c.in_ok-read.ensures)
+    (last-read c.read.new.found c.read-2.new.found (stored_attributes_at c.args.keep inside.format
+    (rest_attributes inside.lists.now.places.memoized list.rest)) _ c.args.cursor.now
+    c.read.new.cursor c.read-2.new.cursor c.read-2.result c.in_ok-read.ensures.1
+    (next-read _ c.read.new.found _ _ c.read.new.cursor.place _
+    (own-rest c.args.keep inside.format list.own
+    (rest_attributes inside.lists.now.places.memoized list.rest) c.args.cursor.now.bytes
+    c.args.cursor.now.place within)
+    (rw (c.self.invariant.0, c.clear.ensures) at c.in_ok-read.ensures.0))
     (rw shared at c.read-2.ensures))

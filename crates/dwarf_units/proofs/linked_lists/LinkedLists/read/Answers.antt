@@ -7,7 +7,7 @@ use Rattle.dwarf_forms.specs.Private.Memoized.{MemoizedAttributes, attributes_fr
 use Rattle.dwarf_forms.specs.Private.Memoized.{rest_attributes}
 use Rattle.dwarf_units.specs.Private.Links.{LinkedPlaces}
 use Rattle.dwarf_units.proofs.LinkLaws.{first-read}
-use Rattle.dwarf_units.proofs.StoredReads.{stored-end, stored-fault, stored-next}
+use Rattle.dwarf_units.proofs.StoredReads.{next-fault, next-read, stored-end, stored-left}
 use Rattle.dwarf_units.proofs.linked_lists.LinkedLists.read.Goals as goal
 
 pub loop-next-init : goal.loop-next-init
@@ -24,13 +24,14 @@ returns-in_err-read_one c =
     let p = err_from_is_err_and c.from_residual.result c.from_residual.ensures.1 in
     let loop = c.loop-next in
     rw (p.1, p.2)
-    (stored-fault c.args.keep c.args.format c.attribute-attribute.result.now _ _
-    c.args.cursor.now.bytes loop.found loop.cursor c.in_err-read_one.field-0.0 _
+    (next-fault loop.found _ _ c.in_err-read_one.field-0.0 _
+    (stored-left c.args.keep c.args.format c.attribute-attribute.result.now _ _
+    c.args.cursor.now.bytes loop.found loop.cursor.place _
     (subst (λ (m : MemoizedAttributes). attributes_from m.memoized c.in-Some.number
     ≡ c.attribute-attribute.result.now ∷ drop 1 (attributes_from m.memoized c.in-Some.number))
     (ap (λ (l : LinkedPlaces). l.places) c.self.view_is) c.attribute-attribute.ensures)
-    loop.invariant.bytes
-    (rw c.in-Some.is at loop.invariant.stored) c.in_err-read_one.ensures)
+    (rw c.in-Some.is at loop.invariant.stored))
+    (rw loop.invariant.bytes at c.in_err-read_one.ensures))
 
 pub loop-next-preserved : goal.loop-next-preserved
 loop-next-preserved c =
@@ -54,9 +55,10 @@ loop-next-preserved c =
           first-read c.args.keep c.args.format c.args.self.now c.next.result
           c.linked-next-in-Some.result c.args.cursor.now.bytes c.read_one.new.cursor.place
           c.read_one.new.found c.linked-next-in-Some.ensures.list within
-          ∙ stored-next c.args.keep c.args.format attribute _ _ c.args.cursor.now.bytes loop.found
-          c.read_one.new.found loop.cursor c.read_one.new.cursor _ list loop.invariant.bytes
-          (rw c.in-Some.is at loop.invariant.stored) c.in_ok-read_one.ensures.0;
+          ∙ next-read loop.found c.read_one.new.found _ _ c.read_one.new.cursor.place _
+          (stored-left c.args.keep c.args.format attribute _ _ c.args.cursor.now.bytes loop.found
+          loop.cursor.place _ list (rw c.in-Some.is at loop.invariant.stored))
+          (rw loop.invariant.bytes at c.in_ok-read_one.ensures.0);
     }
 
 pub returns : goal.returns

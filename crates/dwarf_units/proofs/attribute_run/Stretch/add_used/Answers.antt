@@ -1,13 +1,9 @@
-use Rattle.std.proofs.Common.{◌∷◌, [], ap, drop, ◌∙◌, arith, sym}
+use Rattle.std.proofs.Common.{◌∷◌, [], ap, drop, ◌∙◌, arith}
 use Rattle.std.proofs.lemmas.List.{drop_all, drop_more}
 use Rattle.dwarf_units.specs.declared.attributes.Attribute.{Attribute}
 use Rattle.dwarf_units.specs.Private.Used.{with_used}
 use Rattle.dwarf_units.proofs.RunTurns.{added-all, added-more}
-use Rattle.dwarf_units.proofs.UsedLaws.{with-none}
-use Rattle.dwarf_units.proofs.attribute_run.AttributeRun.add_used.Goals as goal
-
-pub returns-then-not-keep : goal.returns-then-not-keep
-returns-then-not-keep c = rw c.if-not-keep.true (sym (with-none c.args.found.now))
+use Rattle.dwarf_units.proofs.attribute_run.Stretch.add_used.Goals as goal
 
 pub loop-position-preserved : goal.loop-position-preserved
 loop-position-preserved c =
@@ -19,8 +15,7 @@ loop-position-preserved c =
     c.read.ensures) c.loop-position.invariant
 
 pub returns : goal.returns
-returns c = rw c.if-not-keep.false
-    (added-all c.args.format c.args.first.now.bytes c.args.first.now.place
+returns c = added-all c.args.format c.args.first.now.bytes c.args.first.now.place
     (drop c.loop-position.position-index c.deref-position-items.result.now) c.loop-position.found _
     (drop_all c.loop-position.position-index c.deref-position-items.result.now (omega arith))
-    c.loop-position.invariant)
+    c.loop-position.invariant
