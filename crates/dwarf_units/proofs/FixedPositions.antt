@@ -1,7 +1,8 @@
 -- The value of an attribute of a fixed size is at its position.
 use Rattle.std.proofs.Common.{◌≡◌, ℕ, ◌+◌, ◌<◌, ◌≤◌, ℤ, pos, negsuc, List, Bool, true, false, cond}
-use Rattle.std.proofs.Common.{length, refl, ap, sym, ◌∙◌, arith}
-use Rattle.std.specs.Prelude.{Option, Some, None, Result, Ok, Err}
+use Rattle.std.proofs.Common.{length, refl, sym, ◌∙◌, arith}
+use Rattle.std.specs.Prelude.{Option, Some, None, Result, Ok, Err, take, drop}
+use Rattle.std.proofs.lemmas.Bool.{le-ltb}
 use Rattle.std.specs.Option.{option_map_or}
 use Rattle.std.proofs.lemmas.Option.{same_Some}
 use Rattle.dwarf_bytes.specs.declared.fault.ReadFault.{ReadFault}
@@ -21,7 +22,7 @@ use Rattle.dwarf_units.specs.Attributes.{accepts, is_negative, is_negative_count
 use Rattle.dwarf_units.specs.Entries.{attribute_at}
 use Rattle.dwarf_units.specs.Private.FixedSizes.{constant_number, number_in, used_value}
 use Rattle.dwarf_units.specs.Private.FixedSizes.{constant_len, fixed_len, layout_len}
-use Rattle.dwarf_units.proofs.FixedReads.{ReadsFixed, block-fixed, content-fixed}
+use Rattle.dwarf_units.proofs.FixedReads.{ReadsFixed, content-fixed}
 use Rattle.dwarf_units.proofs.FixedValues.{IsFine, constant-there, in-layout, never-count}
 
 -- The attribute n bytes after the first one has the value at this position, and its size is m.
@@ -36,14 +37,9 @@ HasValue format s bytes first n m value = attribute_at format s bytes (first + n
 
 pub block-there : (n : ℕ) (bytes : List ℕ) (at : ℕ) → at + n ≤ length bytes
     → (block : List ℕ) × (block_at n bytes at ≡ Ok (block, at + n))
-block-there n bytes at le = by_read (block_at n bytes at) refl (block-fixed n bytes at)
-  where
-    by_read : (r : Result (List ℕ × ℕ) ReadFault) → block_at n bytes at ≡ r
-        → ReadsFixed (λ _. Unit {0}) faults.Short n bytes at r
-        → (block : List ℕ) × (block_at n bytes at ≡ Ok (block, at + n))
-    by_read (Ok block) is fixed =
-        (block.0, is ∙ ap (λ (k : ℕ). Ok (block.0, k)) fixed.1)
-    by_read (Err e) is fixed = absurd (omega (arith, fixed.1, le))
+unfolding block_at
+block-there n bytes at le =
+    (take n (drop at bytes), rw (le-ltb (length bytes) (at + n) le) refl)
 
 pub direct-value : (n : ℕ) (s : AttributeSpecification) (layout : ValueLayout)
     → form_of s.form ≡ Some (Direct layout) → used_value n s ≡ At n layout

@@ -4,6 +4,7 @@ use Rattle.std.proofs.Common.{false, cond, length, refl, ap, sym, ◌∙◌, ari
 use Rattle.std.specs.Prelude.{Option, Some, None, Result, Ok, Err, option_map}
 use Rattle.std.specs.Option.{option_to_list}
 use Rattle.std.proofs.lemmas.List.{map-append}
+use Rattle.std.proofs.lemmas.Bool.{lt-ltb}
 use Rattle.dwarf_bytes.specs.declared.fault.ReadFault.{ReadFault}
 use Rattle.dwarf_bytes.specs.declared.fault.ReadFault.TheVariants as faults
 use Rattle.dwarf_bytes.specs.declared.fault.Cause.{Cause}
@@ -31,7 +32,6 @@ use Rattle.dwarf_units.specs.Private.Runs.{unchecked_layout}
 use Rattle.dwarf_units.specs.Private.StoredAttributes.{stored_attributes, stored_attributes_at}
 use Rattle.dwarf_units.proofs.EntryAdvances.{attributes-stay}
 use Rattle.dwarf_units.proofs.FixedPositions.{block-there, direct-value}
-use Rattle.dwarf_units.proofs.FixedReads.{ReadsFixed, block-fixed}
 use Rattle.dwarf_units.proofs.UncheckedValues.{IsInLayout, unchecked-read}
 use Rattle.dwarf_units.proofs.NameLaws.{found-number, used-none, used-some}
 use Rattle.dwarf_units.proofs.StoredReads.{fault-first, stored_all}
@@ -82,13 +82,8 @@ stored-one keep format s bytes first n end has =
 
 pub block-short : (n : ℕ) (bytes : List ℕ) (at : ℕ) → length bytes < at + n
     → block_at n bytes at ≡ Err faults.Short
-block-short n bytes at lt = by_read (block_at n bytes at) refl (block-fixed n bytes at)
-  where
-    by_read : (r : Result (List ℕ × ℕ) ReadFault) → block_at n bytes at ≡ r
-        → ReadsFixed (λ _. Unit {0}) faults.Short n bytes at r
-        → block_at n bytes at ≡ Err faults.Short
-    by_read (Ok block) is fixed = absurd (omega (arith, fixed.2, lt))
-    by_read (Err e) is fixed = is ∙ ap (λ (e : ReadFault). Err e) fixed.0
+unfolding block_at
+block-short n bytes at lt = rw (lt-ltb (length bytes) (at + n) lt) refl
 
 -- The stored attributes of a list, after those at some positions.
 pub front-more : (keep : Bool) (format : Format) (bytes : List ℕ) (first : ℕ)

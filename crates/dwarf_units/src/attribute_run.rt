@@ -1,16 +1,17 @@
 //! A run of attributes: attributes of a fixed size, and the attribute after them (DWARF 5, 7.5.3).
 
-ghost use Rattle.std.specs.Prelude.{◌≡◌, ◌++◌, IfOk, OnOk};
+ghost use Rattle.std.specs.Prelude.{◌≡◌, ◌++◌, ◌∷◌, [], IfOk, OnOk};
 ghost use Rattle.std.specs.Option.{option_to_list};
 ghost use Rattle.dwarf_bytes.specs.Refusals.{ReadsPlace};
 ghost use Rattle.dwarf_units.specs.Private.FixedSizes.{attributes_in};
 ghost use Rattle.dwarf_units.specs.Private.Runs.{end_in, last_at, run_at, run_before, stretch_at};
-ghost use Rattle.dwarf_units.specs.Private.StoredAttributes.{Fills};
+ghost use Rattle.dwarf_units.specs.Private.StoredAttributes.{Fills, stored_attributes_at};
 ghost use Rattle.dwarf_units.specs.Private.Used.{used_after, with_used};
 
-use crate::attribute_reader::read_one;
+use crate::attributes::read_attribute;
 use crate::fixed_sizes::unchecked_layout;
 use crate::used_attributes::UsedAttributes;
+use crate::used_name::UsedName;
 use crate::used_position::UsedPosition;
 use dwarf_bytes::{Cause, Content, Cursor, Format, ValueLayout};
 use dwarf_forms::AttributeSpecification;
@@ -153,7 +154,10 @@ impl LastAttribute {
         match self {
             LastAttribute::Unchecked(layout) => skip(*layout, format, cursor),
             LastAttribute::Checked(specification) => {
-                read_one(keep, format, specification, cursor, found)
+                let mut copy = cursor.fork();
+                read_one(keep, format, specification, &mut copy, found)?;
+                *cursor = copy;
+                Ok(())
             }
         }
     }
@@ -182,6 +186,30 @@ fn skip(layout: ValueLayout, format: Format, cursor: &mut Cursor) -> Result<(), 
             Content::read(layout, format, &mut copy)?;
             *cursor = copy;
         }
+    }
+    Ok(())
+}
+
+/// Reads the attribute at the cursor. Adds it to `found` if it is used and `keep` is set.
+// Not inlined: it is rare. Its callers pass a copy of the cursor, which need not be in memory.
+#[inline(never)]
+pub(crate) fn read_one(
+    keep: bool,
+    format: Format,
+    specification: &AttributeSpecification,
+    cursor: &mut Cursor,
+    found: &mut UsedAttributes,
+) -> Result<(), Cause>
+    ensures { Fills result found.new (λ bytes at. used_after found.old
+        (stored_attributes_at keep format (specification.now ∷ []) bytes at))
+        cursor.old cursor.new }
+{
+    let attribute = read_attribute(format, specification, cursor)?;
+    if !keep {
+        return Ok(());
+    }
+    if let Some(name) = UsedName::of(attribute.name) {
+        found.add(name, attribute.value);
     }
     Ok(())
 }

@@ -2,7 +2,6 @@
 //! 5, chapter 7.5).
 #![tactic(auto)]
 
-mod attribute_reader;
 mod attribute_run;
 mod attribute_runs;
 mod attributes;

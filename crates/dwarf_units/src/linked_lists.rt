@@ -11,7 +11,7 @@ ghost use Rattle.dwarf_units.specs.Private.Links.{linked_attributes};
 ghost use Rattle.dwarf_units.specs.Private.StoredAttributes.{Fills, stored_attributes_at};
 ghost use Rattle.dwarf_units.specs.Private.Used.{used_after};
 
-use crate::attribute_reader::read_one;
+use crate::attribute_run::read_one;
 use crate::attributes::is_used;
 use crate::fixed_sizes::fixed_len;
 use crate::used_attributes::UsedAttributes;
@@ -96,7 +96,9 @@ impl<'a> LinkedLists<'a> {
         let mut next = self.linked(first);
         while let Some(number) = next {
             let attribute = self.lists.attribute(number);
-            read_one(keep, format, attribute, cursor, found)?;
+            let mut copy = cursor.fork();
+            read_one(keep, format, attribute, &mut copy, found)?;
+            *cursor = copy;
             let _ = cursor.place();
             next = self.linked(self.lists.next(number));
         }

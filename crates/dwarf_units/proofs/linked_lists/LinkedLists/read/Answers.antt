@@ -31,7 +31,7 @@ returns-in_err-read_one c =
     ≡ c.attribute-attribute.result.now ∷ drop 1 (attributes_from m.memoized c.in-Some.number))
     (ap (λ (l : LinkedPlaces). l.places) c.self.view_is) c.attribute-attribute.ensures)
     (rw c.in-Some.is at loop.invariant.stored))
-    (rw loop.invariant.bytes at c.in_err-read_one.ensures))
+    (rw (c.fork-copy.ensures, loop.invariant.bytes) at c.in_err-read_one.ensures))
 
 pub loop-next-preserved : goal.loop-next-preserved
 loop-next-preserved c =
@@ -44,7 +44,7 @@ loop-next-preserved c =
     (c.attribute-attribute.ensures ∙ ap (λ (l : List AttributeSpecification). attribute ∷ l)
     (sym c.next.ensures.list)) in
     let same : c.read_one.new.cursor.bytes ≡ c.args.cursor.now.bytes =
-    c.in_ok-read_one.ensures.1 ∙ loop.invariant.bytes in
+    (rw c.fork-copy.ensures at c.in_ok-read_one.ensures.1) ∙ loop.invariant.bytes in
     let within : c.read_one.new.cursor.place ≤ length c.args.cursor.now.bytes =
     subst (λ (b : List ℕ). c.read_one.new.cursor.place ≤ length b) same
     (omega (arith, c.place-in-Some.ensures.place, c.place-in-Some.ensures.within)) in
@@ -58,7 +58,7 @@ loop-next-preserved c =
           ∙ next-read loop.found c.read_one.new.found _ _ c.read_one.new.cursor.place _
           (stored-left c.args.keep c.args.format attribute _ _ c.args.cursor.now.bytes loop.found
           loop.cursor.place _ list (rw c.in-Some.is at loop.invariant.stored))
-          (rw loop.invariant.bytes at c.in_ok-read_one.ensures.0);
+          (rw (c.fork-copy.ensures, loop.invariant.bytes) at c.in_ok-read_one.ensures.0);
     }
 
 pub returns : goal.returns
