@@ -6,7 +6,7 @@ ghost use Rattle.dwarf_bytes.specs.Refusals.{Decodes, in_section};
 ghost use Rattle.dwarf_forms.specs.Declarations.{Declaration};
 ghost use Rattle.dwarf_units.specs.Units.{tables_of};
 ghost use Rattle.dwarf_walk.specs.Sections.{sections_of};
-ghost use Rattle.dwarf_walk.specs.Private.EntryBitmap.{AddsOffsets};
+ghost use Rattle.dwarf_walk.specs.EntryBitmap.{AddsOffsets};
 ghost use Rattle.dwarf_entries.specs.Bases.{CompilationUnit};
 ghost use Rattle.dwarf_entries.specs.Private.EntryOffsets.{AreStored, all_offsets};
 ghost use Rattle.dwarf_entries.specs.Private.Passes.{PassGives, all_entries, all_bases};

@@ -8,7 +8,8 @@ use Rattle.dwarf_forms.specs.declared.attribute.AttributeSpecification.{Attribut
 use Rattle.dwarf_units.specs.declared.attributes.Attribute.{Attribute}
 use Rattle.dwarf_units.specs.Private.Runs.{all_at, runs_of, then_read}
 use Rattle.dwarf_units.specs.Private.StoredAttributes.{stored_attributes_at}
-use Rattle.dwarf_units.specs.Private.Used.{used_after, used_among, used_attributes_at}
+use Rattle.dwarf_units.specs.Used.{used_among}
+use Rattle.dwarf_units.specs.Private.Used.{used_after, used_attributes_at}
 use Rattle.dwarf_units.proofs.RunReads.{runs-read}
 use Rattle.dwarf_units.proofs.StoredReads.{stored-append, used_all}
 use Rattle.dwarf_units.proofs.UsedLaws.{among-append}

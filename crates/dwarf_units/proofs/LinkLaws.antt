@@ -29,7 +29,8 @@ use Rattle.dwarf_units.specs.Private.FixedSizes.{constant_len, fixed_len, layout
 use Rattle.dwarf_units.specs.Private.Links.{AreLinked, IsLink, LinkedPlaces, is_empty_unused}
 use Rattle.dwarf_units.specs.Private.Links.{linked_attributes, skip_empty}
 use Rattle.dwarf_units.specs.Private.StoredAttributes.{stored_attributes, stored_attributes_at}
-use Rattle.dwarf_units.specs.Private.Used.{Used, used_after}
+use Rattle.dwarf_units.specs.Used.{Used}
+use Rattle.dwarf_units.specs.Private.Used.{used_after}
 use Rattle.dwarf_units.proofs.FixedPositions.{fixed-at}
 use Rattle.dwarf_units.proofs.StoredReads.{stored_all, with_first}
 

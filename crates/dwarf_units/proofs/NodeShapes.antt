@@ -24,7 +24,8 @@ use Rattle.dwarf_units.specs.declared.node_shape.NodeShape.{NodeShape}
 use Rattle.dwarf_units.specs.Entries.{Entry, Null, attributes_at, declaration_of}
 use Rattle.dwarf_units.specs.Entries.{depth_limit}
 use Rattle.dwarf_units.specs.Private.NodeShapes.{AreShapes, IsFixedSizeNode, code_limit}
-use Rattle.dwarf_units.specs.Private.NodeShapes.{null_shape, shape_at, shape_count}
+use Rattle.dwarf_units.specs.NodeShapes.{null_shape}
+use Rattle.dwarf_units.specs.Private.NodeShapes.{shape_at, shape_count}
 use Rattle.dwarf_units.specs.Private.NodeShapes.{shape_of, shape_of_code}
 use Rattle.dwarf_units.specs.Private.Runs.{Run, Stretch, fixed_size, runs_at, runs_of}
 use Rattle.dwarf_units.specs.Private.StoredAttributes.{stored_attributes_at}

@@ -16,7 +16,8 @@ use Rattle.dwarf_units.specs.Private.FixedSizes.{used_position}
 use Rattle.dwarf_units.specs.Private.Runs.{Run, Runs, Stretch, end_in, last_at, run_at}
 use Rattle.dwarf_units.specs.Private.Runs.{run_before, runs_at, runs_from, then_read}
 use Rattle.dwarf_units.specs.Private.StoredAttributes.{Fills}
-use Rattle.dwarf_units.specs.Private.Used.{Used, used_after, with_used}
+use Rattle.dwarf_units.specs.Used.{Used}
+use Rattle.dwarf_units.specs.Private.Used.{used_after, with_used}
 use Rattle.dwarf_units.proofs.UsedLaws.{nothing-used, with-none, with-twice}
 
 -- ---- computing the runs

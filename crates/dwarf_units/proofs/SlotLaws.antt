@@ -18,7 +18,8 @@ use Rattle.dwarf_units.specs.declared.used_name.UsedName.TheVariants.{RnglistsBa
 use Rattle.dwarf_units.specs.Entries.{value_of}
 use Rattle.dwarf_units.specs.Private.Slots.{slot_of, in_slot, in_slots}
 use Rattle.dwarf_units.specs.Private.Names.{name_of, used_names, used_name}
-use Rattle.dwarf_units.specs.Private.Used.{Used, with_used}
+use Rattle.dwarf_units.specs.Used.{Used}
+use Rattle.dwarf_units.specs.Private.Used.{with_used}
 use Rattle.dwarf_units.proofs.NameLaws.{named, found-number}
 use Rattle.dwarf_units.proofs.UsedLaws.{or-none, under-by, same-by}
 

@@ -1,4 +1,6 @@
 pub mod Attributes
 pub mod Units
 pub mod Entries
+pub mod Used
+pub mod NodeShapes
 pub mod Private

@@ -8,7 +8,8 @@ ghost use Rattle.dwarf_forms.specs.Private.SharedTables.{AreShared, full_declara
 ghost use Rattle.dwarf_forms.specs.Private.SharedTables.{full_declarations};
 ghost use Rattle.dwarf_bytes.specs.declared.format.Format.{Format};
 ghost use Rattle.dwarf_units.specs.Private.Runs.{own_runs, runs_of};
-ghost use Rattle.dwarf_units.specs.Private.NodeShapes.{AreShapes, null_shape};
+ghost use Rattle.dwarf_units.specs.NodeShapes.{null_shape};
+ghost use Rattle.dwarf_units.specs.Private.NodeShapes.{AreShapes};
 ghost use Rattle.dwarf_units.specs.Private.NodeShapes.{shape_of, shape_of_code, shape_count};
 
 use crate::attribute_runs::AttributeRuns;

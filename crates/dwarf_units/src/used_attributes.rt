@@ -2,7 +2,8 @@
 
 ghost use Rattle.std.specs.Prelude.{◌≡◌, ◌∷◌, []};
 ghost use Rattle.dwarf_units.specs.Private.Names.{named_attribute};
-ghost use Rattle.dwarf_units.specs.Private.Used.{used_among, value_named, with_used};
+ghost use Rattle.dwarf_units.specs.Used.{used_among};
+ghost use Rattle.dwarf_units.specs.Private.Used.{value_named, with_used};
 
 use crate::attributes::AttributeValue;
 use crate::used_name::UsedName;
@@ -20,7 +21,7 @@ pub struct UsedAttributes {
 
 impl Model for UsedAttributes {
     ghost use Rattle.dwarf_units.specs.Private.Slots.{in_slots};
-    ghost use Rattle.dwarf_units.specs.Private.Used.{Used};
+    ghost use Rattle.dwarf_units.specs.Used.{Used};
 
     ghost Value = { Used };
 

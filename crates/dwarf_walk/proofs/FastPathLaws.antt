@@ -5,10 +5,10 @@ use Rattle.std.specs.Prelude.{Option, Some, None, is_some, not, if◌then◌else
 use Rattle.std.specs.Int.{from_bool}
 use Rattle.dwarf_units.specs.declared.node_shape.NodeShape.{NodeShape}
 use Rattle.dwarf_units.specs.Entries.{Node, Entry, Null}
-use Rattle.dwarf_units.specs.Private.NodeShapes.{HasShape}
+use Rattle.dwarf_units.specs.NodeShapes.{HasShape}
 use Rattle.dwarf_walk.specs.declared.entry_bitmap.EntryBitmap.{EntryBitmap}
 use Rattle.dwarf_walk.specs.declared.unit_entries.RootEntry.{RootEntry}
-use Rattle.dwarf_walk.specs.Private.EntryBitmap.{AddsOffsets}
+use Rattle.dwarf_walk.specs.EntryBitmap.{AddsOffsets}
 use Rattle.dwarf_walk.specs.Private.Readers.{WalkState, after_node, after_scope}
 use Rattle.dwarf_walk.specs.Private.Readers.{depth_after_entry, places_of}
 use Rattle.dwarf_walk.specs.References.{or_else}

@@ -12,7 +12,7 @@ use Rattle.dwarf_walk.specs.declared.descendants.WalkedScope.{WalkedScope}
 use Rattle.dwarf_walk.specs.declared.unit_entries.ScopePlace.{ScopePlace}
 use Rattle.dwarf_units.specs.Entries.{Die, below}
 use Rattle.dwarf_walk.specs.ScopeEntries.{is_scope}
-use Rattle.dwarf_walk.specs.Private.Stored.{scope_places}
+use Rattle.dwarf_walk.specs.Stored.{scope_places}
 use Rattle.dwarf_walk.specs.Private.WalkedScopes.{walked_scope, walked_scopes, least_after_entry}
 use Rattle.dwarf_walk.specs.Private.WalkedScopes.{least_after, is_deeper, counted_places}
 use Rattle.dwarf_walk.specs.Private.WalkedScopes.{IsBounded, AreBounded}

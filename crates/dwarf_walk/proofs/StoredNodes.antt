@@ -3,7 +3,7 @@ use Rattle.std.proofs.Common.{◌≡◌, ℕ, List, [], ◌∷◌, Bool, true, f
 use Rattle.std.proofs.Common.{◌+◌, arith}
 use Rattle.std.specs.Int.{from_bool}
 use Rattle.dwarf_walk.specs.declared.entry_bitmap.EntryBitmap.{EntryBitmap}
-use Rattle.dwarf_walk.specs.Private.EntryBitmap.{AddsOffsets}
+use Rattle.dwarf_walk.specs.EntryBitmap.{AddsOffsets}
 use Rattle.std.specs.Prelude.{Option, Some, None, is_some, option_map, Ok, find, filter, not, ◌==◌}
 use Rattle.std.proofs.lemmas.Bool.{false≢true, eqb-true}
 use Rattle.dwarf_bytes.specs.declared.constants.TheConstants.{DW_AT_ABSTRACT_ORIGIN}
@@ -20,12 +20,12 @@ use Rattle.dwarf_walk.specs.declared.walk.NodeHead.{NodeHead}
 use Rattle.dwarf_walk.specs.declared.unit_entries.RootEntry.{RootEntry}
 use Rattle.dwarf_units.specs.Attributes.{is_used}
 use Rattle.dwarf_units.specs.Entries.{Die, Entry, value_of, node_at_depth}
-use Rattle.dwarf_walk.specs.Private.Stored.{named_entry, root_entry}
+use Rattle.dwarf_walk.specs.Stored.{named_entry, root_entry}
 use Rattle.dwarf_walk.specs.References.{or_else}
 use Rattle.dwarf_walk.specs.Private.Readers.{HasStored, IsAfterEntry, node_of, WalkState}
 use Rattle.dwarf_walk.specs.Private.Readers.{Takes, after_die, depth_after_entry}
 use Rattle.dwarf_units.specs.Private.StoredAttributes.{stored_attributes}
-use Rattle.dwarf_units.specs.Private.Used.{Used, used_among}
+use Rattle.dwarf_units.specs.Used.{Used, used_among}
 
 -- The value of a used attribute is stored if used attributes are.
 pub value-stored : (xs : List Attribute) (name : ℕ) → is_used name ≡ true

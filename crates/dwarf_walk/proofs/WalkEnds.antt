@@ -17,11 +17,11 @@ use Rattle.dwarf_walk.specs.declared.unit_entries.ScopePlace.{ScopePlace}
 use Rattle.dwarf_walk.specs.declared.unit_entries.RootEntry.{RootEntry}
 use Rattle.dwarf_units.specs.declared.unit_headers.UnitHeader.{UnitHeader}
 use Rattle.dwarf_units.specs.Entries.{LocatedNode, Die, die_of, depth_after, entries_of}
-use Rattle.dwarf_walk.specs.Private.Stored.{scope_places, StoredUnit, stored_unit, stored_entries}
+use Rattle.dwarf_walk.specs.Stored.{scope_places, StoredUnit, stored_unit, stored_entries}
 use Rattle.dwarf_walk.specs.Private.Readers.{WalkState, state_after, nodes_of, walk_of}
 use Rattle.dwarf_walk.specs.declared.entry_bitmap.EntryBitmap.{EntryBitmap}
 use Rattle.dwarf_walk.specs.Private.WalkedScopes.{counted_places, AreBounded}
-use Rattle.dwarf_walk.specs.Private.EntryBitmap.{AddsOffsets, offsets_of}
+use Rattle.dwarf_walk.specs.EntryBitmap.{AddsOffsets, offsets_of}
 use Rattle.dwarf_walk.proofs.ScopeLaws.{are-bounded, places-counted}
 
 -- ---- the data stored for a unit, from the final state of its walk

@@ -12,7 +12,7 @@ use Rattle.dwarf_walk.specs.declared.descendants.WalkedScope.{WalkedScope}
 use Rattle.dwarf_walk.specs.declared.unit_entries.RootEntry.{RootEntry}
 use Rattle.dwarf_units.specs.Entries.{Node, Entry, Null, LocatedNode, Die, die_of, opens, closes}
 use Rattle.dwarf_units.specs.Entries.{is_root, depth_after}
-use Rattle.dwarf_walk.specs.Private.Stored.{root_entry, root_in}
+use Rattle.dwarf_walk.specs.Stored.{root_entry, root_in}
 use Rattle.dwarf_walk.specs.References.{or_else}
 use Rattle.dwarf_walk.specs.Private.Readers.{WalkState, state_after_entries, state_after, after_die}
 use Rattle.dwarf_walk.specs.Private.Readers.{depth_after_entry, after_node}

@@ -21,12 +21,12 @@ use Rattle.dwarf_bytes.proofs.Items.Turns.{so-far-fault}
 use Rattle.dwarf_units.specs.declared.unit_headers.UnitHeader.{UnitHeader}
 use Rattle.dwarf_units.specs.Entries.{Node, Entry, Null, LocatedNode, Die, die_of, depth_after}
 use Rattle.dwarf_units.specs.Entries.{node_at_depth, node_at}
-use Rattle.dwarf_walk.specs.Private.Stored.{root_in}
+use Rattle.dwarf_walk.specs.Stored.{root_in}
 use Rattle.dwarf_walk.specs.Private.Readers.{WalkState, state_after, after_node, nodes_of}
 use Rattle.dwarf_walk.specs.Private.Readers.{Takes, places_of, walk_of}
 use Rattle.dwarf_walk.specs.declared.entry_bitmap.EntryBitmap.{EntryBitmap}
 use Rattle.dwarf_walk.specs.declared.unit_entries.RootEntry.{RootEntry}
-use Rattle.dwarf_walk.specs.Private.EntryBitmap.{AddsOffsets, offsets_of}
+use Rattle.dwarf_walk.specs.EntryBitmap.{AddsOffsets, offsets_of}
 use Rattle.dwarf_walk.proofs.BitmapLaws.{adds-none, adds-more}
 use Rattle.dwarf_units.proofs.EntryAdvances.{node_at_depth-moves, node_at-advances}
 use Rattle.dwarf_walk.proofs.WalkLaws.{standing, IsTree, tree-none, die_at, dies-null, dies-entry}

@@ -1,4 +1,6 @@
 pub mod Sections
 pub mod ScopeEntries
 pub mod References
+pub mod Stored
+pub mod EntryBitmap
 pub mod Private

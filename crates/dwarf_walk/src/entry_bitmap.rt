@@ -1,7 +1,7 @@
 //! A bitmap of the offsets at which entries start, with one bit for each byte of the section.
 
 ghost use Rattle.std.specs.Prelude.{◌≡◌, ℕ, [], ◌∷◌, false, IfOk, OnOk, if◌then◌else◌};
-ghost use Rattle.dwarf_walk.specs.Private.EntryBitmap.{has_entry, AddsOffsets};
+ghost use Rattle.dwarf_walk.specs.EntryBitmap.{has_entry, AddsOffsets};
 
 use std::alloc::{AllocError, Global};
 

@@ -12,7 +12,7 @@ ghost use Rattle.dwarf_walk.specs.Sections.{Sections as SectionBytes, sections_o
 ghost use Rattle.dwarf_walk.specs.Private.Rereading.{ReturnsAndStores, scope_entry_at, IsReaderOf};
 ghost use Rattle.dwarf_walk.specs.Private.Rereading.{len_at, cached_by, HasTableOf};
 ghost use Rattle.dwarf_walk.specs.Private.Rereading.{HasPermanentTable, IsShort, IsCachedAt};
-ghost use Rattle.dwarf_walk.specs.Private.EntryBitmap.{has_entry};
+ghost use Rattle.dwarf_walk.specs.EntryBitmap.{has_entry};
 ghost use Rattle.dwarf_walk.specs.Private.Long.{cached_at, long_entry};
 ghost use Rattle.dwarf_walk.specs.Private.Named.{used_by_name_at, named_entry_at};
 

@@ -2,8 +2,8 @@
 
 ghost use Rattle.std.specs.Prelude.{◌≡◌, List, Some};
 ghost use Rattle.dwarf_units.specs.declared.attributes.Attribute.{Attribute};
-ghost use Rattle.dwarf_units.specs.Private.Used.{used_among};
-ghost use Rattle.dwarf_walk.specs.Private.Stored.{named_entry, scope_entry, root_entry};
+ghost use Rattle.dwarf_units.specs.Used.{used_among};
+ghost use Rattle.dwarf_walk.specs.Stored.{named_entry, scope_entry, root_entry};
 ghost use Rattle.dwarf_walk.specs.References.{entry_reference};
 ghost use Rattle.dwarf_walk.specs.Private.Readers.{die_with};
 

@@ -6,8 +6,8 @@ ghost use Rattle.dwarf_bytes.specs.Refusals.{Decodes, in_section};
 ghost use Rattle.std.specs.List.{filter_map};
 ghost use Rattle.dwarf_units.specs.Entries.{Die, LocatedNode, depth_limit, die_of, node_at_depth};
 ghost use Rattle.dwarf_units.specs.Entries.{entries_of};
-ghost use Rattle.dwarf_walk.specs.Private.Stored.{stored_of, stored_entries};
-ghost use Rattle.dwarf_walk.specs.Private.EntryBitmap.{AddsOffsets, offsets_of};
+ghost use Rattle.dwarf_walk.specs.Stored.{stored_of, stored_entries};
+ghost use Rattle.dwarf_walk.specs.EntryBitmap.{AddsOffsets, offsets_of};
 ghost use Rattle.dwarf_walk.specs.Private.Readers.{IsAfterEntry, ReadsNode, Takes, state_of};
 ghost use Rattle.dwarf_walk.specs.Private.Readers.{nodes_of, walk_of};
 

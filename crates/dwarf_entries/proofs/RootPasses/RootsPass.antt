@@ -11,7 +11,7 @@ use Rattle.dwarf_units.specs.Entries.{Die}
 use Rattle.dwarf_walk.specs.declared.unit_entries.RootEntry.{RootEntry}
 use Rattle.dwarf_walk.specs.declared.unit_entries.UnitEntries.{UnitEntries}
 use Rattle.dwarf_walk.specs.ScopeEntries.{is_scope}
-use Rattle.dwarf_walk.specs.Private.Stored.{StoredUnit, root_in}
+use Rattle.dwarf_walk.specs.Stored.{StoredUnit, root_in}
 use Rattle.dwarf_entries.specs.declared.scope.Root.{Root}
 use Rattle.dwarf_entries.specs.Bases.{CompilationUnit}
 use Rattle.dwarf_entries.specs.Scopes.{root_of, roots_from}

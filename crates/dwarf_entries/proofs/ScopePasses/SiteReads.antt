@@ -14,8 +14,8 @@ use Rattle.dwarf_walk.specs.declared.unit_entries.UnitEntries.{UnitEntries}
 use Rattle.dwarf_walk.specs.ScopeEntries.{kind_of, is_scope}
 use Rattle.dwarf_walk.specs.Sections.{Sections}
 use Rattle.dwarf_walk.specs.Private.Rereading.{scope_entry_at}
-use Rattle.dwarf_walk.specs.Private.Stored.{StoredUnit, scope_entry, scope_place, scope_places}
-use Rattle.dwarf_walk.specs.Private.Stored.{stored_of}
+use Rattle.dwarf_walk.specs.Stored.{StoredUnit, scope_entry, scope_place, scope_places}
+use Rattle.dwarf_walk.specs.Stored.{stored_of}
 use Rattle.dwarf_entries.specs.Bases.{CompilationUnit}
 use Rattle.dwarf_entries.specs.Scopes.{ScopeSite, site_of, sites_in}
 use Rattle.dwarf_entries.specs.Private.EntryOffsets.{stored_unit_of}

@@ -14,7 +14,7 @@ use Rattle.dwarf_units.specs.Entries.{Die}
 use Rattle.dwarf_units.proofs.TableLaws.{in_section-ok}
 use Rattle.dwarf_walk.specs.declared.unit_entries.UnitEntries.{UnitEntries}
 use Rattle.dwarf_walk.specs.Sections.{Sections}
-use Rattle.dwarf_walk.specs.Private.Stored.{StoredUnit, root_in, stored_of}
+use Rattle.dwarf_walk.specs.Stored.{StoredUnit, root_in, stored_of}
 use Rattle.dwarf_entries.specs.declared.bases.Bases.{Bases}
 use Rattle.dwarf_entries.specs.Bases.{CompilationUnit, bases_of_first, with_bases}
 use Rattle.dwarf_entries.specs.Private.EntryOffsets.{stored_unit_of}

@@ -21,8 +21,8 @@ use Rattle.dwarf_units.specs.Entries.{Die, entries_of}
 use Rattle.dwarf_units.proofs.TableLaws.{table_for, table_is, in_section-ok}
 use Rattle.dwarf_walk.specs.declared.unit_entries.UnitEntries.{UnitEntries}
 use Rattle.dwarf_walk.specs.declared.entry_bitmap.EntryBitmap.{EntryBitmap}
-use Rattle.dwarf_walk.specs.Private.EntryBitmap.{AddsOffsets, offsets_of}
-use Rattle.dwarf_walk.specs.Private.Stored.{StoredUnit, stored_unit, stored_entries, stored_of}
+use Rattle.dwarf_walk.specs.EntryBitmap.{AddsOffsets, offsets_of}
+use Rattle.dwarf_walk.specs.Stored.{StoredUnit, stored_unit, stored_entries, stored_of}
 use Rattle.dwarf_walk.proofs.BitmapLaws.{adds-none, adds-more}
 use Rattle.dwarf_entries.specs.Bases.{CompilationUnit, no_bases, unit_of}
 use Rattle.dwarf_entries.specs.Private.EntryOffsets.{AreStored, stored_unit_of, all_offsets}

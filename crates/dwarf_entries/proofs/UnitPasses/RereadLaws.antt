@@ -31,7 +31,7 @@ use Rattle.dwarf_entries.proofs.UnitPasses.StoredUnits.{stored-index}
 use Rattle.dwarf_forms.specs.Tables.{declarations_of}
 use Rattle.dwarf_units.specs.Units.{declarations_limit}
 use Rattle.dwarf_walk.specs.ScopeEntries.{kind_of}
-use Rattle.dwarf_walk.specs.Private.Stored.{StoredUnit, named_entry, scope_entry, scope_entry_of}
+use Rattle.dwarf_walk.specs.Stored.{StoredUnit, named_entry, scope_entry, scope_entry_of}
 use Rattle.dwarf_walk.specs.Private.Rereading.{scope_entry_at}
 use Rattle.dwarf_units.proofs.RereadLaws.{entries-again}
 use Rattle.dwarf_entries.proofs.UnitPasses.UnitLaws.{IsUnitIn, AreUnitsIn}

@@ -18,7 +18,7 @@ use Rattle.dwarf_units.specs.Private.Rising.{RiseWithin}
 use Rattle.dwarf_units.proofs.EntryOrder.{entries-rise}
 use Rattle.dwarf_units.proofs.TableLaws.{table_is, in_section-ok}
 use Rattle.dwarf_walk.specs.declared.entry_bitmap.EntryBitmap.{EntryBitmap}
-use Rattle.dwarf_walk.specs.Private.EntryBitmap.{has_entry, AddsOffsets, offsets_of}
+use Rattle.dwarf_walk.specs.EntryBitmap.{has_entry, AddsOffsets, offsets_of}
 use Rattle.dwarf_walk.specs.Sections.{Sections}
 use Rattle.dwarf_entries.specs.Bases.{CompilationUnit, no_bases, with_bases, unit_of, units_read}
 use Rattle.dwarf_entries.specs.Private.EntryOffsets.{IsBitmapOf, all_offsets, dies_of}

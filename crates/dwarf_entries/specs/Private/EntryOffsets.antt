@@ -4,8 +4,8 @@ use Rattle.std.specs.List.{list_any}
 use Rattle.dwarf_units.specs.Entries.{Die}
 use Rattle.dwarf_walk.specs.declared.unit_entries.UnitEntries.{UnitEntries}
 use Rattle.dwarf_walk.specs.declared.entry_bitmap.EntryBitmap.{EntryBitmap}
-use Rattle.dwarf_walk.specs.Private.EntryBitmap.{has_entry, offsets_of}
-use Rattle.dwarf_walk.specs.Private.Stored.{StoredUnit, stored_unit, stored_of}
+use Rattle.dwarf_walk.specs.EntryBitmap.{has_entry, offsets_of}
+use Rattle.dwarf_walk.specs.Stored.{StoredUnit, stored_unit, stored_of}
 use Rattle.dwarf_entries.specs.Bases.{CompilationUnit}
 
 -- The number of scopes of the units of the program.

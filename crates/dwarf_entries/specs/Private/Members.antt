@@ -13,7 +13,7 @@ use Rattle.dwarf_units.specs.declared.attributes.AttributeValue.{AttributeValue}
 use Rattle.dwarf_entries.specs.Bases.{CompilationUnit}
 use Rattle.dwarf_entries.specs.Names.{Member, members_of, member_at, first_on}
 use Rattle.dwarf_bytes.specs.Refusals.{Fails}
-use Rattle.dwarf_walk.specs.Private.Stored.{named_entry}
+use Rattle.dwarf_walk.specs.Stored.{named_entry}
 
 -- The entry, in the unit at an index, is the stored form of the member.
 pub record IsMember (units : List CompilationUnit) (number : ℕ) (entry : NamedEntry) (m : Member)

@@ -22,7 +22,7 @@ use Rattle.dwarf_entries.specs.Scopes.{roots_from, stmt_list_by_number, scopes_o
 use Rattle.dwarf_entries.specs.Scopes.{stmt_list_of}
 use Rattle.dwarf_walk.specs.declared.unit_entries.ScopeEntry.{ScopeEntry}
 use Rattle.dwarf_walk.specs.ScopeEntries.{is_scope}
-use Rattle.dwarf_walk.specs.Private.Stored.{scope_entry}
+use Rattle.dwarf_walk.specs.Stored.{scope_entry}
 use Rattle.dwarf_entries.specs.Private.Shared.{AreConsecutive}
 
 -- The result of a pass, related to the outcome, or the fault of the outcome. The call may also fail

@@ -13,7 +13,7 @@ use Rattle.dwarf_bytes.specs.Refusals.{Fails}
 use Rattle.dwarf_units.specs.Entries.{depth_limit, declaration_of, entry_at}
 use Rattle.dwarf_units.specs.Private.AbbreviationTables.{Table}
 use Rattle.dwarf_units.specs.Private.StoredAttributes.{stored_attributes}
-use Rattle.dwarf_units.specs.Private.Used.{Used, used_among}
+use Rattle.dwarf_units.specs.Used.{Used, used_among}
 
 -- The declaration of an entry in a unit of a format.
 pub record Head : Type 0 where

@@ -8,13 +8,10 @@ use Rattle.dwarf_forms.specs.declared.shared.TheConstants.{UNSHARED}
 use Rattle.dwarf_forms.specs.Declarations.{Declaration}
 use Rattle.dwarf_forms.specs.Private.SharedTables.{AreShared, SharedDeclaration, full_declarations}
 use Rattle.dwarf_units.specs.declared.node_shape.NodeShape.{NodeShape}
-use Rattle.dwarf_units.specs.Entries.{Node, Entry, Null, declaration_of, depth_limit, node_at_depth}
+use Rattle.dwarf_units.specs.Entries.{Node, declaration_of, depth_limit, node_at_depth}
+use Rattle.dwarf_units.specs.NodeShapes.{HasShape, null_shape}
 use Rattle.dwarf_units.specs.Private.Runs.{fixed_size, runs_of}
 use Rattle.dwarf_units.specs.Private.AbbreviationTables.{Table}
-
--- The shape of a null entry.
-abbrev pub null_shape : NodeShape
-null_shape = record { is_null = true; tag = 0; children = false; len = 0 }
 
 -- The shape of the entries of a declaration, if their size is fixed. A declaration with UNSHARED
 -- attributes or more may share some.
@@ -61,12 +58,6 @@ fixed_size_node_at table depth unit at =
     option_and_then (λ code. option_and_then (λ shape.
     if nat_lt (length unit) (at + 1 + shape.len) then None else Some (shape, at + 1 + shape.len))
     (shape_at table code)) (slice_get unit at)
-
--- The node has this shape.
-abbrev pub HasShape : NodeShape → Node → Type 0
-HasShape shape Null = shape ≡ null_shape
-HasShape shape (Entry tag children attributes) =
-    (shape.is_null ≡ false) × (shape.tag ≡ tag) × (shape.children ≡ children)
 
 -- A node of this shape is at the offset, at this depth and after the root, and ends at the returned
 -- offset.

@@ -9,7 +9,8 @@ use Rattle.dwarf_units.specs.declared.used_name.UsedName.TheVariants.{Specificat
 use Rattle.dwarf_units.specs.declared.used_name.UsedName.TheVariants.{CallFile, CallLine, StmtList}
 use Rattle.dwarf_units.specs.declared.used_name.UsedName.TheVariants.{StrOffsetsBase, AddrBase}
 use Rattle.dwarf_units.specs.declared.used_name.UsedName.TheVariants.{RnglistsBase}
-use Rattle.dwarf_units.specs.Private.Used.{Used, used_by}
+use Rattle.dwarf_units.specs.Used.{Used}
+use Rattle.dwarf_units.specs.Private.Used.{used_by}
 
 -- The slot of a name.
 abbrev pub slot_of : UsedName → ℕ

@@ -1,5 +1,4 @@
--- The used attributes of an entry by name (DWARF 5, 2.2). If an attribute occurs twice, the first
--- value counts.
+-- The used attributes of an entry as they are added one by one.
 use Rattle.std.specs.Prelude.{ℕ, List, Bool, Option, Result, Ok, Err}
 use Rattle.std.specs.Option.{option_or}
 use Rattle.dwarf_bytes.specs.declared.fault.Cause.{Cause}
@@ -16,24 +15,9 @@ use Rattle.dwarf_units.specs.declared.used_name.UsedName.TheVariants.{CallFile, 
 use Rattle.dwarf_units.specs.declared.used_name.UsedName.TheVariants.{StrOffsetsBase, AddrBase}
 use Rattle.dwarf_units.specs.declared.used_name.UsedName.TheVariants.{RnglistsBase}
 use Rattle.dwarf_units.specs.Entries.{value_of}
+use Rattle.dwarf_units.specs.Used.{Used, used_among}
 use Rattle.dwarf_units.specs.Private.Names.{name_of}
 use Rattle.dwarf_units.specs.Private.StoredAttributes.{stored_attributes_at}
-
--- The value of each used attribute that an entry has.
-pub record Used : Type 0 where
-  pub name : Option AttributeValue
-  pub linkage_name : Option AttributeValue
-  pub abstract_origin : Option AttributeValue
-  pub specification : Option AttributeValue
-  pub low_pc : Option AttributeValue
-  pub high_pc : Option AttributeValue
-  pub ranges : Option AttributeValue
-  pub call_file : Option AttributeValue
-  pub call_line : Option AttributeValue
-  pub stmt_list : Option AttributeValue
-  pub str_offsets_base : Option AttributeValue
-  pub addr_base : Option AttributeValue
-  pub rnglists_base : Option AttributeValue
 
 abbrev pub value_named : UsedName → Used → Option AttributeValue
 value_named Name used = used.name
@@ -67,10 +51,6 @@ used_by value = record {
   addr_base = value AddrBase;
   rnglists_base = value RnglistsBase;
 }
-
--- The used attributes of a list.
-abbrev pub used_among : List Attribute → Used
-used_among attributes = used_by (λ name. value_of attributes (name_of name))
 
 -- The used attributes of `front`, and from a list the used attributes that `front` lacks.
 unfoldable pub with_used : Used → List Attribute → Used

@@ -9,9 +9,9 @@ use Rattle.dwarf_forms.specs.Declarations.{Declaration}
 use Rattle.dwarf_units.specs.declared.attributes.Attribute.{Attribute}
 use Rattle.dwarf_units.specs.Entries.{Die, entry_at}
 use Rattle.dwarf_units.specs.Private.StoredAttributes.{stored_attributes}
-use Rattle.dwarf_units.specs.Private.Used.{Used, used_among}
+use Rattle.dwarf_units.specs.Used.{Used, used_among}
 use Rattle.dwarf_walk.specs.declared.unit_entries.NamedEntry.{NamedEntry}
-use Rattle.dwarf_walk.specs.Private.Stored.{named_entry}
+use Rattle.dwarf_walk.specs.Stored.{named_entry}
 
 -- An entry with an offset, a tag and attributes. Its depth is irrelevant.
 abbrev pub entry_with : ℕ → ℕ × List Attribute → Die

@@ -20,11 +20,11 @@ use Rattle.dwarf_units.specs.Entries.{Node, Entry, Null, LocatedNode, Die, die_o
 use Rattle.dwarf_units.specs.Entries.{node_at_depth, node_at}
 use Rattle.dwarf_walk.specs.Private.WalkedScopes.{walked_scope, walked_scopes}
 use Rattle.dwarf_walk.specs.Private.WalkedScopes.{least_after_entry, least_after}
-use Rattle.dwarf_walk.specs.Private.Stored.{root_entry, root_in}
+use Rattle.dwarf_walk.specs.Stored.{root_entry, root_in}
 use Rattle.dwarf_units.specs.Private.StoredAttributes.{stored_attributes}
-use Rattle.dwarf_units.specs.Private.Used.{Used, used_among}
+use Rattle.dwarf_units.specs.Used.{Used, used_among}
 use Rattle.dwarf_walk.specs.References.{or_else}
-use Rattle.dwarf_walk.specs.Private.EntryBitmap.{AddsOffsets}
+use Rattle.dwarf_walk.specs.EntryBitmap.{AddsOffsets}
 
 -- An entry with an offset and attributes. Its tag and its depth are irrelevant.
 abbrev pub die_with : ℕ → List Attribute → Die

@@ -19,7 +19,7 @@ use Rattle.dwarf_walk.specs.declared.unit_entries.NamedEntry.{NamedEntry}
 use Rattle.dwarf_walk.specs.declared.unit_entries.ScopeEntry.{ScopeEntry}
 use Rattle.dwarf_walk.specs.declared.long_entries.LongEntry.{LongEntry}
 use Rattle.dwarf_walk.specs.Sections.{Sections}
-use Rattle.dwarf_walk.specs.Private.Stored.{scope_entry_of}
+use Rattle.dwarf_walk.specs.Stored.{scope_entry_of}
 use Rattle.dwarf_walk.specs.Private.Long.{cached_at, long_entry, AreCachedOf}
 use Rattle.dwarf_walk.specs.Private.Named.{entry_with, used_at, named_entry_at}
 

@@ -3,7 +3,7 @@ use Rattle.std.proofs.lemmas.Result.{err_from_is_err_and}
 use Rattle.dwarf_bytes.specs.declared.fault.Section.TheVariants as names
 use Rattle.dwarf_units.specs.Entries.{Die}
 use Rattle.dwarf_units.proofs.TableLaws.{in_section-ok}
-use Rattle.dwarf_walk.specs.Private.Stored.{stored_unit}
+use Rattle.dwarf_walk.specs.Stored.{stored_unit}
 use Rattle.dwarf_walk.specs.Sections.{sections_of}
 use Rattle.dwarf_entries.specs.Private.ObjectUnits.{ObjectUnits, units_or_none}
 use Rattle.dwarf_entries.proofs.OriginChains.ChainStrings.{cache-none}

@@ -3,7 +3,7 @@ use Rattle.dwarf_bytes.specs.declared.fault.Cause.{Cause}
 use Rattle.dwarf_bytes.specs.declared.fault.Section.TheVariants as names
 use Rattle.dwarf_bytes.specs.Refusals.{at_item}
 use Rattle.dwarf_bytes.proofs.Numbers.Moves.{same-ok}
-use Rattle.dwarf_walk.specs.Private.Stored.{scope_entry}
+use Rattle.dwarf_walk.specs.Stored.{scope_entry}
 use Rattle.dwarf_walk.proofs.RereadLaws.{again-memory}
 use Rattle.dwarf_entries.specs.Scopes.{sites_in}
 use Rattle.dwarf_entries.proofs.ScopePasses.SiteReads.{sites-stored, site-read}

@@ -4,7 +4,7 @@ use Rattle.std.proofs.lemmas.Option.{slice_get_within}
 use Rattle.dwarf_bytes.specs.declared.fault.Cause.{Cause}
 use Rattle.dwarf_entries.specs.Names.{Member}
 use Rattle.dwarf_entries.specs.Private.Members.{LeadsTo}
-use Rattle.dwarf_walk.specs.Private.Stored.{StoredUnit}
+use Rattle.dwarf_walk.specs.Stored.{StoredUnit}
 use Rattle.dwarf_entries.proofs.OriginChains.ReferenceLaws.{anywhere, within-unit}
 use Rattle.dwarf_entries.proofs.UnitPasses.ObjectLaws.{seen-units}
 use Rattle.dwarf_entries.proofs.UnitPasses.PassLaws.{found-at}

@@ -1,6 +1,6 @@
 use Rattle.std.proofs.Common.{refl, ap, sym}
 use Rattle.std.specs.Prelude.{Ok}
-use Rattle.dwarf_units.specs.Private.Used.{Used}
+use Rattle.dwarf_units.specs.Used.{Used}
 use Rattle.dwarf_units.proofs.UsedLaws.{with-none}
 use Rattle.dwarf_units.proofs.attribute_run.Stretch.read.Goals as goal
 

@@ -1,0 +1,55 @@
+-- The used attributes of an entry by name (DWARF 5, 2.2). If an attribute occurs twice, the first
+-- value counts.
+use Rattle.std.specs.Prelude.{List, Option}
+use Rattle.dwarf_bytes.specs.declared.constants.TheConstants.{
+  DW_AT_ABSTRACT_ORIGIN,
+  DW_AT_ADDR_BASE,
+  DW_AT_CALL_FILE,
+  DW_AT_CALL_LINE,
+  DW_AT_HIGH_PC,
+  DW_AT_LINKAGE_NAME,
+  DW_AT_LOW_PC,
+  DW_AT_NAME,
+  DW_AT_RANGES,
+  DW_AT_RNGLISTS_BASE,
+  DW_AT_SPECIFICATION,
+  DW_AT_STMT_LIST,
+  DW_AT_STR_OFFSETS_BASE,
+}
+use Rattle.dwarf_units.specs.declared.attributes.Attribute.{Attribute}
+use Rattle.dwarf_units.specs.declared.attributes.AttributeValue.{AttributeValue}
+use Rattle.dwarf_units.specs.Entries.{value_of}
+
+-- The value of each used attribute that an entry has.
+pub record Used : Type 0 where
+  pub name : Option AttributeValue
+  pub linkage_name : Option AttributeValue
+  pub abstract_origin : Option AttributeValue
+  pub specification : Option AttributeValue
+  pub low_pc : Option AttributeValue
+  pub high_pc : Option AttributeValue
+  pub ranges : Option AttributeValue
+  pub call_file : Option AttributeValue
+  pub call_line : Option AttributeValue
+  pub stmt_list : Option AttributeValue
+  pub str_offsets_base : Option AttributeValue
+  pub addr_base : Option AttributeValue
+  pub rnglists_base : Option AttributeValue
+
+-- The used attributes of a list.
+abbrev pub used_among : List Attribute → Used
+used_among attributes = record {
+  name = value_of attributes DW_AT_NAME;
+  linkage_name = value_of attributes DW_AT_LINKAGE_NAME;
+  abstract_origin = value_of attributes DW_AT_ABSTRACT_ORIGIN;
+  specification = value_of attributes DW_AT_SPECIFICATION;
+  low_pc = value_of attributes DW_AT_LOW_PC;
+  high_pc = value_of attributes DW_AT_HIGH_PC;
+  ranges = value_of attributes DW_AT_RANGES;
+  call_file = value_of attributes DW_AT_CALL_FILE;
+  call_line = value_of attributes DW_AT_CALL_LINE;
+  stmt_list = value_of attributes DW_AT_STMT_LIST;
+  str_offsets_base = value_of attributes DW_AT_STR_OFFSETS_BASE;
+  addr_base = value_of attributes DW_AT_ADDR_BASE;
+  rnglists_base = value_of attributes DW_AT_RNGLISTS_BASE;
+}
