@@ -20,8 +20,8 @@ use Rattle.dwarf_units.specs.declared.used_position.UsedValue.{UsedValue}
 use Rattle.dwarf_units.specs.declared.used_position.UsedValue.TheVariants.{Constant, At}
 use Rattle.dwarf_units.specs.Attributes.{accepts, is_negative, is_negative_count, number_of}
 use Rattle.dwarf_units.specs.Entries.{attribute_at}
-use Rattle.dwarf_units.specs.Private.FixedSizes.{constant_number, number_in, used_value}
-use Rattle.dwarf_units.specs.Private.FixedSizes.{constant_len, fixed_len, layout_len}
+use Rattle.dwarf_units.specs.Private.FixedSizes.{number_in, used_value}
+use Rattle.dwarf_units.specs.Private.FixedSizes.{fixed_len, layout_len}
 use Rattle.dwarf_units.proofs.FixedReads.{ReadsFixed, content-fixed}
 use Rattle.dwarf_units.proofs.FixedValues.{IsFine, constant-there, in-layout, never-count}
 
@@ -94,7 +94,7 @@ pub fixed-at : (format : Format) (s : AttributeSpecification) (bytes : List ℕ)
     → IsAt format s bytes first n m (used_value n s)
 unfolding fixed_len
 fixed-at format s bytes first n m h le =
-    by_form (accepts s.name s.form) refl (form_of s.form) refl h
+    by_form (accepts s.name s.form) refl (form_of s.form) refl
   where
     by_test : accepts s.name s.form ≡ true → form_of s.form ≡ Some ImplicitConst → (c : ℤ)
         → s.constant ≡ Some c → (b : Bool) → is_negative_count s.name (Signed c) ≡ b
@@ -119,21 +119,15 @@ fixed-at format s bytes first n m h le =
     by_constant fine is (Some c) there h =
         by_test fine is c there (is_negative_count s.name (Signed c)) refl h
 
+    no-len : {P : Type 0} → (let none : Option ℕ = None in none) ≡ Some m → P
+    no-len none = cc
+
     by_form : (b : Bool) → accepts s.name s.form ≡ b → (found : Option Form)
-        → form_of s.form ≡ found → cond b (elim found as (λ _. Option ℕ) [
-          | None ↦ None
-          | Some (Direct layout) ↦ layout_len format layout
-          | Some ImplicitConst ↦ constant_len s
-          | Some Indirect ↦ None
-        ]) None ≡ Some m → IsAt format s bytes first n m (elim found as (λ _. UsedValue) [
-          | None ↦ Constant (constant_number s)
-          | Some (Direct layout) ↦ At n layout
-          | Some ImplicitConst ↦ Constant (constant_number s)
-          | Some Indirect ↦ Constant (constant_number s)
-        ])
-    by_form false fine found is h = cc
-    by_form true fine None is h = cc
-    by_form true fine (Some (Direct layout)) is h =
-        direct-at format s bytes first n m layout fine is h le
-    by_form true fine (Some ImplicitConst) is h = by_constant fine is s.constant refl h
-    by_form true fine (Some Indirect) is h = cc
+        → form_of s.form ≡ found → IsAt format s bytes first n m (used_value n s)
+    by_form false fine found is = no-len (rw (fine, fixed_len) at h)
+    by_form true fine None is = no-len (rw (fine, is, fixed_len) at h)
+    by_form true fine (Some (Direct layout)) is = rw (is, used_value)
+        (direct-at format s bytes first n m layout fine is (rw (fine, is, fixed_len) at h) le)
+    by_form true fine (Some ImplicitConst) is = rw (is, used_value)
+        (by_constant fine is s.constant refl (rw (fine, is, fixed_len) at h))
+    by_form true fine (Some Indirect) is = no-len (rw (fine, is, fixed_len) at h)

@@ -1,7 +1,7 @@
 -- An attribute with a fixed form is read as its value in the layout of the form, or as the
 -- constant of its declaration.
 use Rattle.std.proofs.Common.{◌≡◌, ℕ, ℤ, List, Bool, true, false, cond, refl, ap, sym, ◌∙◌, subst}
-use Rattle.std.specs.Prelude.{Option, Some, None, Result, Ok, Err, not, ◌==◌, ◌&&◌}
+use Rattle.std.specs.Prelude.{Option, Some, Result, Ok, Err, not, ◌==◌, ◌&&◌}
 use Rattle.std.specs.Option.{option_map_or}
 use Rattle.std.proofs.lemmas.Bool.{eqb-true}
 use Rattle.dwarf_bytes.specs.declared.constants.TheConstants.{DW_FORM_INDIRECT, DW_FORM_SDATA}
@@ -18,7 +18,6 @@ use Rattle.dwarf_bytes.specs.Contents.{Content, Signed, content_at}
 use Rattle.dwarf_bytes.specs.Items.{refuse_if, reading}
 use Rattle.dwarf_bytes.specs.Numbers.{uleb_at}
 use Rattle.dwarf_forms.specs.declared.values.ValueFault.{ValueFault}
-use Rattle.dwarf_forms.specs.declared.values.ValueFault.TheVariants as values
 use Rattle.dwarf_forms.specs.Values.{Value, reading_value as of_value, direct_at, value_at}
 use Rattle.dwarf_units.specs.Attributes.{is_negative, is_negative_count, forms_of, is_among}
 use Rattle.dwarf_units.specs.Attributes.{accepts, number_of}
@@ -70,45 +69,20 @@ value-direct : (form : ℕ) (layout : ValueLayout) (format : Format) (constant :
     (bytes : List ℕ) (at : ℕ) → form_of form ≡ Some (Direct layout)
     → value_at form format constant bytes at ≡ direct_at form format bytes at
 unfolding value_at
-value-direct form layout format constant bytes at is =
-    ap (λ (found : Option Form). elim found as (λ _. Result (Value × ℕ) ValueFault) [
-      | None ↦ Err values.Form
-      | Some (Direct layout) ↦ direct_at form format bytes at
-      | Some ImplicitConst ↦ (elim constant as (λ _. Result (Value × ℕ) ValueFault)
-          [ None ↦ Err values.Form | Some c ↦ Ok (record { form = form; content = Signed c }, at) ])
-      | Some Indirect ↦ of_value (uleb_at bytes at) >>= λ inner. direct_at inner.0 format bytes
-          inner.1
-    ]) is
+value-direct form layout format constant bytes at is = rw (is, value_at) refl
 
 value-constant : (form : ℕ) (format : Format) (constant : Option ℤ) (c : ℤ) (bytes : List ℕ)
     (at : ℕ) → form_of form ≡ Some ImplicitConst → constant ≡ Some c
     → value_at form format constant bytes at ≡ Ok (record { form = form; content = Signed c }, at)
 unfolding value_at
-value-constant form format constant c bytes at is there =
-    ap (λ (found : Option Form). elim found as (λ _. Result (Value × ℕ) ValueFault) [
-      | None ↦ Err values.Form
-      | Some (Direct layout) ↦ direct_at form format bytes at
-      | Some ImplicitConst ↦ (elim constant as (λ _. Result (Value × ℕ) ValueFault)
-          [ None ↦ Err values.Form | Some c ↦ Ok (record { form = form; content = Signed c }, at) ])
-      | Some Indirect ↦ of_value (uleb_at bytes at) >>= λ inner. direct_at inner.0 format bytes
-          inner.1
-    ]) is
-    ∙ ap (λ (o : Option ℤ). elim o as (λ _. Result (Value × ℕ) ValueFault)
-    [ None ↦ Err values.Form | Some c ↦ Ok (record { form = form; content = Signed c }, at) ]) there
+value-constant form format constant c bytes at is there = rw (is, there, value_at) refl
 
 direct-content : (form : ℕ) (layout : ValueLayout) (format : Format) (bytes : List ℕ) (at : ℕ)
     → form_of form ≡ Some (Direct layout)
     → direct_at form format bytes at ≡ (of_value (content_at layout format bytes at)
     >>= λ read. Ok (record { form = form; content = read.0 }, read.1))
 unfolding direct_at
-direct-content form layout format bytes at is =
-    ap (λ (found : Option Form). elim found as (λ _. Result (Value × ℕ) ValueFault) [
-      | None ↦ Err values.Form
-      | Some (Direct layout) ↦ of_value (content_at layout format bytes at)
-          >>= λ read. Ok (record { form = form; content = read.0 }, read.1)
-      | Some ImplicitConst ↦ Err values.Form
-      | Some Indirect ↦ Err values.Form
-    ]) is
+direct-content form layout format bytes at is = rw (is, direct_at) refl
 
 -- ---- the attribute
 

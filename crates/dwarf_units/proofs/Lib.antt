@@ -16,7 +16,6 @@ pub mod RunParts
 pub mod RunReads
 pub mod RunTurns
 pub mod StoredReads
-pub mod EntryReads
 pub mod NodeShapes
 pub mod LinkLaws
 pub mod SharedTableLaws

@@ -25,7 +25,7 @@ use Rattle.dwarf_forms.proofs.MemoListLaws.{from-stays, rest-stays}
 use Rattle.dwarf_units.specs.declared.attributes.Attribute.{Attribute}
 use Rattle.dwarf_units.specs.Attributes.{accepts, is_used}
 use Rattle.dwarf_units.specs.Entries.{attributes_at}
-use Rattle.dwarf_units.specs.Private.FixedSizes.{constant_len, fixed_len, layout_len}
+use Rattle.dwarf_units.specs.Private.FixedSizes.{fixed_len, layout_len}
 use Rattle.dwarf_units.specs.Private.Links.{AreLinked, IsLink, LinkedPlaces, is_empty_unused}
 use Rattle.dwarf_units.specs.Private.Links.{linked_attributes, skip_empty}
 use Rattle.dwarf_units.specs.Private.StoredAttributes.{stored_attributes, stored_attributes_at}
@@ -41,36 +41,23 @@ no-bytes : (s : AttributeSpecification) (format : Format) → fixed_len Dwarf32 
     → fixed_len format s ≡ Some 0
 unfolding fixed_len
 no-bytes s Dwarf32 is = is
-no-bytes s Dwarf64 is = by_form (accepts s.name s.form) (form_of s.form) is
+no-bytes s Dwarf64 is = by_form (accepts s.name s.form) refl (form_of s.form) refl
   where
     by_layout : (layout : ValueLayout) → layout_len Dwarf32 layout ≡ Some 0
         → layout_len Dwarf64 layout ≡ Some 0
-    by_layout (layouts.Fixed width) is = is
     by_layout layouts.Offset is = cc
-    by_layout layouts.Present is = is
-    by_layout layouts.Signed is = cc
-    by_layout layouts.Unsigned is = cc
-    by_layout layouts.Text is = cc
-    by_layout layouts.Sixteen is = is
-    by_layout (layouts.Block width) is = cc
-    by_layout layouts.LongBlock is = cc
+    by_layout layout is = is
 
-    by_form : (b : Bool) (found : Option Form) → cond b (elim found as (λ _. Option ℕ) [
-      | None ↦ None
-      | Some (Direct layout) ↦ layout_len Dwarf32 layout
-      | Some ImplicitConst ↦ constant_len s
-      | Some Indirect ↦ None
-    ]) None ≡ Some 0 → cond b (elim found as (λ _. Option ℕ) [
-      | None ↦ None
-      | Some (Direct layout) ↦ layout_len Dwarf64 layout
-      | Some ImplicitConst ↦ constant_len s
-      | Some Indirect ↦ None
-    ]) None ≡ Some 0
-    by_form false found is = cc
-    by_form true None is = cc
-    by_form true (Some (Direct layout)) is = by_layout layout is
-    by_form true (Some ImplicitConst) is = is
-    by_form true (Some Indirect) is = cc
+    by_form : (b : Bool) → accepts s.name s.form ≡ b → (found : Option Form)
+        → form_of s.form ≡ found → fixed_len Dwarf64 s ≡ Some 0
+    by_form false fine found same = rw (fine, fixed_len) (rw (fine, fixed_len) at is)
+    by_form true fine None same = rw (fine, same, fixed_len) (rw (fine, same, fixed_len) at is)
+    by_form true fine (Some (Direct layout)) same = rw (fine, same, fixed_len)
+        (by_layout layout (rw (fine, same, fixed_len) at is))
+    by_form true fine (Some ImplicitConst) same =
+        rw (fine, same, fixed_len) (rw (fine, same, fixed_len) at is)
+    by_form true fine (Some Indirect) same =
+        rw (fine, same, fixed_len) (rw (fine, same, fixed_len) at is)
 
 empty-is : (s : AttributeSpecification) → is_empty_unused s ≡ true
     → (is_used s.name ≡ false) × (fixed_len Dwarf32 s ≡ Some 0)

@@ -20,10 +20,13 @@ use Rattle.dwarf_units.specs.Private.FixedSizes.{attributes_in, end_of, fixed_le
 use Rattle.dwarf_units.specs.Private.FixedSizes.{used_position}
 use Rattle.dwarf_units.specs.Private.Runs.{Run, Runs, all_at, run_before, runs_from, runs_of}
 use Rattle.dwarf_units.specs.Private.Runs.{then_read, unchecked_layout}
+use Rattle.dwarf_units.specs.Used.{used_among}
+use Rattle.dwarf_units.specs.Private.Used.{used_after, used_attributes_at}
+use Rattle.dwarf_units.proofs.UsedLaws.{among-append}
 use Rattle.dwarf_units.specs.Private.StoredAttributes.{stored_attributes, stored_attributes_at}
 use Rattle.dwarf_units.proofs.FixedPositions.{block-there, fixed-at}
 use Rattle.dwarf_units.proofs.StoredReads.{fault-first, front-none, stored-append}
-use Rattle.dwarf_units.proofs.StoredReads.{with_front}
+use Rattle.dwarf_units.proofs.StoredReads.{used_all, with_front}
 use Rattle.dwarf_units.proofs.RunParts.{ReadsLast, block-short, checked-one, front-more, kept_in}
 use Rattle.dwarf_units.proofs.RunParts.{stored-one, stored-within, unchecked-one}
 
@@ -193,3 +196,24 @@ pub runs-read : (keep : Bool) (format : Format) (declared : List AttributeSpecif
     ≡ stored_attributes_at keep format declared bytes at
 runs-read keep format declared bytes at le = start-same format declared
     (runs_of format declared) (have-runs format 0 [] declared) keep bytes at le
+
+-- ---- an entry
+
+-- Attributes that are added to an empty set are all of the result.
+used-first : (r : Result (List Attribute × ℕ) Cause) → used_after (used_among []) r
+    ≡ (r >>= used_all)
+used-first (Ok stored) = ap (λ all. Ok (all, stored.1)) (among-append [] stored.0)
+used-first (Err e) = refl
+
+-- The runs of the unshared attributes and then the shared attributes give those of the declaration.
+pub own-rest : (keep : Bool) (format : Format) (own rest : List AttributeSpecification)
+    (bytes : List ℕ) (at : ℕ) → at ≤ length bytes → used_after (used_among [])
+    (then_read (all_at keep format (runs_of format own) bytes at)
+    (λ place. stored_attributes_at keep format rest bytes place))
+    ≡ used_attributes_at keep format (own ++ rest) bytes at
+own-rest keep format own rest bytes at le =
+    ap (λ (r : Result (List Attribute × ℕ) Cause). used_after (used_among []) (then_read r
+    (λ place. stored_attributes_at keep format rest bytes place)))
+    (runs-read keep format own bytes at le)
+    ∙ (ap (used_after (used_among [])) (sym (stored-append keep format own rest bytes at))
+    ∙ used-first (stored_attributes_at keep format (own ++ rest) bytes at))

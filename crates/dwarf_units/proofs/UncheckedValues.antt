@@ -83,23 +83,22 @@ pub unchecked-read : (format : Format) (s : AttributeSpecification) (layout : Va
     → IsInLayout format s layout bytes at
 unfolding unchecked_layout
 unchecked-read format s layout bytes at h =
-    by_form (accepts s.name s.form) refl (form_of s.form) refl h
+    by_form (accepts s.name s.form) refl (form_of s.form) refl
   where
+    no-layout : {P : Type 0} → (let none : Option ValueLayout = None in none) ≡ Some layout → P
+    no-layout none = cc
+
     by_form : (b : Bool) → accepts s.name s.form ≡ b → (found : Option Form)
-        → form_of s.form ≡ found → cond b (elim found as (λ _. Option ValueLayout) [
-          | None ↦ None
-          | Some (Direct layout) ↦ valid_layout s.name layout
-          | Some ImplicitConst ↦ None
-          | Some Indirect ↦ None
-        ]) None ≡ Some layout → IsInLayout format s layout bytes at
-    by_form false fine found is h = cc
-    by_form true fine None is h = cc
-    by_form true fine (Some (Direct own)) is h =
+        → form_of s.form ≡ found → IsInLayout format s layout bytes at
+    by_form false fine found is = no-layout (rw (fine, unchecked_layout) at h)
+    by_form true fine None is = no-layout (rw (fine, is, unchecked_layout) at h)
+    by_form true fine (Some (Direct own)) is =
+        let valid : valid_layout s.name own ≡ Some layout = rw (fine, is, unchecked_layout) at h in
         subst (λ (l : ValueLayout). IsInLayout format s l bytes at)
-        (same-layout s.name own layout (is_used s.name && is_signed own) h) (record {
+        (same-layout s.name own layout (is_used s.name && is_signed own) valid) (record {
           form = is;
           read = in-layout format s own bytes at fine is
-              (valid-fine s.name own layout format bytes at h);
+              (valid-fine s.name own layout format bytes at valid);
         })
-    by_form true fine (Some ImplicitConst) is h = cc
-    by_form true fine (Some Indirect) is h = cc
+    by_form true fine (Some ImplicitConst) is = no-layout (rw (fine, is, unchecked_layout) at h)
+    by_form true fine (Some Indirect) is = no-layout (rw (fine, is, unchecked_layout) at h)
