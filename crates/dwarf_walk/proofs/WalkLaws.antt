@@ -56,9 +56,6 @@ pub record IsTree (before : List LocatedNode) : Type 0 where
   pub rooted : list_any is_root before ≡ is_some (root_in (filter_map die_of before))
   pub outside : root_in (filter_map die_of before) ≡ None → depth_after before ≡ 0
 
-pub tree-none : IsTree []
-tree-none = record { closed = omega arith; rooted = refl; outside = λ _. refl }
-
 null-depth : (o c d : ℕ) (t : Bool) → d ≡ o - c → nat_lt 0 d ≡ t → c ≤ o
     → ((o + 0) - (c + cond t 1 0) ≡ d - 1) × (c + cond t 1 0 ≤ o + 0)
 null-depth o c d true is test le = let some = ltb-true 0 d test in (omega arith, omega arith)

@@ -16,7 +16,7 @@ use Rattle.dwarf_bytes.specs.Items.{Item, End, Advances}
 use Rattle.dwarf_bytes.specs.Refusals.{memory_fault, at_item, in_section, Fails}
 use Rattle.dwarf_forms.specs.Declarations.{Declaration}
 use Rattle.dwarf_bytes.proofs.Numbers.Moves.{same-ok}
-use Rattle.dwarf_bytes.proofs.Items.Turns.{SoFar, so-far-none, so-far-item, so-far-end}
+use Rattle.dwarf_bytes.proofs.Items.Turns.{SoFar, so-far-item, so-far-end}
 use Rattle.dwarf_bytes.proofs.Items.Turns.{so-far-fault}
 use Rattle.dwarf_units.specs.declared.unit_headers.UnitHeader.{UnitHeader}
 use Rattle.dwarf_units.specs.Entries.{Node, Entry, Null, LocatedNode, Die, die_of, depth_after}
@@ -27,9 +27,9 @@ use Rattle.dwarf_walk.specs.Private.Readers.{Takes, places_of, walk_of}
 use Rattle.dwarf_walk.specs.declared.entry_bitmap.EntryBitmap.{EntryBitmap}
 use Rattle.dwarf_walk.specs.declared.unit_entries.RootEntry.{RootEntry}
 use Rattle.dwarf_walk.specs.EntryBitmap.{AddsOffsets, offsets_of}
-use Rattle.dwarf_walk.proofs.BitmapLaws.{adds-none, adds-more}
+use Rattle.dwarf_walk.proofs.BitmapLaws.{adds-more}
 use Rattle.dwarf_units.proofs.EntryAdvances.{node_at_depth-moves, node_at-advances}
-use Rattle.dwarf_walk.proofs.WalkLaws.{standing, IsTree, tree-none, die_at, dies-null, dies-entry}
+use Rattle.dwarf_walk.proofs.WalkLaws.{standing, IsTree, die_at, dies-null, dies-entry}
 use Rattle.dwarf_walk.proofs.WalkLaws.{state_after-push, tree-push}
 
 -- ---- the loop over a unit
@@ -43,20 +43,6 @@ pub record WalkSoFar (info : List ℕ) (header : UnitHeader) (table : List Decla
   pub tree : IsTree before
   pub read : SoFar header.end (node_at header.format table (take header.end info)) header.first
       before place
-
-pub walk_none : (info : List ℕ) (header : UnitHeader) (table : List Declaration)
-    (bitmap : EntryBitmap)
-    (w : WalkState) → w ≡ state_after [] → WalkSoFar info header table bitmap bitmap header.first
-    w
-walk_none info header table bitmap w is =
-    record {
-      before = [];
-      marked_so = adds-none bitmap;
-      kept = is;
-      tree = tree-none;
-      read =
-          so-far-none header.end (node_at header.format table (take header.end info)) header.first;
-    }
 
 -- No node extends beyond the end of the unit, wherever the section ends.
 advances : (info : List ℕ) (header : UnitHeader) (table : List Declaration)
