@@ -17,11 +17,11 @@ use Rattle.dwarf_bytes.specs.declared.form.ValueLayout.TheVariants as layouts
 use Rattle.dwarf_bytes.specs.Bind.{◌>>=◌}
 use Rattle.dwarf_bytes.specs.Forms.{form_of}
 use Rattle.dwarf_forms.specs.declared.attribute.AttributeSpecification.{AttributeSpecification}
-use Rattle.dwarf_forms.specs.declared.memoized_lists.MemoizedAttribute.{MemoizedAttribute}
-use Rattle.dwarf_forms.specs.Private.Memoized.{Grows, IsMemoized, MemoizedAttributes}
-use Rattle.dwarf_forms.specs.Private.Memoized.{attributes_from}
-use Rattle.dwarf_forms.specs.Private.Memoized.{rest_attributes}
-use Rattle.dwarf_forms.proofs.MemoListLaws.{from-stays, rest-stays}
+use Rattle.abbreviation_memo.specs.Lists.{MemoizedAttribute}
+use Rattle.abbreviation_memo.specs.Lists.{Grows, IsMemoized, MemoizedAttributes}
+use Rattle.abbreviation_memo.specs.Lists.{attributes_from}
+use Rattle.abbreviation_memo.specs.Lists.{rest_attributes}
+use Rattle.abbreviation_memo.proofs.ListLaws.{from-stays, rest-stays}
 use Rattle.dwarf_units.specs.declared.attributes.Attribute.{Attribute}
 use Rattle.dwarf_units.specs.Attributes.{accepts, is_used}
 use Rattle.dwarf_units.specs.Entries.{attributes_at}

@@ -12,13 +12,13 @@ use Rattle.dwarf_bytes.specs.declared.format.Format.{Format}
 use Rattle.dwarf_bytes.specs.Bind.{◌>>=◌}
 use Rattle.dwarf_bytes.specs.Numbers.{uleb_at}
 use Rattle.dwarf_bytes.proofs.Numbers.LebEncodings.{uleb-again}
-use Rattle.dwarf_forms.specs.declared.memoized_lists.MemoizedAttribute.{MemoizedAttribute}
+use Rattle.abbreviation_memo.specs.Lists.{MemoizedAttribute}
 use Rattle.dwarf_forms.specs.Declarations.{Declaration}
 use Rattle.dwarf_forms.specs.declared.attribute.AttributeSpecification.{AttributeSpecification}
-use Rattle.dwarf_forms.specs.declared.shared.TheConstants.{UNSHARED}
+use Rattle.abbreviation_memo.specs.declared.shared.TheConstants.{UNSHARED}
 use Rattle.dwarf_units.specs.declared.attributes.Attribute.{Attribute}
-use Rattle.dwarf_forms.specs.Private.SharedTables.{AreShared, SharedDeclaration, full_declaration}
-use Rattle.dwarf_forms.specs.Private.SharedTables.{full_declarations}
+use Rattle.abbreviation_memo.specs.Declarations.{AreShared, SharedDeclaration, full_declaration}
+use Rattle.abbreviation_memo.specs.Declarations.{full_declarations}
 use Rattle.dwarf_forms.proofs.Elements.{at-last}
 use Rattle.dwarf_units.specs.declared.node_shape.NodeShape.{NodeShape}
 use Rattle.dwarf_units.specs.Entries.{Entry, Null, attributes_at, declaration_of}

@@ -11,14 +11,14 @@ use Rattle.std.proofs.lemmas.List.{length-map, take_all}
 use Rattle.std.proofs.lemmas.List.Folds.{fold-map}
 use Rattle.std.proofs.lemmas.Option.{same_Some, slice_get-map}
 use Rattle.dwarf_forms.specs.declared.attribute.AttributeSpecification.{AttributeSpecification}
-use Rattle.dwarf_forms.specs.declared.memoized_lists.MemoizedAttribute.{MemoizedAttribute}
-use Rattle.dwarf_forms.specs.declared.shared.TheConstants.{UNSHARED}
+use Rattle.abbreviation_memo.specs.Lists.{MemoizedAttribute}
+use Rattle.abbreviation_memo.specs.declared.shared.TheConstants.{UNSHARED}
 use Rattle.dwarf_forms.specs.Declarations.{Declaration}
-use Rattle.dwarf_forms.specs.Private.Memoized.{Grows, rest_attributes}
-use Rattle.dwarf_forms.specs.Private.Shared.{IsShared, SharedAttributes, all_of}
-use Rattle.dwarf_forms.specs.Private.SharedTables.{AreShared, SharedDeclaration, full_declarations}
-use Rattle.dwarf_forms.specs.Private.SharedTables.{full_declaration}
-use Rattle.dwarf_forms.proofs.SharedTableLaws.{resolved-grows, resolved-stays}
+use Rattle.abbreviation_memo.specs.Lists.{Grows, rest_attributes}
+use Rattle.abbreviation_memo.specs.Declarations.{IsShared, SharedAttributes, all_of}
+use Rattle.abbreviation_memo.specs.Declarations.{AreShared, SharedDeclaration, full_declarations}
+use Rattle.abbreviation_memo.specs.Declarations.{full_declaration}
+use Rattle.abbreviation_memo.proofs.SharedTableLaws.{resolved-grows, resolved-stays}
 use Rattle.dwarf_units.specs.Entries.{declaration_of}
 use Rattle.dwarf_units.specs.Private.Heads.{Head, head_in}
 use Rattle.dwarf_units.specs.Private.Links.{LinkedPlaces}

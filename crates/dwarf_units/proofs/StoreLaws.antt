@@ -9,12 +9,12 @@ use Rattle.std.proofs.lemmas.List.Elements.{All-take, All-append, All-cons, All-
 use Rattle.dwarf_bytes.specs.declared.fault.Section.TheVariants as sections
 use Rattle.dwarf_bytes.specs.declared.format.Format.{Format}
 use Rattle.dwarf_bytes.specs.Refusals.{in_section}
-use Rattle.dwarf_forms.specs.declared.memoized_lists.MemoizedAttribute.{MemoizedAttribute}
+use Rattle.abbreviation_memo.specs.Lists.{MemoizedAttribute}
 use Rattle.dwarf_forms.specs.Declarations.{Declaration}
 use Rattle.dwarf_forms.specs.Tables.{declarations_of}
-use Rattle.dwarf_forms.specs.Private.Memoized.{Grows}
-use Rattle.dwarf_forms.specs.Private.SharedTables.{SharedDeclaration, full_declarations}
-use Rattle.dwarf_forms.specs.Private.SharedTables.{full_declaration}
+use Rattle.abbreviation_memo.specs.Lists.{Grows}
+use Rattle.abbreviation_memo.specs.Declarations.{SharedDeclaration, full_declarations}
+use Rattle.abbreviation_memo.specs.Declarations.{full_declaration}
 use Rattle.dwarf_units.specs.declared.table_store.TableStore.{TableStore}
 use Rattle.dwarf_units.specs.Units.{declarations_limit}
 use Rattle.dwarf_units.specs.Private.Links.{LinkedPlaces}

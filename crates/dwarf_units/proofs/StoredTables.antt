@@ -10,10 +10,10 @@ use Rattle.dwarf_bytes.specs.declared.fault.Section.TheVariants as sections
 use Rattle.dwarf_bytes.specs.declared.format.Format.{Format}
 use Rattle.dwarf_bytes.specs.Items.{At}
 use Rattle.dwarf_bytes.specs.Refusals.{in_section}
-use Rattle.dwarf_forms.specs.declared.memoized_lists.MemoizedAttribute.{MemoizedAttribute}
+use Rattle.abbreviation_memo.specs.Lists.{MemoizedAttribute}
 use Rattle.dwarf_forms.specs.Declarations.{Declaration}
 use Rattle.dwarf_forms.specs.Tables.{declarations_of}
-use Rattle.dwarf_forms.specs.Private.SharedTables.{full_declaration}
+use Rattle.abbreviation_memo.specs.Declarations.{full_declaration}
 use Rattle.dwarf_units.specs.declared.table_store.TableStore.{TableStore}
 use Rattle.dwarf_units.specs.declared.unit_headers.UnitHeader.{UnitHeader}
 use Rattle.dwarf_units.specs.Units.{declarations_limit}

@@ -9,8 +9,9 @@ use crate::attribute_run::{AttributeRun, Stretch, push_position};
 use crate::fixed_sizes::end_of;
 use crate::used_attributes::UsedAttributes;
 use crate::used_position::UsedPosition;
+use abbreviation_memo::AbbreviationTable;
 use dwarf_bytes::{Cause, Cursor, Format};
-use dwarf_forms::{AbbreviationTable, AttributeSpecification};
+use dwarf_forms::AttributeSpecification;
 use std::alloc::{AllocError, Global};
 use std::marker::Model;
 

@@ -5,10 +5,10 @@ ghost use Rattle.std.specs.Prelude.{List, find, sum_by, IsTrue, ◌↔◌, IfOk,
 ghost use Rattle.dwarf_bytes.specs.declared.fault.Section.TheVariants as sections;
 ghost use Rattle.dwarf_bytes.specs.Refusals.{Decodes, in_section};
 ghost use Rattle.dwarf_forms.specs.Tables.{declarations_of};
-ghost use Rattle.dwarf_forms.specs.Private.SharedTables.{full_declarations};
-ghost use Rattle.dwarf_forms.specs.Private.Memoized.{Grows};
-ghost use Rattle.dwarf_forms.specs.declared.memoized_lists.MemoizedAttribute.{MemoizedAttribute};
-ghost use Rattle.dwarf_forms.specs.Private.SharedTables.{AreShared};
+ghost use Rattle.abbreviation_memo.specs.Declarations.{full_declarations};
+ghost use Rattle.abbreviation_memo.specs.Lists.{Grows};
+ghost use Rattle.abbreviation_memo.specs.Lists.{MemoizedAttribute};
+ghost use Rattle.abbreviation_memo.specs.Declarations.{AreShared};
 ghost use Rattle.dwarf_units.specs.Private.Runs.{own_runs, runs_of};
 ghost use Rattle.dwarf_units.specs.Private.NodeShapes.{AreShapes, shape_at, shape_count};
 ghost use Rattle.dwarf_units.specs.Private.SharedTables.{IsReadable, own_size};
@@ -18,8 +18,8 @@ use crate::attribute_runs::{AttributeRuns, own_runs};
 use crate::linked_lists::LinkedLists;
 use crate::node_shape::{NodeShape, shapes};
 use crate::unit_headers::UnitHeader;
+use abbreviation_memo::{AbbreviationDeclaration, AbbreviationTable};
 use dwarf_bytes::{Format, LoadFault};
-use dwarf_forms::{AbbreviationDeclaration, AbbreviationTable};
 use std::alloc::{AllocError, Global};
 use std::marker::Model;
 

@@ -2,8 +2,8 @@
 
 ghost use Rattle.std.specs.Prelude.{◌≡◌, ◌≤◌, IsSome, IfOk};
 ghost use Rattle.dwarf_bytes.specs.Refusals.{ReadsField};
-ghost use Rattle.dwarf_forms.specs.Private.SharedTables.{full_declaration};
-ghost use Rattle.dwarf_forms.specs.Private.Memoized.{IsMemoized};
+ghost use Rattle.abbreviation_memo.specs.Declarations.{full_declaration};
+ghost use Rattle.abbreviation_memo.specs.Lists.{IsMemoized};
 ghost use Rattle.dwarf_units.specs.Entries.{depth_limit};
 ghost use Rattle.dwarf_units.specs.Private.Runs.{runs_of};
 ghost use Rattle.dwarf_units.specs.Private.Heads.{head_at, used_entry_at, ReturnsAndFills};
@@ -14,8 +14,8 @@ use crate::attribute_runs::AttributeRuns;
 use crate::linked_lists::LinkedLists;
 use crate::unit_table::UnitTable;
 use crate::used_attributes::UsedAttributes;
+use abbreviation_memo::AbbreviationDeclaration;
 use dwarf_bytes::{Cause, Cursor, Format};
-use dwarf_forms::AbbreviationDeclaration;
 use std::marker::Model;
 
 /// The maximum depth of an entry. The root of a unit has depth 0.
@@ -33,8 +33,8 @@ pub struct EntryHead<'a> {
 
 impl<'a> Model for EntryHead<'a> {
     ghost use Rattle.std.specs.Prelude.{◌≡◌};
-    ghost use Rattle.dwarf_forms.specs.Private.SharedTables.{full_declaration};
-    ghost use Rattle.dwarf_forms.specs.Private.Memoized.{IsMemoized};
+    ghost use Rattle.abbreviation_memo.specs.Declarations.{full_declaration};
+    ghost use Rattle.abbreviation_memo.specs.Lists.{IsMemoized};
     ghost use Rattle.dwarf_units.specs.Private.Heads.{Head};
     ghost use Rattle.dwarf_units.specs.Private.Runs.{runs_of};
 

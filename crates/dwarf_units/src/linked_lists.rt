@@ -4,8 +4,8 @@ ghost use Rattle.std.specs.Prelude.{◌≡◌, ◌<◌, ◌≤◌, ◌+◌, [], 
 ghost use Rattle.dwarf_bytes.specs.declared.fault.Section.TheVariants as sections;
 ghost use Rattle.dwarf_bytes.specs.Refusals.{Decodes, in_section};
 ghost use Rattle.dwarf_forms.specs.Tables.{declarations_of};
-ghost use Rattle.dwarf_forms.specs.Private.Memoized.{Grows, IsMemoized, rest_attributes};
-ghost use Rattle.dwarf_forms.specs.Private.SharedTables.{AreShared, full_declarations};
+ghost use Rattle.abbreviation_memo.specs.Lists.{Grows, IsMemoized, rest_attributes};
+ghost use Rattle.abbreviation_memo.specs.Declarations.{AreShared, full_declarations};
 ghost use Rattle.dwarf_units.specs.Private.Links.{AreLinked, IsLink, is_empty_unused};
 ghost use Rattle.dwarf_units.specs.Private.Links.{linked_attributes};
 ghost use Rattle.dwarf_units.specs.Private.StoredAttributes.{Fills, stored_attributes_at};
@@ -15,8 +15,9 @@ use crate::attribute_run::read_one;
 use crate::attributes::is_used;
 use crate::fixed_sizes::fixed_len;
 use crate::used_attributes::UsedAttributes;
+use abbreviation_memo::{AbbreviationTable, MemoizedLists};
 use dwarf_bytes::{Cause, Cursor, Format, LoadFault};
-use dwarf_forms::{AbbreviationTable, AttributeSpecification, MemoizedLists};
+use dwarf_forms::AttributeSpecification;
 use std::alloc::{AllocError, Global};
 use std::marker::Model;
 

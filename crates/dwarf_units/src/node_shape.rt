@@ -2,10 +2,10 @@
 //! 5, 7.5.2 and 7.5.3).
 
 ghost use Rattle.std.specs.Prelude.{◌≡◌, List, IfOk, IfSome};
-ghost use Rattle.dwarf_forms.specs.declared.memoized_lists.MemoizedAttribute.{MemoizedAttribute};
-ghost use Rattle.dwarf_forms.specs.Private.Shared.{IsShared};
-ghost use Rattle.dwarf_forms.specs.Private.SharedTables.{AreShared, full_declaration};
-ghost use Rattle.dwarf_forms.specs.Private.SharedTables.{full_declarations};
+ghost use Rattle.abbreviation_memo.specs.Lists.{MemoizedAttribute};
+ghost use Rattle.abbreviation_memo.specs.Declarations.{IsShared};
+ghost use Rattle.abbreviation_memo.specs.Declarations.{AreShared, full_declaration};
+ghost use Rattle.abbreviation_memo.specs.Declarations.{full_declarations};
 ghost use Rattle.dwarf_bytes.specs.declared.format.Format.{Format};
 ghost use Rattle.dwarf_units.specs.Private.Runs.{own_runs, runs_of};
 ghost use Rattle.dwarf_units.specs.NodeShapes.{null_shape};
@@ -13,7 +13,7 @@ ghost use Rattle.dwarf_units.specs.Private.NodeShapes.{AreShapes};
 ghost use Rattle.dwarf_units.specs.Private.NodeShapes.{shape_of, shape_of_code, shape_count};
 
 use crate::attribute_runs::AttributeRuns;
-use dwarf_forms::{AbbreviationDeclaration, AbbreviationTable, UNSHARED};
+use abbreviation_memo::{AbbreviationDeclaration, AbbreviationTable, UNSHARED};
 use std::alloc::{AllocError, Global};
 
 /// The greatest abbreviation code that is encoded in one byte.

@@ -1,9 +1,8 @@
 //! Reads the abbreviation tables of an object's units, and the values of their entries.
 
+use abbreviation_memo::{AbbreviationDeclaration, AbbreviationTable, MemoizedLists};
 use dwarf_bytes::{Cause, Cursor, Format, LoadFault, Object, Section};
-use dwarf_forms::{
-    AbbreviationDeclaration, AbbreviationTable, AttributeSpecification, MemoizedLists, value,
-};
+use dwarf_forms::{AttributeSpecification, value};
 use std::alloc::Global;
 
 /// The maximum number of declarations of an object.

@@ -4,9 +4,9 @@ use Rattle.std.specs.Prelude.{not, ◌&&◌, ◌==◌, if◌then◌else◌, nat_
 use Rattle.std.specs.Option.{option_map_or}
 use Rattle.dwarf_bytes.specs.declared.format.Format.TheVariants.{Dwarf32}
 use Rattle.dwarf_forms.specs.declared.attribute.AttributeSpecification.{AttributeSpecification}
-use Rattle.dwarf_forms.specs.declared.memoized_lists.MemoizedAttribute.{MemoizedAttribute}
-use Rattle.dwarf_forms.specs.Private.Memoized.{MemoizedAttributes, attributes_from}
-use Rattle.dwarf_forms.specs.Private.Memoized.{rest_attributes}
+use Rattle.abbreviation_memo.specs.Lists.{MemoizedAttribute}
+use Rattle.abbreviation_memo.specs.Lists.{MemoizedAttributes, attributes_from}
+use Rattle.abbreviation_memo.specs.Lists.{rest_attributes}
 use Rattle.dwarf_units.specs.Attributes.{is_used}
 use Rattle.dwarf_units.specs.Private.FixedSizes.{fixed_len}
 

@@ -3,10 +3,10 @@ use Rattle.std.specs.Prelude.{◌≡◌, ℕ, ◌+◌, min, List, length, true, 
 use Rattle.std.specs.Prelude.{◌||◌, nat_lt, Option, Some, None, Ok, if◌then◌else◌}
 use Rattle.std.specs.Prelude.{option_and_then, option_map, slice_get}
 use Rattle.dwarf_bytes.specs.declared.format.Format.{Format}
-use Rattle.dwarf_forms.specs.declared.memoized_lists.MemoizedAttribute.{MemoizedAttribute}
-use Rattle.dwarf_forms.specs.declared.shared.TheConstants.{UNSHARED}
+use Rattle.abbreviation_memo.specs.Lists.{MemoizedAttribute}
+use Rattle.abbreviation_memo.specs.declared.shared.TheConstants.{UNSHARED}
 use Rattle.dwarf_forms.specs.Declarations.{Declaration}
-use Rattle.dwarf_forms.specs.Private.SharedTables.{AreShared, SharedDeclaration, full_declarations}
+use Rattle.abbreviation_memo.specs.Declarations.{AreShared, SharedDeclaration, full_declarations}
 use Rattle.dwarf_units.specs.declared.node_shape.NodeShape.{NodeShape}
 use Rattle.dwarf_units.specs.Entries.{Node, declaration_of, depth_limit, node_at_depth}
 use Rattle.dwarf_units.specs.NodeShapes.{HasShape, null_shape}

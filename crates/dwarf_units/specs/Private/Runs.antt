@@ -16,7 +16,7 @@ use Rattle.dwarf_bytes.specs.Forms.{form_of}
 use Rattle.dwarf_bytes.specs.Items.{reading}
 use Rattle.dwarf_bytes.specs.Numbers.{block_at}
 use Rattle.dwarf_forms.specs.declared.attribute.AttributeSpecification.{AttributeSpecification}
-use Rattle.dwarf_forms.specs.Private.SharedTables.{SharedDeclaration}
+use Rattle.abbreviation_memo.specs.Declarations.{SharedDeclaration}
 use Rattle.dwarf_units.specs.declared.attributes.Attribute.{Attribute}
 use Rattle.dwarf_units.specs.declared.attribute_run.LastAttribute.{LastAttribute}
 use Rattle.dwarf_units.specs.declared.attribute_run.LastAttribute.TheVariants.{Checked, Unchecked}

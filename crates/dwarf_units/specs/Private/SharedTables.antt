@@ -1,8 +1,8 @@
 -- Tables whose declarations share the attributes after the first ones.
 use Rattle.std.specs.Prelude.{ℕ, ◌+◌, ◌*◌, List, length, map, sum_by}
 use Rattle.dwarf_bytes.specs.declared.format.Format.{Format}
-use Rattle.dwarf_forms.specs.declared.memoized_lists.MemoizedAttribute.{MemoizedAttribute}
-use Rattle.dwarf_forms.specs.Private.SharedTables.{AreShared, SharedDeclaration, full_declarations}
+use Rattle.abbreviation_memo.specs.Lists.{MemoizedAttribute}
+use Rattle.abbreviation_memo.specs.Declarations.{AreShared, SharedDeclaration, full_declarations}
 use Rattle.dwarf_units.specs.Private.AbbreviationTables.{Table}
 use Rattle.dwarf_units.specs.Private.Links.{LinkedPlaces}
 

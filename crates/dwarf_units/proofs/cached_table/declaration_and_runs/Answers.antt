@@ -1,6 +1,6 @@
 use Rattle.std.proofs.Common.{◌≡◌, List, ap, sym, ◌∙◌}
 use Rattle.std.specs.Prelude.{Some, None, slice_get, option_copied, ◌==◌}
-use Rattle.dwarf_forms.specs.Private.SharedTables.{SharedDeclaration}
+use Rattle.abbreviation_memo.specs.Declarations.{SharedDeclaration}
 use Rattle.dwarf_forms.proofs.Codes.{find-place, got}
 use Rattle.dwarf_units.specs.Private.Runs.{runs_of}
 use Rattle.dwarf_units.proofs.SharedTableLaws.{at-place}

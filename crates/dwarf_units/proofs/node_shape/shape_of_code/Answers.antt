@@ -1,8 +1,8 @@
 use Rattle.std.proofs.Common.{◌≡◌, List, ap, sym, ◌∙◌}
 use Rattle.std.specs.Prelude.{None, Some, find, slice_get, option_copied, ◌==◌}
 use Rattle.std.proofs.lemmas.Bool.{ne_eqb}
-use Rattle.dwarf_forms.specs.Private.Shared.{IsShared}
-use Rattle.dwarf_forms.specs.Private.SharedTables.{SharedDeclaration}
+use Rattle.abbreviation_memo.specs.Declarations.{IsShared}
+use Rattle.abbreviation_memo.specs.Declarations.{SharedDeclaration}
 use Rattle.dwarf_forms.proofs.Codes.{find-place, got}
 use Rattle.dwarf_units.specs.Private.Runs.{runs_of}
 use Rattle.dwarf_units.proofs.NodeShapes.{code-shape}

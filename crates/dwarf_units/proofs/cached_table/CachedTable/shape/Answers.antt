@@ -4,7 +4,7 @@ use Rattle.std.specs.Prelude.{Some, slice_get, option_copied, nat_lt}
 use Rattle.std.proofs.lemmas.Bool.{lt-ltb}
 use Rattle.std.proofs.lemmas.List.{length-map}
 use Rattle.std.proofs.lemmas.Option.{slice_get_within}
-use Rattle.dwarf_forms.specs.Private.SharedTables.{full_declaration}
+use Rattle.abbreviation_memo.specs.Declarations.{full_declaration}
 use Rattle.dwarf_forms.proofs.Codes.{got}
 use Rattle.dwarf_units.specs.Private.NodeShapes.{shape_count, AreShapes}
 use Rattle.dwarf_units.specs.Private.SharedTables.{full_table, SharedTable}

@@ -1,6 +1,6 @@
 use Rattle.std.proofs.Common.{◌≤◌, length, ap, ◌∙◌, arith}
 use Rattle.std.proofs.lemmas.Result.{err_from_is_err_and}
-use Rattle.dwarf_forms.specs.Private.Memoized.{rest_attributes}
+use Rattle.abbreviation_memo.specs.Lists.{rest_attributes}
 use Rattle.dwarf_units.specs.Private.StoredAttributes.{stored_attributes_at}
 use Rattle.dwarf_units.proofs.RunReads.{own-rest}
 use Rattle.dwarf_units.proofs.StoredReads.{last-read, next-fault, next-read}

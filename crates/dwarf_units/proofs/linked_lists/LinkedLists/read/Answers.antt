@@ -3,8 +3,8 @@ use Rattle.std.proofs.Common.{arith}
 use Rattle.std.proofs.lemmas.Result.{err_from_is_err_and}
 use Rattle.dwarf_bytes.proofs.Items.Turns.{None-from-no-Some}
 use Rattle.dwarf_forms.specs.declared.attribute.AttributeSpecification.{AttributeSpecification}
-use Rattle.dwarf_forms.specs.Private.Memoized.{MemoizedAttributes, attributes_from}
-use Rattle.dwarf_forms.specs.Private.Memoized.{rest_attributes}
+use Rattle.abbreviation_memo.specs.Lists.{MemoizedAttributes, attributes_from}
+use Rattle.abbreviation_memo.specs.Lists.{rest_attributes}
 use Rattle.dwarf_units.specs.Private.Links.{LinkedPlaces}
 use Rattle.dwarf_units.proofs.LinkLaws.{first-read}
 use Rattle.dwarf_units.proofs.StoredReads.{next-fault, next-read, stored-end, stored-left}

@@ -1,6 +1,6 @@
 use Rattle.std.proofs.Common.{◌≡◌, ◌+◌}
 use Rattle.std.specs.Option.{option_map_or}
-use Rattle.dwarf_forms.specs.Private.Memoized.{IsMemoized, rest_attributes}
+use Rattle.abbreviation_memo.specs.Lists.{IsMemoized, rest_attributes}
 use Rattle.dwarf_units.specs.Private.StoredAttributes.{stored_attributes_at}
 use Rattle.dwarf_units.specs.Private.Used.{used_after}
 use Rattle.dwarf_units.proofs.StoredReads.{StoredSoFar}

@@ -3,7 +3,7 @@ use Rattle.std.specs.Prelude.{Ok}
 use Rattle.dwarf_bytes.specs.declared.fault.Section.TheVariants as sections
 use Rattle.dwarf_bytes.specs.Refusals.{in_section}
 use Rattle.dwarf_forms.specs.Tables.{declarations_of}
-use Rattle.dwarf_forms.specs.Private.SharedTables.{full_declarations}
+use Rattle.abbreviation_memo.specs.Declarations.{full_declarations}
 use Rattle.dwarf_units.specs.Private.Tables.{CachedTables}
 use Rattle.dwarf_units.proofs.StoreLaws.{is-added, is-new, limit-of, seen-grows, stored-grows}
 use Rattle.dwarf_units.proofs.tables.Tables.add.Goals as goal

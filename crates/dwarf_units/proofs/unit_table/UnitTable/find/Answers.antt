@@ -1,7 +1,7 @@
 use Rattle.std.proofs.Common.{ap, ◌∙◌}
 use Rattle.std.specs.Prelude.{None, Some, ◌==◌}
-use Rattle.dwarf_forms.specs.Private.Shared.{IsShared}
-use Rattle.dwarf_forms.specs.Private.SharedTables.{SharedDeclaration}
+use Rattle.abbreviation_memo.specs.Declarations.{IsShared}
+use Rattle.abbreviation_memo.specs.Declarations.{SharedDeclaration}
 use Rattle.dwarf_units.specs.Private.Heads.{Head}
 use Rattle.dwarf_units.proofs.SharedTableLaws.{all-found, head-found}
 use Rattle.dwarf_units.proofs.unit_table.UnitTable.find.Goals as goal
