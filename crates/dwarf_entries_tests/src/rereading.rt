@@ -2,7 +2,7 @@
 
 use crate::fixtures::*;
 use dwarf_bytes::{Cause, Cursor};
-use dwarf_units::{AttributeValue, Tables, UnitTable, UsedAttributes, units};
+use dwarf_units::{AttributeValue, Tables, UnitTable, UsedAttributes, UsedName, units};
 use std::process::Abort;
 use std::test::*;
 
@@ -51,9 +51,9 @@ fn is_entry(
     let mut found = UsedAttributes::none();
     let tag = table.read_entry(&mut cursor, &mut found);
     are_equal(rt, tag, Ok(0x2e));
-    are_equal(rt, number_of(found.name()), Some(name));
-    are_equal(rt, number_of(found.high_pc()), Some(high_pc));
-    are_equal(rt, number_of(found.low_pc()), None);
+    are_equal(rt, number_of(found.value(UsedName::Name)), Some(name));
+    are_equal(rt, number_of(found.value(UsedName::HighPc)), Some(high_pc));
+    are_equal(rt, number_of(found.value(UsedName::LowPc)), None);
     are_equal(rt, cursor.place(), end);
     let null = table.read_entry(&mut cursor, &mut found);
     are_equal(rt, null, Err(Cause::AbbrevCode));

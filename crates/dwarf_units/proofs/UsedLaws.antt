@@ -14,8 +14,8 @@ use Rattle.dwarf_units.specs.declared.used_name.UsedName.TheVariants.{StrOffsets
 use Rattle.dwarf_units.specs.declared.used_name.UsedName.TheVariants.{RnglistsBase}
 use Rattle.dwarf_units.specs.Entries.{value_of}
 use Rattle.dwarf_units.specs.Private.Names.{name_of}
-use Rattle.dwarf_units.specs.Used.{Used, used_among}
-use Rattle.dwarf_units.specs.Private.Used.{value_named, used_by, with_used}
+use Rattle.dwarf_units.specs.Used.{Used, used_among, value_named}
+use Rattle.dwarf_units.specs.Private.Used.{used_by, with_used}
 use Rattle.dwarf_units.specs.Private.Used.{used_after}
 
 -- ---- the value of each name

@@ -18,6 +18,13 @@ use Rattle.dwarf_bytes.specs.declared.constants.TheConstants.{
 }
 use Rattle.dwarf_units.specs.declared.attributes.Attribute.{Attribute}
 use Rattle.dwarf_units.specs.declared.attributes.AttributeValue.{AttributeValue}
+use Rattle.dwarf_units.specs.declared.used_name.UsedName.{UsedName}
+use Rattle.dwarf_units.specs.declared.used_name.UsedName.TheVariants.{Name, LinkageName, LowPc}
+use Rattle.dwarf_units.specs.declared.used_name.UsedName.TheVariants.{AbstractOrigin, HighPc}
+use Rattle.dwarf_units.specs.declared.used_name.UsedName.TheVariants.{Specification, Ranges}
+use Rattle.dwarf_units.specs.declared.used_name.UsedName.TheVariants.{CallFile, CallLine, StmtList}
+use Rattle.dwarf_units.specs.declared.used_name.UsedName.TheVariants.{StrOffsetsBase, AddrBase}
+use Rattle.dwarf_units.specs.declared.used_name.UsedName.TheVariants.{RnglistsBase}
 use Rattle.dwarf_units.specs.Entries.{value_of}
 
 -- The value of each used attribute that an entry has.
@@ -53,3 +60,19 @@ used_among attributes = record {
   addr_base = value_of attributes DW_AT_ADDR_BASE;
   rnglists_base = value_of attributes DW_AT_RNGLISTS_BASE;
 }
+
+-- The value with a name.
+abbrev pub value_named : UsedName → Used → Option AttributeValue
+value_named Name used = used.name
+value_named LinkageName used = used.linkage_name
+value_named AbstractOrigin used = used.abstract_origin
+value_named Specification used = used.specification
+value_named LowPc used = used.low_pc
+value_named HighPc used = used.high_pc
+value_named Ranges used = used.ranges
+value_named CallFile used = used.call_file
+value_named CallLine used = used.call_line
+value_named StmtList used = used.stmt_list
+value_named StrOffsetsBase used = used.str_offsets_base
+value_named AddrBase used = used.addr_base
+value_named RnglistsBase used = used.rnglists_base

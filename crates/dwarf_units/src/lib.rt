@@ -27,3 +27,4 @@ pub use tables::Tables;
 pub use unit_headers::{UnitHeader, UnitType, units};
 pub use unit_table::UnitTable;
 pub use used_attributes::UsedAttributes;
+pub use used_name::UsedName;

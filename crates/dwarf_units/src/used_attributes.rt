@@ -2,8 +2,8 @@
 
 ghost use Rattle.std.specs.Prelude.{◌≡◌, ◌∷◌, []};
 ghost use Rattle.dwarf_units.specs.Private.Names.{named_attribute};
-ghost use Rattle.dwarf_units.specs.Used.{used_among};
-ghost use Rattle.dwarf_units.specs.Private.Used.{value_named, with_used};
+ghost use Rattle.dwarf_units.specs.Used.{used_among, value_named};
+ghost use Rattle.dwarf_units.specs.Private.Used.{with_used};
 
 use crate::attributes::AttributeValue;
 use crate::used_name::UsedName;
@@ -61,116 +61,12 @@ impl UsedAttributes {
         }
     }
 
-    /// Returns the value of an attribute.
+    /// Returns the value of an attribute, if the entry has it.
     #[inline(always)]
-    fn under(&self, name: UsedName) -> Option<AttributeValue>
+    pub fn value(&self, name: UsedName) -> Option<AttributeValue>
         ensures { result ≡ value_named name self.now }
     {
         let slot = name.slot();
         self.has[slot].then_some(self.values[slot])
-    }
-
-    /// Returns the value of DW_AT_name.
-    #[inline(always)]
-    pub fn name(&self) -> Option<AttributeValue>
-        ensures { result ≡ self.now.name }
-    {
-        self.under(UsedName::Name)
-    }
-
-    /// Returns the value of DW_AT_linkage_name.
-    #[inline(always)]
-    pub fn linkage_name(&self) -> Option<AttributeValue>
-        ensures { result ≡ self.now.linkage_name }
-    {
-        self.under(UsedName::LinkageName)
-    }
-
-    /// Returns the value of DW_AT_abstract_origin.
-    #[inline(always)]
-    pub fn abstract_origin(&self) -> Option<AttributeValue>
-        ensures { result ≡ self.now.abstract_origin }
-    {
-        self.under(UsedName::AbstractOrigin)
-    }
-
-    /// Returns the value of DW_AT_specification.
-    #[inline(always)]
-    pub fn specification(&self) -> Option<AttributeValue>
-        ensures { result ≡ self.now.specification }
-    {
-        self.under(UsedName::Specification)
-    }
-
-    /// Returns the value of DW_AT_low_pc.
-    #[inline(always)]
-    pub fn low_pc(&self) -> Option<AttributeValue>
-        ensures { result ≡ self.now.low_pc }
-    {
-        self.under(UsedName::LowPc)
-    }
-
-    /// Returns the value of DW_AT_high_pc.
-    #[inline(always)]
-    pub fn high_pc(&self) -> Option<AttributeValue>
-        ensures { result ≡ self.now.high_pc }
-    {
-        self.under(UsedName::HighPc)
-    }
-
-    /// Returns the value of DW_AT_ranges.
-    #[inline(always)]
-    pub fn ranges(&self) -> Option<AttributeValue>
-        ensures { result ≡ self.now.ranges }
-    {
-        self.under(UsedName::Ranges)
-    }
-
-    /// Returns the value of DW_AT_call_file.
-    #[inline(always)]
-    pub fn call_file(&self) -> Option<AttributeValue>
-        ensures { result ≡ self.now.call_file }
-    {
-        self.under(UsedName::CallFile)
-    }
-
-    /// Returns the value of DW_AT_call_line.
-    #[inline(always)]
-    pub fn call_line(&self) -> Option<AttributeValue>
-        ensures { result ≡ self.now.call_line }
-    {
-        self.under(UsedName::CallLine)
-    }
-
-    /// Returns the value of DW_AT_stmt_list.
-    #[inline(always)]
-    pub fn stmt_list(&self) -> Option<AttributeValue>
-        ensures { result ≡ self.now.stmt_list }
-    {
-        self.under(UsedName::StmtList)
-    }
-
-    /// Returns the value of DW_AT_str_offsets_base.
-    #[inline(always)]
-    pub fn str_offsets_base(&self) -> Option<AttributeValue>
-        ensures { result ≡ self.now.str_offsets_base }
-    {
-        self.under(UsedName::StrOffsetsBase)
-    }
-
-    /// Returns the value of DW_AT_addr_base.
-    #[inline(always)]
-    pub fn addr_base(&self) -> Option<AttributeValue>
-        ensures { result ≡ self.now.addr_base }
-    {
-        self.under(UsedName::AddrBase)
-    }
-
-    /// Returns the value of DW_AT_rnglists_base.
-    #[inline(always)]
-    pub fn rnglists_base(&self) -> Option<AttributeValue>
-        ensures { result ≡ self.now.rnglists_base }
-    {
-        self.under(UsedName::RnglistsBase)
     }
 }

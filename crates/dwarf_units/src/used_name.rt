@@ -8,7 +8,7 @@ use dwarf_bytes::constants::*;
 
 /// The name of a used attribute.
 #[derive(Clone, Copy)]
-pub(crate) enum UsedName {
+pub enum UsedName {
     Name,
     LinkageName,
     AbstractOrigin,

@@ -9,7 +9,7 @@ ghost use Rattle.dwarf_walk.specs.Private.Readers.{die_with};
 
 use crate::scope_kind::ScopeKind;
 use dwarf_bytes::constants::DW_FORM_REF_SIG8;
-use dwarf_units::{AttributeValue, UnitHeader, UsedAttributes};
+use dwarf_units::{AttributeValue, UnitHeader, UsedAttributes, UsedName};
 
 /// The names of an entry. `offset` is relative to the start of `.debug_info`, and `next` is the
 /// reference to the next entry of the origin chain.
@@ -70,11 +70,11 @@ impl NamedEntry {
         NamedEntry {
             offset,
             next: found
-                .abstract_origin()
-                .or(found.specification())
+                .value(UsedName::AbstractOrigin)
+                .or(found.value(UsedName::Specification))
                 .and_then(entry_reference),
-            name: found.name(),
-            linkage_name: found.linkage_name(),
+            name: found.value(UsedName::Name),
+            linkage_name: found.value(UsedName::LinkageName),
         }
     }
 }
@@ -88,11 +88,11 @@ impl ScopeEntry {
         ScopeEntry {
             entry: NamedEntry::of(offset, found),
             kind,
-            low_pc: found.low_pc(),
-            high_pc: found.high_pc(),
-            ranges: found.ranges(),
-            call_file: found.call_file().map(|value| value.number),
-            call_line: found.call_line().map(|value| value.number),
+            low_pc: found.value(UsedName::LowPc),
+            high_pc: found.value(UsedName::HighPc),
+            ranges: found.value(UsedName::Ranges),
+            call_file: found.value(UsedName::CallFile).map(|value| value.number),
+            call_line: found.value(UsedName::CallLine).map(|value| value.number),
         }
     }
 }
@@ -105,11 +105,11 @@ impl RootEntry {
     {
         RootEntry {
             offset,
-            stmt_list: found.stmt_list().map(|value| value.number),
-            str_offsets_base: found.str_offsets_base(),
-            addr_base: found.addr_base(),
-            rnglists_base: found.rnglists_base(),
-            low_pc: found.low_pc(),
+            stmt_list: found.value(UsedName::StmtList).map(|value| value.number),
+            str_offsets_base: found.value(UsedName::StrOffsetsBase),
+            addr_base: found.value(UsedName::AddrBase),
+            rnglists_base: found.value(UsedName::RnglistsBase),
+            low_pc: found.value(UsedName::LowPc),
         }
     }
 }

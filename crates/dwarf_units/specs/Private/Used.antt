@@ -15,26 +15,11 @@ use Rattle.dwarf_units.specs.declared.used_name.UsedName.TheVariants.{CallFile, 
 use Rattle.dwarf_units.specs.declared.used_name.UsedName.TheVariants.{StrOffsetsBase, AddrBase}
 use Rattle.dwarf_units.specs.declared.used_name.UsedName.TheVariants.{RnglistsBase}
 use Rattle.dwarf_units.specs.Entries.{value_of}
-use Rattle.dwarf_units.specs.Used.{Used, used_among}
+use Rattle.dwarf_units.specs.Used.{Used, used_among, value_named}
 use Rattle.dwarf_units.specs.Private.Names.{name_of}
 use Rattle.dwarf_units.specs.Private.StoredAttributes.{stored_attributes_at}
 
-abbrev pub value_named : UsedName → Used → Option AttributeValue
-value_named Name used = used.name
-value_named LinkageName used = used.linkage_name
-value_named AbstractOrigin used = used.abstract_origin
-value_named Specification used = used.specification
-value_named LowPc used = used.low_pc
-value_named HighPc used = used.high_pc
-value_named Ranges used = used.ranges
-value_named CallFile used = used.call_file
-value_named CallLine used = used.call_line
-value_named StmtList used = used.stmt_list
-value_named StrOffsetsBase used = used.str_offsets_base
-value_named AddrBase used = used.addr_base
-value_named RnglistsBase used = used.rnglists_base
-
--- The same record, built from a function of the name.
+-- The used attributes, built from a function of the name.
 abbrev pub used_by : (UsedName → Option AttributeValue) → Used
 used_by value = record {
   name = value Name;
