@@ -125,7 +125,8 @@ fixed-there format declared bytes at size is le =
         (ne_eqb (length (run ∷ runs)) 0 (λ e. absurd (omega (arith, e)))) is
       where
         by_test : (b : Bool) → b ≡ false → cond b (Some rest.len) None ≡ Some size
-            → (all : List Attribute) × (attributes_at format declared bytes at ≡ Ok (all, at + size))
+            → (all : List Attribute)
+            × (attributes_at format declared bytes at ≡ Ok (all, at + size))
         by_test true apart is = cc
         by_test false apart is = cc
 

@@ -1,6 +1,7 @@
 -- Reading the attributes of one run.
 use Rattle.std.proofs.Common.{◌≡◌, ℕ, ◌+◌, ◌<◌, ◌≤◌, List, [], ◌∷◌, ◌++◌, Bool, true}
-use Rattle.std.proofs.Common.{false, cond, length, refl, ap, sym, ◌∙◌, arith, append_assoc, append-nil}
+use Rattle.std.proofs.Common.{false, cond, length, refl, ap, sym, ◌∙◌, arith, append_assoc}
+use Rattle.std.proofs.Common.{append-nil}
 use Rattle.std.specs.Prelude.{Option, Some, None, Result, Ok, Err, option_map}
 use Rattle.std.specs.Option.{option_to_list}
 use Rattle.std.proofs.lemmas.List.{map-append}
@@ -134,8 +135,8 @@ pub checked-one : (format : Format) (n : ℕ) (used : List UsedPosition) (s : At
     })
 checked-one format n used s keep bytes first le = rw (block-there n bytes first le).1 refl
 
-pub unchecked-one : (format : Format) (n : ℕ) (used : List UsedPosition) (s : AttributeSpecification)
-    (layout : ValueLayout) → unchecked_layout s ≡ Some layout → ReadsLast format n used s (record {
+pub unchecked-one : (format : Format) (n : ℕ) (used : List UsedPosition)
+    (s : AttributeSpecification) (layout : ValueLayout) → unchecked_layout s ≡ Some layout → ReadsLast format n used s (record {
       stretch = record { len = n; used = used ++ option_to_list (used_position n s) };
       last = Unchecked layout;
     })

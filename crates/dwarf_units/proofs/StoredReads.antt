@@ -15,7 +15,8 @@ use Rattle.dwarf_units.specs.Attributes.{is_used}
 use Rattle.dwarf_units.specs.Entries.{attribute_at, attributes_at}
 use Rattle.dwarf_units.specs.Private.Names.{named_attribute, used_name}
 use Rattle.dwarf_units.specs.Private.Runs.{then_read}
-use Rattle.dwarf_units.specs.Private.StoredAttributes.{Fills, stored_attributes, stored_attributes_at}
+use Rattle.dwarf_units.specs.Private.StoredAttributes.{Fills, stored_attributes}
+use Rattle.dwarf_units.specs.Private.StoredAttributes.{stored_attributes_at}
 use Rattle.dwarf_units.specs.Used.{Used, used_among}
 use Rattle.dwarf_units.specs.Private.Used.{used_after, with_used}
 use Rattle.dwarf_units.proofs.NameLaws.{found-number, used-none, used-some}

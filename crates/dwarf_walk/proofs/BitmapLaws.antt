@@ -1,5 +1,6 @@
 -- The bitmap of entry offsets: the bits that a walk sets, and how they are looked up.
-use Rattle.std.proofs.Common.{◌≡◌, ℕ, ◌*◌, ◌/◌, ◌%◌, ◌^◌, ◌<◌, List, [], ◌∷◌, ◌++◌, length, set, get_or}
+use Rattle.std.proofs.Common.{◌≡◌, ℕ, ◌*◌, ◌/◌, ◌%◌, ◌^◌, ◌<◌, List, [], ◌∷◌, ◌++◌, length, set}
+use Rattle.std.proofs.Common.{get_or}
 use Rattle.std.proofs.Common.{Bool, true, false, refl, sym, ap, ◌∙◌, subst, arith, inl, inr}
 use Rattle.std.specs.Prelude.{nat_eq, ◌==◌, ◌||◌, bit_or, if◌then◌else◌}
 use Rattle.std.specs.Int.Bits.{or_zero_r}

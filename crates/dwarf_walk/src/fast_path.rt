@@ -1,5 +1,5 @@
-//! The fast path of the walk: a table gives the shape of null entries and of entries of a fixed size
-//! by their first byte. All others are read with a cursor.
+//! The fast path of the walk: a table gives the shape of null entries and of entries of a fixed
+//! size by their first byte. All others are read with a cursor.
 
 ghost use Rattle.std.specs.Prelude.{◌≡◌, ◌≤◌, ◌<◌, length, min, true, false, OnOk, is_some};
 ghost use Rattle.std.specs.Prelude.{if◌then◌else◌};

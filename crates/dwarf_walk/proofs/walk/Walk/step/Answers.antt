@@ -14,5 +14,6 @@ returns c =
     (ap (λ (p : Position). p.bytes) c.in_ok-seek.ensures.ok
     ∙ ap (λ (p : Position). p.bytes) c.new-cursor.ensures)
     (ap (λ (p : Position). p.place) c.in_ok-seek.ensures.ok) c.place-2.ensures.place c.in-Some.is
-    c.in_ok-head.ensures.reads.0 c.in_ok-keep.ensures (ap (λ (n : ℕ). c.keep.new.self.depth + n) c.from.ensures)
+    c.in_ok-head.ensures.reads.0 c.in_ok-keep.ensures
+    (ap (λ (n : ℕ). c.keep.new.self.depth + n) c.from.ensures)
     c.in_ok-add_offset.ensures
