@@ -33,8 +33,8 @@ full_declaration memoized declaration = record {
 abbrev pub full_declarations : List MemoizedAttribute → List SharedDeclaration → List Declaration
 full_declarations memoized table = map (full_declaration memoized) table
 
--- The index of the rest is that of a memoized attribute. The list stores at most UNSHARED
--- attributes itself, and exactly that many if it has a memoized rest.
+-- The rest starts at a memoized attribute. The list stores at most UNSHARED attributes itself, and
+-- exactly UNSHARED if it has a memoized rest.
 pub record IsShared (memoized : List MemoizedAttribute) (list : SharedAttributes) : Type 0 where
   pub rest : IsMemoized memoized list.rest
   pub few : length list.own ≤ UNSHARED

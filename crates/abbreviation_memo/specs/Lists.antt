@@ -1,4 +1,4 @@
--- The memoized attributes of `.debug_abbrev`. Each stands for the list of attributes from it on.
+-- The memoized attributes of `.debug_abbrev`. Each is the first of a list of attributes.
 use Rattle.std.specs.Prelude.{◌≡◌, ℕ, ◌<◌, List, [], ◌++◌, length, get_or, Option, None, Some}
 use Rattle.std.specs.Prelude.{IfSome}
 use Rattle.dwarf_forms.specs.declared.attribute.AttributeSpecification.{AttributeSpecification}
@@ -21,7 +21,7 @@ abbrev pub rest_attributes : List MemoizedAttribute → Option ℕ → List Attr
 rest_attributes memoized None = []
 rest_attributes memoized (Some number) = attributes_from memoized number
 
--- the optional index is that of a memoized attribute
+-- a memoized attribute has the optional index
 abbrev pub IsMemoized : List MemoizedAttribute → Option ℕ → Type 0
 IsMemoized memoized next = IfSome next (λ number. number < length memoized)
 

@@ -77,7 +77,7 @@ pub(crate) fn shared_attributes(
 }
 
 /// Reads the first attributes of a list, at most `UNSHARED`. Returns whether the list ended before
-/// there were so many.
+/// `UNSHARED` attributes.
 fn first_attributes(
     alloc: Global,
     own: &mut Vec<AttributeSpecification>,

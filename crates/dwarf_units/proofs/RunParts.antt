@@ -38,7 +38,7 @@ use Rattle.dwarf_units.proofs.NameLaws.{found-number, used-none, used-some}
 use Rattle.dwarf_units.proofs.StoredReads.{fault-first, stored_all}
 use Rattle.dwarf_units.proofs.StoredReads.{with_front}
 
--- The stored attributes among those at these positions.
+-- The attributes at these positions if they are stored, otherwise none.
 abbrev pub kept_in : Bool → Format → List ℕ → ℕ → List UsedPosition → List Attribute
 kept_in keep format bytes first used = cond keep (attributes_in format bytes first used) []
 

@@ -206,7 +206,7 @@ used-first : (r : Result (List Attribute × ℕ) Cause) → used_after (used_amo
 used-first (Ok stored) = ap (λ all. Ok (all, stored.1)) (among-append [] stored.0)
 used-first (Err e) = refl
 
--- The runs of the unshared attributes and then the shared attributes give those of the declaration.
+-- The runs of the unshared attributes and then the shared attributes give all of a declaration.
 pub own-rest : (keep : Bool) (format : Format) (own rest : List AttributeSpecification)
     (bytes : List ℕ) (at : ℕ) → at ≤ length bytes → used_after (used_among [])
     (then_read (all_at keep format (runs_of format own) bytes at)

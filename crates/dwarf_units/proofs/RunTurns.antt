@@ -22,7 +22,7 @@ use Rattle.dwarf_units.proofs.UsedLaws.{nothing-used, with-none, with-twice}
 
 -- ---- computing the runs
 
--- The runs so far, before those of the other attributes.
+-- The runs so far, before the runs of the other attributes.
 abbrev pub after_these : List Run → Runs → Runs
 after_these done others = record others { runs = done ++ others.runs }
 

@@ -24,17 +24,19 @@ use Rattle.dwarf_units.proofs.UsedLaws.{nothing-used, with-none, with-twice}
 
 -- ---- two lists of attributes
 
--- Attributes before those of another read.
+-- Attributes before the attributes of another read.
 abbrev pub with_front : List Attribute → List Attribute × ℕ → Result (List Attribute × ℕ) Cause
 with_front front rest = Ok (front ++ rest.0, rest.1)
 
--- An attribute before those of another read, the stored ones of all, and the used ones of these.
+-- One attribute before the attributes of another read.
 abbrev pub with_first : Attribute → List Attribute × ℕ → Result (List Attribute × ℕ) Cause
 with_first a rest = Ok (a ∷ rest.0, rest.1)
 
+-- All attributes if they are stored, otherwise none.
 abbrev pub stored_all : Bool → List Attribute × ℕ → Result (List Attribute × ℕ) Cause
 stored_all keep all = Ok (stored_attributes keep all.0, all.1)
 
+-- The used ones of the stored attributes.
 abbrev pub used_all : List Attribute × ℕ → Result (Used × ℕ) Cause
 used_all stored = Ok (used_among stored.0, stored.1)
 
@@ -204,7 +206,7 @@ one-left keep format s bytes at used a why read =
 
 -- ---- the loop over shared attributes
 
--- The attributes stored so far, completed by those of the remaining list, are the whole result.
+-- The attributes stored so far and then those of the rest of the list are the whole result.
 abbrev pub StoredSoFar : Bool → Format → List AttributeSpecification → List ℕ → Used → ℕ
     → Result (Used × ℕ) Cause → Type 0
 StoredSoFar keep format left bytes used place whole =

@@ -1,4 +1,4 @@
--- The invariant of the memo, and what is read by means of it.
+-- The invariant of the memo, and what the memo reads.
 use Rattle.std.specs.Prelude.{◌≡◌, ℕ, ◌<◌, ◌≤◌, ◌==◌, List, [], ◌∷◌, ◌++◌, length, map, Bool, true}
 use Rattle.std.specs.Prelude.{false, Option, None, Some, IfSome, Result, Ok, Err, slice_get}
 use Rattle.std.specs.List.{list_any}

@@ -69,7 +69,7 @@ find-map {X} {Y} p f (x ∷ xs) = by_test (p (f x)) (find-map p f xs)
     by_test true h = refl
     by_test false h = h
 
--- The first entry at an offset among those of a unit and of the units after it.
+-- The first entry at an offset in a unit or in the units after it.
 pub find-units : (u : CompilationUnit) (us : List CompilationUnit) (offset : ℕ)
     → find (is_at_offset offset) (members_of (u ∷ us))
     ≡ option_or (option_map (member_of u) (die_at u offset))
@@ -159,7 +159,7 @@ module _ {s : Sections} {us : List CompilationUnit} (are : AreUnitsIn s us) wher
   -- ---- the stored units
 
   module _ (stored : List UnitEntries) (same : AreStored stored us) where
-    -- The end of a unit is that of its stored header.
+    -- The stored header has the end of its unit.
     end-at : (i : ℕ) (u : CompilationUnit) → slice_get us i ≡ Some u
         → (k : UnitEntries) × (i < length stored) × ((get_or stored i k).header.end ≡ u.header.end)
     end-at i u found =

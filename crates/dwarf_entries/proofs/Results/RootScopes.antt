@@ -46,7 +46,7 @@ parted number (unit ∷ units) =
         (roots_from past units)) none rest
     by_root past (root ∷ dies) is rest = (refl, omega (arith, is), rest)
 
--- A root is that of a unit with entries.
+-- Each root belongs to a unit with entries.
 record IsRootOf (us : List CompilationUnit) (number : ℕ) (root : Root) : Type 0 where
   pub unit : ℕ
   pub of : CompilationUnit

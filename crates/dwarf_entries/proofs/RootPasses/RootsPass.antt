@@ -56,7 +56,7 @@ roots-push number (v ∷ us) u first past first_is past_is =
 module _ {us : List CompilationUnit} {index : ℕ} {unit : UnitEntries}
     (here : StoredFor us index unit) (first past : ℕ) (first_is : first ≡ first_number us index)
     (past_is : past ≡ first + unit.scopes.len) where
-  -- The number of the first scope of the next unit, which is at most that of all scopes.
+  -- The number of the first scope of the next unit, which is at most the number of all scopes.
   pub past-is : (past ≡ first_number us (index + 1)) × (past ≤ number_of_scopes us)
   past-is =
       let count = sites-stored unit here.unit here.stored in

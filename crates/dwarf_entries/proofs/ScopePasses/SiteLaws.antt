@@ -173,7 +173,7 @@ all-sites-at (v ∷ us) (suc i) m n u p found here is =
     (omega (arith, is, sum, sites-count v v.dies))
     ∙ all-sites-at us i m (first_number us i + m) u p found here refl
 
--- A site is that of an entry, which is at an index of the unit at an index.
+-- A site belongs to the entry at an index of the unit at an index.
 pub record IsSiteAt (us : List CompilationUnit) (n : ℕ) (p : ScopeSite) : Type 0 where
   pub unit : ℕ
   pub unit_is : slice_get us unit ≡ Some p.member.unit

@@ -149,7 +149,7 @@ module _ {X Y : Type 0} {make : List Y → X → Result Y At} {xs : List X} {ind
   pub pass-end : length xs ≤ index → each make xs ≡ Ok made
   pass-end past = ap (each make) (sym (take_all index xs past)) ∙ passed.read
 
-  -- The fault of the element at the index is that of the whole list.
+  -- The whole list has the fault of the element at the index.
   pub pass-refused : (x : X) (e : At) → slice_get xs index ≡ Some x → make made x ≡ Err e
       → each make xs ≡ Err e
   unfolding each_from

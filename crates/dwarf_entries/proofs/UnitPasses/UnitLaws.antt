@@ -30,7 +30,7 @@ use Rattle.dwarf_entries.proofs.UnitPasses.PassLaws.{Faults, each-at}
 
 -- ---- the units that were read
 
--- The header of a unit is within the section, and its entries are those of its table.
+-- The header of a unit is within the section, and its entries are read with its table.
 pub record IsUnitIn (s : Sections) (u : CompilationUnit) : Type 0 where
   pub bounds : HasBounds (length s.debug_info) u.header
   pub table : List Declaration

@@ -72,8 +72,8 @@ run_before n used s = option_map_or (λ layout. record {
   last = Unchecked layout;
 }) (unchecked_layout s) (record { stretch = record { len = n; used = used }; last = Checked s })
 
--- The attributes of a list, the first of which starts n bytes after the start of its stretch.
--- `used` has the positions before it.
+-- The attributes of a list that starts n bytes after the start of its stretch. `used` has the
+-- positions before it.
 unfoldable pub runs_from : Format → ℕ → List UsedPosition → List AttributeSpecification → Runs
 runs_from format n used [] = record { runs = []; rest = record { len = n; used = used } }
 runs_from format n used (s ∷ ss) = option_map_or
