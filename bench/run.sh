@@ -1,8 +1,19 @@
 #!/usr/bin/env bash
 # Measures the readers and plain C programs that make the same checks, on the same bytes in one run.
-# MEASURE and ADDR2LINE_LIVE name programs that are built already.
+# MEASURE and ADDR2LINE_LIVE name programs that are built already. LTO_PROGRAM names a program of the
+# distribution that was built with link-time optimization, /usr/bin/python3.11 by default. It is
+# measured if its debug file is installed (python3.11-dbg of Debian).
 set -euo pipefail
 cd "$(dirname "$0")/.."
+
+# Copies the debug file of a program without compression, if the file is installed.
+copy_debug_file() {
+    local program=$1 copy=$2 id debug
+    id=$(readelf -n "$program" 2> /dev/null | sed -n 's/.*Build ID: //p')
+    debug=/usr/lib/debug/.build-id/${id:0:2}/${id:2}.debug
+    [ ! -f "$debug" ] || objcopy --decompress-debug-sections "$debug" "$copy"
+}
+
 tools/build.sh measure measure.log
 tools/build.sh addr2line_live program.log
 measure=${MEASURE:-crates/measure/out/measure}
@@ -11,6 +22,9 @@ bench/build.sh
 [ -f out/leb.bin ] || out/leb make out/leb.bin 100000000
 [ -f out/objects/large ] || tools/make_objects.sh out/objects
 [ -f out/objects/huge ] || tools/make_large.sh out/objects/huge 150
+[ -f out/objects/clang ] || ! command -v clang++ > /dev/null ||
+    tools/make_large.sh out/objects/clang 60 clang++
+[ -f out/objects/lto ] || copy_debug_file "${LTO_PROGRAM:-/usr/bin/python3.11}" out/objects/lto
 [ -f out/objects/hundred ] || tools/repeat_lines.sh out/objects/large out/objects/hundred
 
 # Prints the time in milliseconds that ends the output of a command, as `.., N ms`.
@@ -105,6 +119,12 @@ compare 'line programs of a C++ program' out/objects/large out/lines lines
 compare 'line programs, 100 MB' out/objects/hundred out/lines lines
 measure_program 'a C++ program' out/objects/large
 measure_program 'a C++ program of 162 MB' out/objects/huge
+if [ -f out/objects/clang ]; then
+    measure_program 'a C++ program of clang' out/objects/clang
+fi
+if [ -f out/objects/lto ]; then
+    measure_program 'a distribution program with link-time optimization' out/objects/lto
+fi
 for peer in 'llvm-dwarfdump --debug-info' 'readelf --debug-dump=info'; do
     if command -v "${peer%% *}" > /dev/null; then
         read -r memory _ <<< "$(peak $peer out/objects/large)"

@@ -1,8 +1,9 @@
 #!/usr/bin/env bash
-# make_large.sh OBJECT COUNT compiles a large C++ program from four parts in parallel. Each part has
-# COUNT instantiations. The program has 69 MB for a COUNT of 60, and 162 MB for 150.
+# make_large.sh OBJECT COUNT [COMPILER] compiles a large C++ program from four parts in parallel.
+# Each part has COUNT instantiations. The compiler is g++ if none is given. With g++, the program has
+# 69 MB for a COUNT of 60, and 162 MB for 150.
 set -euo pipefail
-object=$1 count=$2
+object=$1 count=$2 compiler=${3:-g++}
 tools=$(dirname "$0")
 folder=$(mktemp -d "$object.parts.XXXXXX")
 trap 'rm -rf "$folder"' EXIT
@@ -17,8 +18,8 @@ parts=(one two three four)
 compiling=()
 for part in "${parts[@]}"; do
     "$tools/instantiate.sh" "$count" "$part" > "$folder/$part.cpp"
-    g++ "${flags[@]}" -c -o "$folder/$part.o" "$folder/$part.cpp" &
+    "$compiler" "${flags[@]}" -c -o "$folder/$part.o" "$folder/$part.cpp" &
     compiling+=($!)
 done
-for compiler in "${compiling[@]}"; do wait "$compiler"; done
-g++ "${flags[@]}" -o "$object" "$folder/main.cpp" "$folder"/*.o
+for part in "${compiling[@]}"; do wait "$part"; done
+"$compiler" "${flags[@]}" -o "$object" "$folder/main.cpp" "$folder"/*.o
