@@ -12,6 +12,7 @@ ghost use Rattle.dwarf_walk.specs.Sections.{Sections as SectionBytes, sections_o
 ghost use Rattle.dwarf_walk.specs.Private.Rereading.{ReturnsAndStores, scope_entry_at, IsReaderOf};
 ghost use Rattle.dwarf_walk.specs.Private.Rereading.{len_at, cached_by, HasTableOf};
 ghost use Rattle.dwarf_walk.specs.Private.Rereading.{HasPermanentTable, IsShort, IsCachedAt};
+ghost use Rattle.dwarf_walk.specs.Private.Rereading.{GivesNames};
 ghost use Rattle.dwarf_walk.specs.EntryBitmap.{has_entry};
 ghost use Rattle.dwarf_walk.specs.Private.Long.{cached_at, long_entry};
 ghost use Rattle.dwarf_walk.specs.Private.Named.{used_by_name_at, named_entry_at};
@@ -127,10 +128,7 @@ impl<'a> EntryReader<'a> {
             (take header.now.«end» s.debug_info) offset)) }
         ensures cached { (entry : Named) → cached_by self.old offset
             ≡ Some (long_entry header.now entry) → (result ≡ Ok entry) × (self.new ≡ self.old) }
-        ensures names_at { (s : SectionBytes) (table : List Declaration) → IsReaderOf s self.old
-            → declarations_of declarations_limit s.debug_abbrev header.now.abbreviations ≡ Ok table
-            → Gives (λ entry. entry) result (named_entry_at header.now.format table
-            (take header.now.«end» s.debug_info) offset) }
+        ensures names_at { GivesNames header.now offset self.old result }
         ensures reader { (s : SectionBytes) → IsReaderOf s self.old → IsReaderOf s self.new }
     {
         if let Some(entry) = self.long.get(header, offset) {
@@ -202,10 +200,7 @@ impl<'a> EntryReader<'a> {
     // Inlined: called for each reference.
     #[inline(always)]
     fn reread_names(&mut self, header: &UnitHeader, offset: usize) -> Result<NamedEntry, Cause>
-        ensures names_at { (s : SectionBytes) (table : List Declaration) → IsReaderOf s self.old
-            → declarations_of declarations_limit s.debug_abbrev header.now.abbreviations ≡ Ok table
-            → Gives (λ entry. entry) result (named_entry_at header.now.format table
-            (take header.now.«end» s.debug_info) offset) }
+        ensures names_at { GivesNames header.now offset self.old result }
         ensures reader { (s : SectionBytes) → IsReaderOf s self.old → IsReaderOf s self.new }
         ensures long { self.new.long ≡ self.old.long }
         ensures number { OnOk result (HasTableOf header.now self.new) }

@@ -12,7 +12,7 @@ use Rattle.dwarf_units.specs.declared.unit_headers.UnitHeader.{UnitHeader}
 use Rattle.dwarf_units.specs.Private.AbbreviationTables.{Table}
 use Rattle.dwarf_units.specs.Private.Tables.{IsAt}
 use Rattle.dwarf_units.specs.Entries.{entry_at}
-use Rattle.dwarf_bytes.specs.Refusals.{Fails}
+use Rattle.dwarf_bytes.specs.Refusals.{Fails, Gives}
 use Rattle.dwarf_walk.specs.declared.entry_reader.EntryReader.{EntryReader}
 use Rattle.dwarf_walk.specs.declared.entry_reader.TheConstants.{LONG}
 use Rattle.dwarf_walk.specs.declared.unit_entries.NamedEntry.{NamedEntry}
@@ -74,3 +74,11 @@ IsCachedAt s header reader offset =
     → declarations_of declarations_limit s.debug_abbrev header.abbreviations ≡ Ok table
     → named_entry_at header.format table (take header.«end» s.debug_info) offset ≡ Ok entry
     → cached_at reader.long offset ≡ Some (long_entry header entry)
+
+-- The call gives the names and the reference of the entry at an offset of a unit.
+abbrev pub GivesNames : UnitHeader → ℕ → EntryReader → Result NamedEntry Cause → Type 0
+GivesNames header offset reader result =
+    (s : Sections) (table : List Declaration) → IsReaderOf s reader
+    → declarations_of declarations_limit s.debug_abbrev header.abbreviations ≡ Ok table
+    → Gives (λ entry. entry) result
+    (named_entry_at header.format table (take header.«end» s.debug_info) offset)
