@@ -70,10 +70,6 @@ pub put-fitting : (a : Option (List ℕ)) (h h' x : List ℕ) (fits : Bool) → 
 put-fitting a h h' x true e is = record { sent = []; splits = sym is; appended = appends_nothing a }
 put-fitting a h h' x false e is = absurd (false≢true e)
 
--- nothing was appended
-pub put-nothing : (a : Option (List ℕ)) (h : List ℕ) → Put a a h h []
-put-nothing a h = record { sent = []; splits = append-nil h; appended = appends_nothing a }
-
 -- a string that does not fit changes nothing
 pub same-buffer : (h h' x : List ℕ) (fits : Bool) → fits ≡ false
     → h' ≡ (if fits then h ++ x else h) → h' ≡ h

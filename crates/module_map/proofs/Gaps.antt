@@ -20,25 +20,6 @@ pub not-own : (own k : ℕ) → IsOther own k → k ≢ own
 not-own own k (inl below) = λ e. omega arith
 not-own own k (inr above) = λ e. omega arith
 
-pub next-here : (own len from : ℕ) → (from ≢ own) ⊎ (len ≤ from) → IsNext own len from from
-next-here own len from side = record {
-  above = omega arith;
-  least = λ k p q. absurd (omega arith);
-  other = other side;
-}
-  where
-    other : (from ≢ own) ⊎ (len ≤ from) → from < len → IsOther own from
-    other (inl ne) lt = other-of own from ne
-    other (inr end) lt = absurd (omega arith)
-
-pub next_past : (own len from : ℕ) → from ≡ own → IsNext own len from (from + 1)
-next_past own len from is = record {
-  above = omega arith;
-  least = λ k p q. omega arith;
-  other =
-      λ _. inr (omega arith);
-}
-
 module _ (sorted : List NumberedModule) (own low high n : ℕ) (rising : AreRising sorted)
     (started : CountsStarted sorted low n) (order : low < high) where
   -- the last module that starts at or before the low end ends after it, so it overlaps

@@ -30,20 +30,6 @@ pub record Narrowed (sorted : List NumberedModule) (address low high : ℕ)
 minus-zero : (n : ℕ) → n ≡ n - 0
 minus-zero n = omega arith
 
-pub narrowed-none : (sorted : List NumberedModule) (address : ℕ) (steps : Steps)
-    → Narrowed sorted address 0 (length sorted) steps steps
-narrowed-none sorted address steps = record {
-  order = omega arith;
-  within = omega arith;
-  begins = λ k d e. absurd (omega arith);
-  later = λ k d le lt. absurd (omega arith);
-  used = 0;
-  first = inl refl;
-  taken = refl;
-  halved = subst (λ n. Halved (length sorted) n 0) (minus-zero (length sorted))
-      (halved-none (length sorted));
-}
-
 pub narrowed-up : (sorted : List NumberedModule) (address low high middle : ℕ)
     (before now then : Steps)
     → Narrowed sorted address low high before now → low < high
@@ -88,15 +74,6 @@ narrowed-down sorted address low high middle before now then rising n some is be
     later k d le (inl past) lt =
         let b = begins d in let a = rising.apart middle k d past lt in let s =
         rising.sound middle d (omega arith) in omega arith
-
-pub narrowed-all : (sorted : List NumberedModule) (address low high : ℕ) (before now : Steps)
-    → Narrowed sorted address low high before now
-    → high ≤ low → CountsStarted sorted address low
-narrowed-all sorted address low high before now n end = record {
-  within = let o = n.order in let w = n.within in omega arith;
-  before = n.begins;
-  after = λ k d le in'. n.later k d (let o = n.order in omega arith) in';
-}
 
 pub narrowed-count : (sorted : List NumberedModule) (address low high : ℕ) (before now : Steps)
     → Narrowed sorted address low high before now

@@ -170,9 +170,6 @@ without-is name hs own only =
 
 -- ---- free addresses for a module
 
-meets-is : (low high s e : ℕ) → low < e → s < high → (nat_lt low e && nat_lt s high) ≡ true
-meets-is low high s e p q = rw (lt-ltb low e p, lt-ltb s high q) refl
-
 meets-no : (low e : ℕ) (other : Bool) → e ≤ low → (nat_lt low e && other) ≡ false
 meets-no low e other le = rw (not-below low e le) refl
 

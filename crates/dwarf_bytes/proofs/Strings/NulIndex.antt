@@ -97,12 +97,6 @@ nul-from-index section nuls at are h =
         never : None ≡ (let f : Option ℕ → Option (Option ℕ) = λ z. Some z in f there.0) → ⊥
         never h = cc
 
-pub nul-past-end : (section : List ℕ) (at : ℕ) → length section ≤ at
-    → None ≡ option_map (λ n. at + n) (position is_nul (take block_len (drop at section)))
-nul-past-end section at past =
-    ap (λ (xs : List ℕ). option_map (λ n. at + n) (position is_nul (take block_len xs)))
-    (sym (drop_all at section past))
-
 -- ---- the loop that builds the index, from the last block to the first
 
 pub record BuiltNuls (section : List ℕ) (nuls : List (Option ℕ)) (block : ℕ)
@@ -113,18 +107,6 @@ pub record BuiltNuls (section : List ℕ) (nuls : List (Option ℕ)) (block : �
   pub few : block ≤ count
   pub later_is : later ≡ nul_from section (block_len * block)
   pub built : reverse nuls ≡ nuls_from section block (count - block)
-
-pub nuls-none : (section : List ℕ) (count : ℕ) → length section ≤ block_len * count
-    → block_len * count < length section + block_len → BuiltNuls section [] count None
-nuls-none section count all needed = record {
-  count = count;
-  all = all;
-  needed = needed;
-  few = omega arith;
-  later_is = sym (nul-outside section (block_len * count) all);
-  built = ap (λ (k : ℕ). nuls_from section count k)
-      (let none : 0 ≡ count - count = omega arith in none);
-}
 
 nul-or : (section : List ℕ) (at after : ℕ) (own later : Option ℕ)
     → own ≡ option_map (λ n. at + n) (position is_nul (take block_len (drop at section)))
@@ -163,19 +145,6 @@ nuls-next section nuls block at later own so_far some at_is own_is =
           (so_far.built ∙ ap (λ (k : ℕ). nuls_from section k (so_far.count - block)) block_is)
           ∙ (ap (λ (o : Option ℕ). o ∷ nuls_from section (block - 1 + 1) (so_far.count - block))
           here ∙ front));
-    }
-
-pub nuls-end : (section : List ℕ) (nuls items : List (Option ℕ)) (block : ℕ) (later : Option ℕ)
-    → BuiltNuls section nuls block later → block ≤ 0 → items ≡ reverse nuls → AreNuls section items
-nuls-end section nuls items block later so_far none items_are =
-    let zero_is : block ≡ 0 = omega (arith, none) in
-    let size : so_far.count - block ≡ so_far.count = omega (arith, zero_is) in
-    record {
-      count = so_far.count;
-      nuls_are = items_are ∙ (so_far.built
-          ∙ (ap (λ (k : ℕ). nuls_from section k (so_far.count - block)) zero_is
-          ∙ ap (λ (k : ℕ). nuls_from section 0 k) size));
-      all = so_far.all;
     }
 
 -- ---- the string at an offset
