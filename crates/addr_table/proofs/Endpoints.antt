@@ -9,6 +9,7 @@ pub mod FirstEnds
 pub mod FlatPermutations
 pub mod MergeLaws
 pub mod MergeRests
+pub mod NestedEndLaws
 pub mod NextEnds
 pub mod OpenCounts
 pub mod OpenEndLaws

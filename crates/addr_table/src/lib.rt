@@ -12,6 +12,7 @@ mod frames;
 pub mod laws;
 mod low_starts;
 mod module;
+mod nested_ends;
 mod object_tables;
 mod open_ends;
 mod optional_index;

@@ -6,7 +6,7 @@ ghost use Rattle.std.specs.List.Sorted.{IsPermutation};
 ghost use Rattle.addr_table.specs.declared.open_ends.End.{End as Ended};
 ghost use Rattle.addr_table.specs.Private.OpenEnds.{IsLowest};
 
-use crate::end_heap::EndHeap;
+use crate::nested_ends::NestedEnds;
 use std::alloc::{AllocError, Global};
 use std::marker::Model;
 
@@ -17,12 +17,12 @@ pub(crate) struct End {
     pub(crate) key: usize,
 }
 
-/// Ends of ranges. One of them is outside the heap. Most rows start where another one ends, so that
-/// most ends of rows are added and taken without the heap.
+/// Ends of ranges. The first one is outside the others. Most rows start where another one ends, so
+/// that most ends of rows are only stored there.
 #[derive(Drop)]
 pub(crate) struct OpenEnds {
     first: Option<End>,
-    heap: EndHeap,
+    others: NestedEnds,
 }
 
 impl Model for OpenEnds {
@@ -32,7 +32,7 @@ impl Model for OpenEnds {
 
     ghost Value = { List End };
 
-    ghost view = { λ o. ends_with o.first o.heap };
+    ghost view = { λ o. ends_with o.first o.others };
 
     ghost invariant = { λ o. IfSome o.first (λ e. e.key < 2 ^ 32) };
 }
@@ -43,11 +43,11 @@ impl OpenEnds {
     {
         OpenEnds {
             first: None,
-            heap: EndHeap::new(alloc),
+            others: NestedEnds::new(alloc),
         }
     }
 
-    /// Adds an end. The lower one of this end and the first one stays outside the heap.
+    /// Adds an end. The lower one of this end and the first one becomes the first one.
     pub(crate) fn push(&mut self, end: End) -> Result<(), AllocError>
         requires { end.key < 2 ^ 32 }
         ensures { OnOk result (IsPermutation (end ∷ self.old) self.new) }
@@ -57,10 +57,10 @@ impl OpenEnds {
             return Ok(());
         };
         if end.at > first.at {
-            self.heap.push(end)?;
+            self.others.push(end)?;
             return Ok(());
         }
-        self.heap.push(first)?;
+        self.others.push(first)?;
         self.first = Some(end);
         Ok(())
     }
@@ -69,7 +69,7 @@ impl OpenEnds {
     pub(crate) fn lowest(&self) -> Option<u64>
         ensures { MatchOption result (self.now ≡ []) (IsLowest self.now) }
     {
-        match (self.first, self.heap.lowest()) {
+        match (self.first, self.others.lowest()) {
             (Some(first), Some(at)) => Some(first.at.min(at)),
             (Some(first), None) => Some(first.at),
             (None, at) => at,
@@ -88,7 +88,7 @@ impl OpenEnds {
                 self.first = None;
                 Some(first.key)
             }
-            _ => self.heap.take_up_to(end),
+            _ => self.others.take_up_to(end),
         }
     }
 }

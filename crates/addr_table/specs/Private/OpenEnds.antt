@@ -1,5 +1,6 @@
--- Ends in a heap, and one outside it.
-use Rattle.std.specs.Prelude.{◌≡◌, ℕ, ◌≤◌, ◌==◌, true, List, ◌∷◌, Option, Some, None}
+-- Ends in a stack and in a heap, and one outside them.
+use Rattle.std.specs.Prelude.{◌≡◌, ℕ, ◌≤◌, ◌<◌, ◌==◌, true, List, ◌∷◌, Option, Some, None}
+use Rattle.std.specs.Prelude.{length, slice_index_or}
 use Rattle.std.specs.List.{All, list_any}
 use Rattle.std.specs.BinaryHeap.{IsHeap}
 use Rattle.std.specs.Ordering.{nat_cmp, ordering_then}
@@ -18,7 +19,12 @@ higher_first x y = ordering_then (nat_cmp y.0.0 x.0.0) (nat_cmp y.0.1 x.0.1)
 abbrev pub IsEndHeap : List (Reverse (ℕ × ℕ)) → Type 0
 IsEndHeap items = IsHeap higher_first items
 
--- the ends in a heap and the one outside it, if there is one
+-- no end of a stack is above an end before it
+abbrev pub IsStack : List End → Type 0
+IsStack ends = (i j : ℕ) (d : End) → i ≤ j → j < length ends
+    → (slice_index_or ends j d).at ≤ (slice_index_or ends i d).at
+
+-- some ends and the one outside them, if there is one
 abbrev pub ends_with : Option End → List End → List End
 ends_with None ends = ends
 ends_with (Some first) ends = first ∷ ends
