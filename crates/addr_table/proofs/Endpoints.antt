@@ -20,6 +20,8 @@ pub mod RowCursorLaws
 pub mod RowOrderLaws
 pub mod RowRunLaws
 pub mod RowStartLaws
+pub mod RunGroupLaws
+pub mod SequenceRunLaws
 pub mod StartDigits
 pub mod StartListLaws
 pub mod StartTurns

@@ -1,14 +1,10 @@
-//! The rows that cover addresses, sequence by sequence.
+//! The rows that cover addresses.
 
-ghost use Rattle.std.specs.Prelude.{◌≡◌, ◌∷◌, [], ◌+◌, ◌++◌, ◌<◌, ◌^◌, true, length};
-ghost use Rattle.std.specs.Prelude.{IfOk, OnOk, MatchOption};
-ghost use Rattle.std.specs.List.Sorted.{IsPermutation};
-ghost use Rattle.addr_table.specs.Private.RowOrder.{covering_from, covers_at, sequence_at};
-ghost use Rattle.addr_table.specs.Private.RowOrder.{row_address, starts_from};
+ghost use Rattle.std.specs.Prelude.{◌≡◌, ◌∷◌, [], ◌+◌, ◌<◌, length, MatchOption};
+ghost use Rattle.addr_table.specs.Private.RowOrder.{covering_at, covers_at, row_address};
+ghost use Rattle.addr_table.specs.Private.RowOrder.{sequence_at};
 
-use crate::packed::narrow;
 use dwarf_lines::Row;
-use std::alloc::{AllocError, Global};
 
 /// Returns the address of a row; 0 if there is no such row.
 pub(crate) fn address_of(rows: &[Row], row: usize) -> u64
@@ -32,7 +28,8 @@ fn covers(rows: &[Row], row: usize) -> bool
 pub(crate) fn first_covering(rows: &[Row], from: usize) -> Option<usize>
     ensures { MatchOption result (sequence_at rows.now from ≡ [])
         (λ n. (n < length rows.now)
-        × (sequence_at rows.now from ≡ n ∷ sequence_at rows.now (n + 1))) }
+        × (sequence_at rows.now from ≡ n ∷ sequence_at rows.now (n + 1))
+        × (covering_at rows.now from ≡ n ∷ covering_at rows.now (n + 1))) }
 {
     let mut number = from;
     while number < rows.len() && !rows[number].end {
@@ -44,50 +41,18 @@ pub(crate) fn first_covering(rows: &[Row], from: usize) -> Option<usize>
     None
 }
 
-/// Returns the indexes of the first rows of sequences.
-fn sequence_starts(alloc: Global, rows: &[Row]) -> Result<Vec<u32>, AllocError>
-    requires { length rows.now < 2 ^ 32 }
-    ensures { IfOk result (λ starts. starts.items ≡ starts_from true 0 rows.now) }
+/// Returns the first row at or after row `from` that covers addresses, in any sequence.
+pub(crate) fn next_covering(rows: &[Row], from: usize) -> Option<usize>
+    ensures { MatchOption result (covering_at rows.now from ≡ [])
+        (λ n. (n < length rows.now)
+        × (covering_at rows.now from ≡ n ∷ covering_at rows.now (n + 1))) }
 {
-    let mut starts = Vec::new(alloc);
-    let mut is_first = true;
-    for number in 0..rows.len() {
-        if is_first {
-            starts.push(narrow(number))?;
+    let mut number = from;
+    while number < rows.len() {
+        if covers(rows, number) {
+            return Some(number);
         }
-        is_first = rows[number].end;
+        number += 1;
     }
-    Ok(starts)
-}
-
-/// Appends the rows of a sequence that cover addresses, from row `start` on.
-fn add_sequence(order: &mut Vec<u32>, rows: &[Row], start: usize) -> Result<(), AllocError>
-    requires { length rows.now < 2 ^ 32 }
-    ensures { OnOk result (order.new.items ≡ order.old.items ++ sequence_at rows.now start) }
-{
-    let mut from = start;
-    loop {
-        match first_covering(rows, from) {
-            Some(row) => {
-                order.push(narrow(row))?;
-                from = row + 1;
-            }
-            None => return Ok(()),
-        }
-    }
-}
-
-/// Returns the rows that cover addresses. Sequences are listed in ascending order of their first
-/// addresses. Few sequences overlap, so almost all rows are in ascending order too.
-pub(crate) fn covering_rows(alloc: Global, rows: &[Row]) -> Result<Vec<u32>, AllocError>
-    requires { length rows.now < 2 ^ 32 }
-    ensures { IfOk result (λ order. IsPermutation (covering_from 0 rows.now) order.items) }
-{
-    let mut starts = sequence_starts(alloc, rows)?;
-    starts.sort_unstable_by_key(|start| address_of(rows, *start as usize));
-    let mut order = Vec::with_capacity(alloc, rows.len())?;
-    for index in 0..starts.len() {
-        add_sequence(&mut order, rows, starts[index] as usize)?;
-    }
-    Ok(order)
+    None
 }

@@ -6,8 +6,10 @@ ghost use Rattle.addr_table.specs.declared.starts.Start.{Start as Started};
 ghost use Rattle.addr_table.specs.Private.RowOrder.{row_start};
 ghost use Rattle.addr_table.specs.Private.RowRuns.{AreRowStarts, no_run, rows_in};
 
-use crate::row_order::{address_of, covering_rows};
-use crate::row_runs::{Run, rest_of, runs_of};
+use crate::row_order::address_of;
+use crate::row_runs::{Run, rest_of};
+use crate::run_groups::ordered;
+use crate::sequence_runs::file_runs;
 use crate::starts::Start;
 use dwarf_lines::Row;
 use std::alloc::{AllocError, Global};
@@ -25,8 +27,6 @@ pub(crate) struct RowStarts<'a> {
     rest: Run,
     /// The number of starts that were taken.
     taken: usize,
-    /// The number of all starts.
-    len: usize,
 }
 
 impl<'a> Model for RowStarts<'a> {
@@ -41,7 +41,7 @@ impl<'a> Model for RowStarts<'a> {
       taken = r.taken;
     } };
 
-    ghost invariant = { λ r. IsNextRow r.rows.now r.runs.items r.index r.rest r.taken r.len };
+    ghost invariant = { λ r. IsNextRow r.rows.now r.runs.items r.index r.rest r.taken };
 }
 
 /// Returns the start of a row. The row ends where the next row starts.
@@ -67,10 +67,10 @@ fn run_at(runs: &[Run], index: usize) -> Run
 }
 
 impl<'a> RowStarts<'a> {
-    /// Begins at the first row of runs that have `len` rows.
-    fn new(rows: &'a [Row], runs: Vec<Run>, len: usize) -> RowStarts<'a>
+    /// Begins at the first row of runs.
+    fn new(rows: &'a [Row], runs: Vec<Run>) -> RowStarts<'a>
         requires few { length rows.now < 2 ^ 32 }
-        requires len { len ≡ length (rows_in rows.now runs.items) }
+        requires fits { length (rows_in rows.now runs.items) < 2 ^ 32 }
         ensures all { result.all ≡ map (row_start rows.now) (rows_in rows.now runs.items) }
         ensures taken { result.taken ≡ 0 }
     {
@@ -81,28 +81,18 @@ impl<'a> RowStarts<'a> {
             index: 0,
             rest,
             taken: 0,
-            len,
         }
     }
 
-    /// Returns the starts of the rows that cover addresses, in ascending order. The list of these
-    /// rows is sorted, and then replaced by its runs. The stable sort exploits that most rows are
-    /// in order already.
+    /// Returns the starts of the rows that cover addresses, in ascending order.
     pub(crate) fn of(alloc: Global, rows: &'a [Row]) -> Result<RowStarts<'a>, AllocError>
         requires { length rows.now < 2 ^ 32 }
         ensures { IfOk result (AreRowStarts rows.now) }
     {
-        let mut order = covering_rows(alloc, rows)?;
-        order.sort_by_key(|row| address_of(rows, *row as usize))?;
-        let runs = runs_of(alloc, rows, &order)?;
-        Ok(RowStarts::new(rows, runs, order.len()))
-    }
-
-    /// Returns the number of all starts.
-    pub(crate) fn len(&self) -> usize
-        ensures { result ≡ length self.now.all }
-    {
-        self.len
+        let mut runs = file_runs(alloc, rows)?;
+        runs.sort_unstable_by_key(|run| address_of(rows, run.first as usize));
+        let runs = ordered(alloc, rows, &runs)?;
+        Ok(RowStarts::new(rows, runs))
     }
 
     /// Returns the next start without taking it.
@@ -112,7 +102,7 @@ impl<'a> RowStarts<'a> {
             × ((d : Started) → s ≡ slice_index_or self.now.all self.now.taken d)
             × (s.key < 2 ^ 32)) }
     {
-        if self.taken >= self.len {
+        if self.index >= self.runs.len() {
             return None;
         }
         Some(start_of(self.rows, self.rest.first as usize))

@@ -1,6 +1,6 @@
 //! A cursor over the starts of rows and of scopes.
 
-ghost use Rattle.std.specs.Prelude.{◌≡◌, ◌+◌, ◌-◌, ◌^◌, ◌<◌, ◌≤◌, length, drop, min};
+ghost use Rattle.std.specs.Prelude.{◌≡◌, ◌+◌, ◌-◌, ◌^◌, ◌<◌, ◌≤◌, length, drop};
 ghost use Rattle.std.specs.Prelude.{slice_index_or};
 ghost use Rattle.std.specs.Prelude.{MatchOption, true, false, not};
 ghost use Rattle.std.specs.Int.{from_bool};
@@ -105,11 +105,11 @@ impl<'a> StartCursor<'a> {
         }
     }
 
-    /// Returns the number of starts, saturating at `usize::MAX`.
-    pub(crate) fn len(&self) -> usize
-        ensures { result ≡ min (length self.now.rows + length self.now.scopes) (2 ^ 64 - 1) }
+    /// Returns the number of starts of scopes.
+    pub(crate) fn scopes(&self) -> usize
+        ensures { result ≡ length self.now.scopes }
     {
-        self.rows.len().saturating_add(self.scopes.len())
+        self.scopes.len()
     }
 
     /// Returns the address of the next start.

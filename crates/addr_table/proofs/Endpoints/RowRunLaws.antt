@@ -49,7 +49,7 @@ none-at : (rows : List Row) (last n : ℕ) → last < n → up_to last (sequence
 none-at rows last n lt = none-before last n (drop n rows) lt
 
 -- the next row of a sequence is after the row that it follows
-follows-after : (rows : List Row) (last row : ℕ) → Follows rows last row → last < row
+pub follows-after : (rows : List Row) (last row : ℕ) → Follows rows last row → last < row
 follows-after rows last row is = elim (cases_lt last row) [
   | inl lt ↦ lt
   | inr le ↦

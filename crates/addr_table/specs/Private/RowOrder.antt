@@ -1,5 +1,5 @@
--- The rows that cover addresses, sequence by sequence, and their starts.
-use Rattle.std.specs.Prelude.{ℕ, suc, ◌+◌, List, [], ◌∷◌, drop, map, filter, Bool, true, false}
+-- The rows that cover addresses, and their starts.
+use Rattle.std.specs.Prelude.{ℕ, suc, ◌+◌, List, [], ◌∷◌, drop, map, filter, Bool, false}
 use Rattle.std.specs.Prelude.{nat_lt, ◌&&◌, not, if◌then◌else◌, slice_index_or}
 use Rattle.dwarf_lines.specs.declared.row.Row.{Row}
 use Rattle.addr_table.specs.declared.starts.Start.{Start}
@@ -23,11 +23,9 @@ sequence_from n (row ∷ next ∷ rows) =
 abbrev pub sequence_at : List Row → ℕ → List ℕ
 sequence_at rows n = sequence_from n (drop n rows)
 
--- the numbers of the first rows of sequences; whether the first row of the list is one
-abbrev pub starts_from : Bool → ℕ → List Row → List ℕ
-starts_from is_first n [] = []
-starts_from true n (row ∷ rows) = n ∷ starts_from row.«end» (suc n) rows
-starts_from false n (row ∷ rows) = starts_from row.«end» (suc n) rows
+-- the covering rows from row n on, in all sequences
+abbrev pub covering_at : List Row → ℕ → List ℕ
+covering_at rows n = covering_from n (drop n rows)
 
 abbrev pub no_row : Row
 no_row = record { address = 0; program = record { 0 = 0 }; file = 0; line = 0; «end» = false }

@@ -2,32 +2,28 @@ use Rattle.std.proofs.Common.{◌∙◌, ◌<◌, ◌+◌, get_or, length, map, 
 use Rattle.std.proofs.lemmas.List.{length-map}
 use Rattle.addr_table.specs.Private.RowOrder.{row_start}
 use Rattle.addr_table.specs.Private.RowRuns.{RowCursor, no_run, rows_in}
-use Rattle.addr_table.proofs.Endpoints.RowCursorLaws.{row-taken, run-taken}
+use Rattle.addr_table.proofs.Endpoints.RowCursorLaws.{row-taken, run-left, run-taken}
 use Rattle.addr_table.proofs.row_starts.RowStarts.advance.Goals.{After-rest_of-later}
 use Rattle.addr_table.proofs.row_starts.RowStarts.advance.Goals as goal
 
--- a start is left
-within : (c : After-rest_of-later) → c.self.inside.taken < c.self.inside.len
+-- a run is left
+within : (c : After-rest_of-later) → c.self.inside.index < length c.self.inside.runs.items
 within c =
     let r = c.self.inside in
     let P : RowCursor → Type 0 = λ x. x.taken < length x.all in
     let lt : r.taken < length (map (row_start r.rows.now) (rows_in r.rows.now r.runs.items)) =
     subst P (sym c.self.view_is) c.requires.within in
-    omega (
-      arith,
-      lt,
-      c.self.invariant.len_is,
-      length-map (rows_in r.rows.now r.runs.items) (row_start r.rows.now),
-    )
+    run-left _ _ _ _ _ c.self.invariant
+    (omega (arith, lt, length-map (rows_in r.rows.now r.runs.items) (row_start r.rows.now)))
 
 pub invariant_of-self : goal.invariant_of-self
 invariant_of-self c =
-    row-taken _ _ _ _ _ _ _ c.self.invariant
+    row-taken _ _ _ _ _ _ c.self.invariant
     (within (goal.at.invariant_of-self c).After-rest_of-later) c.in-Some.ensures
 
 pub invariant_of-self-2 : goal.invariant_of-self-2
 invariant_of-self-2 c =
-    run-taken _ _ _ _ _ _ _ c.self.invariant
+    run-taken _ _ _ _ _ _ c.self.invariant
     (within (goal.at.invariant_of-self-2 c).After-rest_of-later)
     (c.run_at-self-inside.ensures
     ∙ ap (λ runs. get_or runs (c.self.inside.index + 1) no_run) c.deref.ensures.value)
