@@ -14,7 +14,6 @@ pub mod NextEnds
 pub mod OpenCounts
 pub mod OpenEndLaws
 pub mod OpenLaws
-pub mod RangeCountLaws
 pub mod RangeEnds
 pub mod RowCursorLaws
 pub mod RowOrderLaws

@@ -21,7 +21,6 @@ mod parent_walk;
 mod parents;
 mod path;
 mod place;
-mod range_counts;
 mod row_order;
 mod row_runs;
 mod row_starts;

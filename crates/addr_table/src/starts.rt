@@ -8,7 +8,6 @@ ghost use Rattle.addr_table.specs.Private.Sweep.{reaches_of};
 ghost use Rattle.addr_table.specs.Private.RowRuns.{AreRowStarts};
 ghost use Rattle.addr_table.specs.Private.Merged.{starts_in, taken_of};
 
-use crate::range_counts::count_ranges;
 use crate::row_starts::RowStarts;
 use crate::scopes::{count, scope_at};
 use crate::start_cursor::StartCursor;
@@ -105,7 +104,7 @@ pub(crate) fn cursor<'a>(
         (λ r. AreStarts (reaches_of rows.now scopes.now.scopes) (starts_in r)) }
     ensures first { IfOk result (λ r. taken_of r ≡ 0) }
 {
-    let mut of_scopes = StartList::new(alloc, count_ranges(scopes))?;
+    let mut of_scopes = StartList::new(alloc, count(scopes))?;
     of_scopes.add_scopes(rows.len(), scopes)?;
     let sorted = of_scopes.sorted(alloc)?;
     Ok(StartCursor::new(of_rows, sorted))
