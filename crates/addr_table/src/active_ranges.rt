@@ -94,6 +94,8 @@ impl ActiveRanges {
     }
 
     /// Returns the first key in `from..to` that has a range.
+    // Inlined: the calls with constant keys need few instructions.
+    #[inline(always)]
     pub(crate) fn first(&mut self, from: usize, to: usize) -> Option<usize>
         ensures first { IsFirstIn (is_filled self.old.counts) from to result }
         ensures counts { self.new.counts ≡ self.old.counts }

@@ -81,7 +81,7 @@ fn counts_of(alloc: Global, list: &[Segment], low: u64, shift: u32) -> Result<Ve
     ensures { IfOk result (λ counts. AreBuckets list.now low shift (length list.now)
         counts.items) }
 {
-    let mut counts = Vec::new(alloc);
+    let mut counts = Vec::with_capacity(alloc, list.len())?;
     for index in 0..list.len() {
         let segment = &list[index];
         fill(

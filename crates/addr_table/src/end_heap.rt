@@ -42,6 +42,8 @@ impl EndHeap {
     }
 
     /// Adds an end.
+    // Not inlined: few ends are in the heap, and the loops that call it need the registers.
+    #[inline(never)]
     pub(crate) fn push(&mut self, end: End) -> Result<(), AllocError>
         requires { end.key < 2 ^ 32 }
         ensures { OnOk result (IsPermutation (end ∷ self.old) self.new) }
@@ -61,6 +63,8 @@ impl EndHeap {
     }
 
     /// Takes an end at or before `end`, if there is one, and returns its key.
+    // Not inlined: see `push`.
+    #[inline(never)]
     pub(crate) fn take_up_to(&mut self, end: u64) -> Option<usize>
         ensures { MatchOption result
             ((self.new ≡ self.old) × All (λ (e : Ended). end < e.at) self.old)

@@ -83,6 +83,8 @@ impl NestedEnds {
     }
 
     /// Adds an end.
+    // Inlined: called for most starts of scopes.
+    #[inline(always)]
     pub(crate) fn push(&mut self, end: End) -> Result<(), AllocError>
         requires { end.key < 2 ^ 32 }
         ensures { OnOk result (IsPermutation (end ∷ self.old) self.new) }

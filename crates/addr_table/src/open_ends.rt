@@ -17,11 +17,13 @@ pub(crate) struct End {
     pub(crate) key: usize,
 }
 
-/// Ends of ranges. The first one is outside the others. Most rows start where another one ends, so
-/// that most ends of rows are only stored there.
+/// Ends of ranges. One end of a row is outside the others: most rows start where another one ends,
+/// so that most ends of rows are only stored there.
 #[derive(Drop)]
 pub(crate) struct OpenEnds {
-    first: Option<End>,
+    /// The number of keys that belong to rows. They are the first keys.
+    rows: usize,
+    row: Option<End>,
     others: NestedEnds,
 }
 
@@ -32,36 +34,33 @@ impl Model for OpenEnds {
 
     ghost Value = { List End };
 
-    ghost view = { λ o. ends_with o.first o.others };
+    ghost view = { λ o. ends_with o.row o.others };
 
-    ghost invariant = { λ o. IfSome o.first (λ e. e.key < 2 ^ 32) };
+    ghost invariant = { λ o. IfSome o.row (λ e. e.key < 2 ^ 32) };
 }
 
 impl OpenEnds {
-    pub(crate) fn new(alloc: Global) -> OpenEnds
+    /// Creates an empty list. The first `rows` keys belong to rows.
+    pub(crate) fn new(alloc: Global, rows: usize) -> OpenEnds
         ensures { result ≡ [] }
     {
         OpenEnds {
-            first: None,
+            rows,
+            row: None,
             others: NestedEnds::new(alloc),
         }
     }
 
-    /// Adds an end. The lower one of this end and the first one becomes the first one.
+    /// Adds an end.
     pub(crate) fn push(&mut self, end: End) -> Result<(), AllocError>
         requires { end.key < 2 ^ 32 }
         ensures { OnOk result (IsPermutation (end ∷ self.old) self.new) }
     {
-        let Some(first) = self.first else {
-            self.first = Some(end);
-            return Ok(());
-        };
-        if end.at > first.at {
-            self.others.push(end)?;
+        if end.key < self.rows && self.row.is_none() {
+            self.row = Some(end);
             return Ok(());
         }
-        self.others.push(first)?;
-        self.first = Some(end);
+        self.others.push(end)?;
         Ok(())
     }
 
@@ -69,9 +68,9 @@ impl OpenEnds {
     pub(crate) fn lowest(&self) -> Option<u64>
         ensures { MatchOption result (self.now ≡ []) (IsLowest self.now) }
     {
-        match (self.first, self.others.lowest()) {
-            (Some(first), Some(at)) => Some(first.at.min(at)),
-            (Some(first), None) => Some(first.at),
+        match (self.row, self.others.lowest()) {
+            (Some(row), Some(at)) => Some(row.at.min(at)),
+            (Some(row), None) => Some(row.at),
             (None, at) => at,
         }
     }
@@ -83,10 +82,10 @@ impl OpenEnds {
             (λ key. (at : ℕ) × (at ≤ end)
             × IsPermutation self.old (record { at = at; key = key } ∷ self.new)) }
     {
-        match self.first {
-            Some(first) if first.at <= end => {
-                self.first = None;
-                Some(first.key)
+        match self.row {
+            Some(row) if row.at <= end => {
+                self.row = None;
+                Some(row.key)
             }
             _ => self.others.take_up_to(end),
         }

@@ -28,8 +28,7 @@ fn covers(rows: &[Row], row: usize) -> bool
 pub(crate) fn first_covering(rows: &[Row], from: usize) -> Option<usize>
     ensures { MatchOption result (sequence_at rows.now from ≡ [])
         (λ n. (n < length rows.now)
-        × (sequence_at rows.now from ≡ n ∷ sequence_at rows.now (n + 1))
-        × (covering_at rows.now from ≡ n ∷ covering_at rows.now (n + 1))) }
+        × (sequence_at rows.now from ≡ n ∷ sequence_at rows.now (n + 1))) }
 {
     let mut number = from;
     while number < rows.len() && !rows[number].end {

@@ -9,7 +9,7 @@ use crate::row_order::first_covering;
 use dwarf_lines::Row;
 use std::alloc::{AllocError, Global};
 
-/// The first and the last of some covering rows that are consecutive in one sequence.
+/// The covering rows from row `first`, which is one of them, up to row `last` of the same sequence.
 #[derive(Clone, Copy)]
 pub(crate) struct Run {
     pub(crate) first: u32,

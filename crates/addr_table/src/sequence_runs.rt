@@ -1,42 +1,40 @@
 //! The runs of the rows of each sequence.
 
-ghost use Rattle.std.specs.Prelude.{◌≡◌, ◌<◌, ◌^◌, length, IfOk, IfSome};
+ghost use Rattle.std.specs.Prelude.{◌≡◌, ◌<◌, ◌^◌, length, true, IfOk};
 ghost use Rattle.std.specs.List.{All};
 ghost use Rattle.addr_table.specs.Private.RowOrder.{covering_from};
-ghost use Rattle.addr_table.specs.Private.RowRuns.{Ascends, Extends, IsRunFrom, rows_in};
+ghost use Rattle.addr_table.specs.Private.RowRuns.{Ascends, IsRunFrom, RisesAfter, rows_in};
 
 use crate::packed::narrow;
-use crate::row_order::{address_of, first_covering, next_covering};
+use crate::row_order::next_covering;
 use crate::row_runs::Run;
 use dwarf_lines::Row;
 use std::alloc::{AllocError, Global};
 
-/// Returns the next covering row after row `last` in the same sequence, unless its address is
-/// lower.
-fn extension(rows: &[Row], last: u32) -> Option<usize>
-    ensures { IfSome result (Extends rows.now last) }
+/// Returns whether the next row is in the same sequence and its address is not lower.
+fn rises_after(rows: &[Row], row: usize) -> bool
+    requires { row < length rows.now }
+    ensures { result ≡ true → RisesAfter rows.now row }
 {
-    let next = first_covering(rows, last as usize + 1)?;
-    if address_of(rows, next) < address_of(rows, last as usize) {
-        return None;
-    }
-    Some(next)
+    row + 1 < rows.len() && !rows[row + 1].end && rows[row].address <= rows[row + 1].address
 }
 
-/// Returns the longest run that begins at a covering row.
+/// Returns the run that begins at a covering row and ends at the last row of its sequence, unless
+/// an address is lower than the one before it. That row may cover no address, so that no branch
+/// depends on which rows do.
 fn run_from(rows: &[Row], first: usize) -> Run
     requires few { length rows.now < 2 ^ 32 }
     requires within { first < length rows.now }
     ensures { IsRunFrom rows.now first result }
 {
-    let mut run = Run {
-        first: narrow(first),
-        last: narrow(first),
-    };
-    while let Some(next) = extension(rows, run.last) {
-        run.last = narrow(next);
+    let mut last = first;
+    while rises_after(rows, last) {
+        last += 1;
     }
-    run
+    Run {
+        first: narrow(first),
+        last: narrow(last),
+    }
 }
 
 /// Returns the runs of all covering rows in file order: one for each sequence that covers

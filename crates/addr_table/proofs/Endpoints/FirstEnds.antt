@@ -1,4 +1,4 @@
--- Ends in a heap, and one outside it.
+-- Some ends, and one outside them.
 use Rattle.std.proofs.Common.{◌≡◌, ℕ, ◌<◌, ◌≤◌, List, [], ◌∷◌, ap}
 use Rattle.std.specs.Prelude.{Option, Some, None, IfSome, MatchOption}
 use Rattle.std.specs.List.{All}
@@ -18,21 +18,13 @@ exchanged x y ends =
 
 -- ---- one more end
 
--- the end in the heap
-pub heap-more : (o : Option End) (first end : End) (heap heap' : List End) → o ≡ Some first
+pub heap-more : (o : Option End) (end : End) (heap heap' : List End)
     → IsPermutation (end ∷ heap) heap'
     → IsPermutation (end ∷ ends_with o heap) (ends_with o heap')
-heap-more o first end heap heap' is more =
-    rw is
-    (IsPermutation-trans _ _ _ (exchanged end first heap)
-    (IsPermutation-append_right (first ∷ []) (end ∷ heap) heap' more))
-
--- the end outside the heap, and the one that was outside in the heap
-pub first-more : (o : Option End) (first end : End) (heap heap' : List End) → o ≡ Some first
-    → IsPermutation (first ∷ heap) heap'
-    → IsPermutation (end ∷ ends_with o heap) (end ∷ heap')
-first-more o first end heap heap' is more =
-    rw is (IsPermutation-append_right (end ∷ []) (first ∷ heap) heap' more)
+heap-more None end heap heap' more = more
+heap-more (Some first) end heap heap' more =
+    IsPermutation-trans _ _ _ (exchanged end first heap)
+    (IsPermutation-append_right (first ∷ []) (end ∷ heap) heap' more)
 
 -- ---- an end taken
 

@@ -49,7 +49,7 @@ none-at : (rows : List Row) (last n : ℕ) → last < n → up_to last (sequence
 none-at rows last n lt = none-before last n (drop n rows) lt
 
 -- the next row of a sequence is after the row that it follows
-pub follows-after : (rows : List Row) (last row : ℕ) → Follows rows last row → last < row
+follows-after : (rows : List Row) (last row : ℕ) → Follows rows last row → last < row
 follows-after rows last row is = elim (cases_lt last row) [
   | inl lt ↦ lt
   | inr le ↦
@@ -110,6 +110,20 @@ row-appended rows run n h is =
     ∙ ap (λ ns. later ++ ns)
     (first-in n n (sequence_at rows (n + 1)) (omega arith)
     ∙ ap (λ ns. n ∷ ns) (none-at rows n (n + 1) (omega arith)))
+
+-- a run whose last row is replaced by the next one, which covers no address
+pub rows-same : (rows : List Row) (run : Run) → IsRun rows run
+    → sequence_at rows (run.last + 1) ≡ sequence_at rows (run.last + 1 + 1)
+    → later_rows rows (record { first = run.first; last = run.last + 1 }) ≡ later_rows rows run
+rows-same rows run h passed =
+    let last : ℕ = run.last + 1 in
+    let later : List ℕ = later_rows rows run in
+    ap (up_to last) (h ∙ ap (λ ns. later ++ ns) passed)
+    ∙ filter-append (λ m. nat_le m last) later (sequence_at rows (last + 1))
+    ∙ ap (λ ns. ns ++ up_to last (sequence_at rows (last + 1)))
+    (up-to-twice run.last last (sequence_at rows (run.first + 1)) (omega arith))
+    ∙ ap (λ ns. later ++ ns) (none-at rows last (last + 1) (omega arith))
+    ∙ append-nil later
 
 pub extended-is : (rows : List Row) (run : Run) (n : ℕ) → IsRun rows run
     → Follows rows run.last n → IsRun rows (record { first = run.first; last = n })

@@ -1,6 +1,6 @@
 -- The runs of the rows of each sequence.
 use Rattle.std.proofs.Common.{◌≡◌, ◌∙◌, ℕ, ◌+◌, ◌-◌, ◌<◌, ◌≤◌, List, [], ◌∷◌, ◌++◌, length}
-use Rattle.std.proofs.Common.{get_or, refl, ap, sym, subst, inl, inr, arith}
+use Rattle.std.proofs.Common.{get_or, Bool, true, false, refl, ap, sym, subst, inl, inr, arith}
 use Rattle.std.specs.List.{All}
 use Rattle.std.specs.List.Sorted.{IsNonDecreasingBy}
 use Rattle.std.proofs.lemmas.Bool.{cases_lt}
@@ -10,11 +10,14 @@ use Rattle.std.proofs.lemmas.List.{get_or_append_left, get_or-append_right}
 use Rattle.std.proofs.lemmas.List.Elements.{All-append, All-from_recursion}
 use Rattle.dwarf_lines.specs.declared.row.Row.{Row}
 use Rattle.addr_table.specs.declared.row_runs.Run.{Run}
-use Rattle.addr_table.specs.Private.RowOrder.{covering_at, row_address}
+use Rattle.addr_table.specs.Private.RowOrder.{covering_at, covers_at, row_address}
+use Rattle.addr_table.specs.Private.RowOrder.{sequence_at}
 use Rattle.addr_table.specs.Private.RowRuns.{Ascend, Ascends, Extends, IsRunFrom, later_rows}
-use Rattle.addr_table.specs.Private.RowRuns.{rows_in, rows_of_run}
-use Rattle.addr_table.proofs.Endpoints.RowRunLaws.{extended-is, follows-after, one-row, one-row_is}
-use Rattle.addr_table.proofs.Endpoints.RowRunLaws.{row-appended}
+use Rattle.addr_table.specs.Private.RowRuns.{RisesAfter, rows_in, rows_of_run}
+use Rattle.addr_table.proofs.Endpoints.RowOrderLaws.{covering-here, covering-later}
+use Rattle.addr_table.proofs.Endpoints.RowOrderLaws.{sequence-here, sequence-later}
+use Rattle.addr_table.proofs.Endpoints.RowRunLaws.{extended-is, one-row, one-row_is, row-appended}
+use Rattle.addr_table.proofs.Endpoints.RowRunLaws.{rows-same}
 
 -- ---- ascending rows
 
@@ -93,8 +96,49 @@ run-grown rows first n run h e =
       });
     }
 
-pub run-longer : (rows : List Row) (last n : ℕ) → Extends rows last n → last < n
-run-longer rows last n e = follows-after rows last n e.follows
+-- a row that covers no address changes only the last row of a run
+same-run : (rows : List Row) (first last : ℕ)
+    → IsRunFrom rows first (record { first = first; last = last }) → RisesAfter rows last
+    → covers_at rows (last + 1) ≡ false
+    → IsRunFrom rows first (record { first = first; last = last + 1 })
+same-run rows first last h r none =
+    let run : Run = record { first = first; last = last } in
+    let next : Run = record { first = first; last = last + 1 } in
+    let passed : sequence_at rows (last + 1) ≡ sequence_at rows (last + 1 + 1) =
+    sequence-later rows (last + 1) r.within r.inside none in
+    let same : later_rows rows next ≡ later_rows rows run = rows-same rows run h.is passed in
+    let up : row_address rows last ≤ row_address rows (last + 1) = r.up in record {
+      first_is = refl;
+      last_within = r.within;
+      is = h.is ∙ ap (λ ns. later_rows rows run ++ ns) passed
+          ∙ ap (λ ns. ns ++ sequence_at rows (last + 1 + 1)) (sym same);
+      covering = ap (λ ns. first ∷ (ns ++ covering_at rows (last + 1 + 1))) same
+          ∙ ap (λ ns. rows_of_run rows run ++ ns)
+          (sym (covering-later rows (last + 1) r.within none)) ∙ h.covering;
+      ascends = subst (λ ns. Ascend rows (row_address rows (last + 1)) (first ∷ ns)) (sym same)
+          (record {
+            rise = h.ascends.rise;
+            below = λ i d lt.
+                let low : row_address rows (get_or (rows_of_run rows run) i d)
+                ≤ row_address rows last = h.ascends.below i d lt in omega (arith, low, up);
+          });
+    }
+
+pub run-risen : (rows : List Row) (first last : ℕ)
+    → IsRunFrom rows first (record { first = first; last = last }) → RisesAfter rows last
+    → IsRunFrom rows first (record { first = first; last = last + 1 })
+run-risen rows first last h r = by_cover (covers_at rows (last + 1)) refl
+  where
+    by_cover : (b : Bool) → covers_at rows (last + 1) ≡ b
+        → IsRunFrom rows first (record { first = first; last = last + 1 })
+    by_cover true is = run-grown rows first (last + 1) (record { first = first; last = last }) h
+        (record {
+          within = r.within;
+          follows = sequence-here rows (last + 1) r.within r.inside is;
+          covering = covering-here rows (last + 1) r.within is;
+          up = r.up;
+        })
+    by_cover false is = same-run rows first last h r is
 
 -- ---- all runs
 

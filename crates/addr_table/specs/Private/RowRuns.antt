@@ -1,6 +1,6 @@
 -- Runs of rows that cover addresses, and a cursor over the starts of their rows.
 use Rattle.std.specs.Prelude.{◌≡◌, ℕ, ◌+◌, ◌<◌, ◌≤◌, ◌^◌, List, [], ◌∷◌, ◌++◌, length, drop}
-use Rattle.std.specs.Prelude.{take, Option, Some, None}
+use Rattle.std.specs.Prelude.{take, false, Option, Some, None}
 use Rattle.std.specs.Prelude.{filter, flat_map, map, nat_le, slice_index_or}
 use Rattle.std.specs.List.{All}
 use Rattle.std.specs.List.Sorted.{IsPermutation, IsNonDecreasingBy}
@@ -8,7 +8,7 @@ use Rattle.dwarf_lines.specs.declared.row.Row.{Row}
 use Rattle.addr_table.specs.declared.starts.Start.{Start}
 use Rattle.addr_table.specs.declared.row_runs.Run.{Run}
 use Rattle.addr_table.specs.Private.RowOrder.{covering_at, covering_from, row_address, row_start}
-use Rattle.addr_table.specs.Private.RowOrder.{sequence_at}
+use Rattle.addr_table.specs.Private.RowOrder.{no_row, sequence_at}
 
 abbrev pub no_run : Run
 no_run = record { first = 0; last = 0 }
@@ -38,6 +38,12 @@ Follows rows last row = sequence_at rows (last + 1) ≡ row ∷ sequence_at rows
 abbrev pub IsRun : List Row → Run → Type 0
 IsRun rows run =
     sequence_at rows (run.first + 1) ≡ later_rows rows run ++ sequence_at rows (run.last + 1)
+
+-- the row after row n is in the same sequence, and its address is not lower
+pub record RisesAfter (rows : List Row) (n : ℕ) : Type 0 where
+  pub within : n + 1 < length rows
+  pub inside : (slice_index_or rows (n + 1) no_row).«end» ≡ false
+  pub up : row_address rows n ≤ row_address rows (n + 1)
 
 -- the covering row after row `last` in the same sequence; its address is not lower
 pub record Extends (rows : List Row) (last n : ℕ) : Type 0 where

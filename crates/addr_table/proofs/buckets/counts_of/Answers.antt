@@ -10,7 +10,7 @@ pub loop-index-init : goal.loop-index-init
 loop-index-init c =
     let B : List ℕ → Type 0 = λ items. AreBuckets c.args.list.now c.args.low c.args.shift 0 items in
     record {
-      buckets = subst B (sym c.new-counts.ensures.items)
+      buckets = subst B (sym c.in_ok-counts.ensures.items)
           (none-counted c.args.list.now c.args.low c.args.shift);
       within = omega arith;
     }

@@ -2,8 +2,8 @@ use Rattle.std.proofs.Common.{◌-◌, length}
 use Rattle.addr_table.specs.Private.RowRuns.{IsRunFrom}
 use Rattle.addr_table.proofs.sequence_runs.run_from.Given as goal
 
-abbrev pub invariant-loop-next : goal.invariant-loop-next
-invariant-loop-next l = IsRunFrom l.rows l.first l.run
+abbrev pub invariant-loop-last : goal.invariant-loop-last
+invariant-loop-last l = IsRunFrom l.rows l.first (record { first = l.first; last = l.last })
 
-abbrev pub decreases-loop-next : goal.decreases-loop-next
-decreases-loop-next l = length l.rows - l.run.last
+abbrev pub decreases-loop-last : goal.decreases-loop-last
+decreases-loop-last l = length l.rows - l.last
