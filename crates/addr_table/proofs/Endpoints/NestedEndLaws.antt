@@ -1,6 +1,7 @@
 -- Ends in a stack and in a heap.
 use Rattle.std.proofs.Common.{◌≡◌, ◌∙◌, ℕ, ◌<◌, ◌≤◌, List, [], ◌∷◌, ◌++◌, length, get_or}
-use Rattle.std.proofs.Common.{Bool, true, false, ◌-◌, ◌||◌, min, ap, sym, subst, refl, inl, inr, arith}
+use Rattle.std.proofs.Common.{Bool, true, false, ◌-◌, ◌||◌, min, ap, sym, subst, refl, inl}
+use Rattle.std.proofs.Common.{inr, arith}
 use Rattle.std.specs.Prelude.{◌==◌, Option, Some, None}
 use Rattle.std.specs.List.{All, list_any}
 use Rattle.std.specs.List.Sorted.{IsPermutation}
