@@ -1,5 +1,5 @@
 -- The attributes of a declaration are read if and only if they are encoded and valid.
-use Rattle.std.proofs.Common.{◌≡◌, ◌≢◌, ℕ, ℤ, List, [], ◌++◌, length, drop, Bool, true, false}
+use Rattle.std.proofs.Common.{◌≡◌, ◌≢◌, ℕ, ℤ, List, [], ◌++◌, length, drop, true, false}
 use Rattle.std.proofs.Common.{refl, ap, subst, arith, eq-eqb}
 use Rattle.std.specs.Prelude.{Option, Some, None, IsSome, is_none, Ok, ◌==◌, ◌&&◌, ◌||◌}
 use Rattle.std.specs.List.{list_any}
@@ -83,30 +83,14 @@ name_of attribute = attribute.name
 
 refused-parts : (name : ℕ) {X : Type 0} (form : Option X) → ((name == 0) || is_none form) ≡ false
     → (name ≢ 0) × IsSome form
-refused-parts name (Some x) h = (eqb-false name 0 (left (name == 0) h), refl)
-  where
-    left : (b : Bool) → (b || false) ≡ false → b ≡ false
-    left true h = cc
-    left false h = refl
-refused-parts name None h = absurd (never (name == 0) h)
-  where
-    never : (b : Bool) → (b || true) ≡ false → ⊥
-    never true h = cc
-    never false h = cc
+refused-parts name form h = grind arith
 
 pub accepted : (name : ℕ) {X : Type 0} (form : Option X) → name ≢ 0 → IsSome form
     → ((name == 0) || is_none form) ≡ false
-accepted name (Some x) h some = rw (unlike name 0 h) refl
-accepted name None h some = cc
+accepted name form h some = grind arith
 
 ended-parts : (name form : ℕ) → ((name == 0) && (form == 0)) ≡ true → (name ≡ 0) × (form ≡ 0)
-ended-parts name form h = both (name == 0) (form == 0) refl refl h
-  where
-    both : (a b : Bool) → (name == 0) ≡ a → (form == 0) ≡ b → (a && b) ≡ true
-        → (name ≡ 0) × (form ≡ 0)
-    both true true p q h = (eqb-true name 0 p, eqb-true form 0 q)
-    both true false p q h = cc
-    both false b p q h = cc
+ended-parts name form h = grind arith
 
 pub attribute-encoded : (section : List ℕ)
     → EncodesReads EncodesAttribute EndsAttributes (IsNew IsUsable name_of) section
@@ -155,13 +139,8 @@ attribute-encoded section = record { item = item; end = end }
         }) in
         let same = same-item it x constant.1 next h6 in
         let good : IsNew IsUsable name_of before it =
-        (refused-parts name.0 (form_of form.0) usable, once) in (
-          subst (λ (k : ℕ). IsEncodedAt EncodesAttribute section at x k) same.1
-              (subst (λ (y : AttributeSpecification). IsEncodedAt EncodesAttribute section at y
-              constant.1) same.0 is_encoded),
-          subst
-              (λ (y : AttributeSpecification). IsNew IsUsable name_of before y) same.0 good,
-        )))))))
+        (refused-parts name.0 (form_of form.0) usable, once) in
+        rw (← same.1, ← same.0) (is_encoded, good)))))))
 
     end : (before : List AttributeSpecification) (at next : ℕ) → attribute_at section before at
         ≡ Ok (End next) → EndEncoded EndsAttributes section at next

@@ -1,16 +1,14 @@
 -- The index of abbreviation codes.
-use Rattle.std.proofs.Common.{◌≡◌, ℕ, suc, ◌+◌, ◌-◌, ◌≢◌, ◌⊎◌, inl, inr, List, [], ◌∷◌, ◌++◌}
+use Rattle.std.proofs.Common.{◌≡◌, ℕ, ◌+◌, ◌-◌, ◌≢◌, ◌⊎◌, inl, inr, List, [], ◌∷◌, ◌++◌}
 use Rattle.std.proofs.Common.{length, ◌<◌, get_or, Bool, true, false, cond, eq-eqb, refl, sym, ap}
 use Rattle.std.proofs.Common.{subst, ◌∙◌, arith}
-use Rattle.std.specs.Prelude.{Option, Some, None, position, nat_lt, is_some, not, AllPairs, ◌||◌}
+use Rattle.std.specs.Prelude.{Some, None, position, nat_lt, is_some, AllPairs}
 use Rattle.std.specs.Prelude.{slice_get, ◌==◌}
-use Rattle.std.specs.Option.{option_map_or}
 use Rattle.std.specs.List.{list_any, position_or_len}
 use Rattle.std.specs.Ordering.{nat_cmp}
 use Rattle.std.specs.BTreeMap.{BTreeMap, get}
 use Rattle.std.proofs.lemmas.Grind.{common_steps}
 use Rattle.std.proofs.lemmas.Option.{get_or_from_slice_get, slice_get_within, slice_get-get_or}
-use Rattle.std.proofs.lemmas.Option.{none-some}
 use Rattle.std.proofs.lemmas.List.Quantifiers.{all_pairs_push}
 use Rattle.std.proofs.lemmas.List.Folds.{list_any_at, list_any_none}
 use Rattle.std.proofs.lemmas.List.Sums.{position_or_len_is}
@@ -36,28 +34,12 @@ lacks xs code none i d at is =
 before-any : {X : Type 0} (p : X → Bool) (xs : List X) → nat_lt (position_or_len p xs) (length xs)
     ≡ list_any p xs
 before-any p [] = refl
-before-any p (x ∷ xs) = by_test (p x) (before-any p xs)
-  where
-    first : (m : ℕ) → nat_lt 0 (suc m) ≡ true
-    first m = grind (arith, common_steps)
-
-    further : (n m : ℕ) → nat_lt (1 + n) (suc m) ≡ nat_lt n m
-    further n m = grind (arith, common_steps)
-
-    by_test : (b : Bool) → nat_lt (position_or_len p xs) (length xs) ≡ list_any p xs
-        → nat_lt (cond (not b) (1 + position_or_len p xs) 0) (suc (length xs))
-        ≡ (b || list_any p xs)
-    by_test true h = first (length xs)
-    by_test false h = further (position_or_len p xs) (length xs) ∙ h
+before-any p (x ∷ xs) = let rest = before-any p xs in grind (arith, common_steps)
 
 -- a search finds an index if and only if some element satisfies the predicate
 pub is_some-position : {X : Type 0} (p : X → Bool) (xs : List X)
     → is_some (position p xs) ≡ list_any p xs
-is_some-position p xs = by_test (nat_lt (position_or_len p xs) (length xs)) ∙ before-any p xs
-  where
-    by_test : (b : Bool) → is_some (cond b (Some (position_or_len p xs)) None) ≡ b
-    by_test true = refl
-    by_test false = refl
+is_some-position p xs = let found = before-any p xs in grind arith
 
 pub place-is : (xs : List ℕ) (i code : ℕ) → AllPairs (λ a b. a ≢ b) xs
     → slice_get xs i ≡ Some code → position (is_code code) xs ≡ Some i
@@ -85,33 +67,14 @@ place-nowhere xs moved code are own none =
     none-from-false _ (is_some-position (is_code code) xs ∙ list_any_none (is_code code) xs
     (λ i d lt. unlike (get_or xs i d) code (apart i (get_or xs i d) (slice_get-get_or xs i d lt))))
   where
-    not_own : (found : Option ℕ) → option_map_or (is_code code) found false ≡ false
-        → found ≡ Some code → ⊥
-    not_own None h is = cc
-    not_own (Some d) h is = eqb-false d code h (same d code is)
-      where
-        same : (a b : ℕ) → (let f : ℕ → Option ℕ = λ n. Some n in f a ≡ f b) → a ≡ b
-        same a b h = cc
-
     apart : (i d : ℕ) → slice_get xs i ≡ Some d → d ≢ code
-    apart i d at is = by_place (are.found i d at)
-      where
-        by_place : (d ≡ i + 1) ⊎ (get nat_cmp moved d ≡ Some i) → ⊥
-        by_place (inl place) =
-            let same : code - 1 ≡ i = omega (arith, place, is) in
-            not_own (slice_get xs (code - 1)) own (ap (λ (k : ℕ). slice_get xs k) same
-            ∙ (at ∙ ap (λ (k : ℕ). Some k) is))
-        by_place (inr there) =
-            none-some i (sym none ∙ (ap (λ (k : ℕ). get nat_cmp moved k) (sym is) ∙ there))
+    apart i d at is =
+        let same : d ≡ i + 1 → code - 1 ≡ i = λ place. omega (arith, place, is) in
+        grind (arith, are.found i d at)
 
 pub code-there : (xs : List ℕ) (i code : ℕ) → is_code_at xs i code ≡ true
     → slice_get xs i ≡ Some code
-code-there xs i code here = by_code (slice_get xs i) here
-  where
-    by_code : (found : Option ℕ) → option_map_or (is_code code) found false ≡ true
-        → found ≡ Some code
-    by_code None h = cc
-    by_code (Some d) h = ap (λ (k : ℕ). Some k) (eqb-true d code h)
+code-there xs i code here = grind arith
 
 -- ---- one more code
 
@@ -131,16 +94,8 @@ code-push xs now moved next y none more place others index are =
   where
     by_item : (i d : ℕ) → (slice_get xs i ≡ Some d) ⊎ ((i ≡ length xs) × (y ≡ d))
         → (d ≡ i + 1) ⊎ (get nat_cmp next d ≡ Some i)
-    by_item i d (inl at) = by_place (are.found i d at)
-      where
-        by_place : (d ≡ i + 1) ⊎ (get nat_cmp moved d ≡ Some i)
-            → (d ≡ i + 1) ⊎ (get nat_cmp next d ≡ Some i)
-        by_place (inl own) = inl own
-        by_place (inr there) = inr (others d (lacks xs y none i d at) ∙ there)
-    by_item i d (inr last) =
-        subst (λ (k : ℕ). (d ≡ k + 1) ⊎ (get nat_cmp next d ≡ Some k)) (sym last.0)
-        (subst (λ (e : ℕ). (e ≡ length xs + 1) ⊎ (get nat_cmp next e ≡ Some (length xs))) last.1
-        place)
+    by_item i d (inl at) = grind (arith, are.found i d at, others d (lacks xs y none i d at))
+    by_item i d (inr last) = grind (arith, last.0, last.1, place)
 
     by_code : (q i : ℕ) → get nat_cmp next q ≡ Some i → (b : Bool) → (q == y) ≡ b
         → slice_get (xs ++ y ∷ []) i ≡ Some q

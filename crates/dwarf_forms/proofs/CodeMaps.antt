@@ -27,9 +27,7 @@ pub codes-fresh : {X : Type 0} (f : X → ℕ) (xs seen : List X) (codes : List 
     → codes ≡ map f xs → xs ≡ seen → given ≡ code → list_any (λ x. f x == code) seen ≡ false
     → list_any (λ other. other == given) codes ≡ false
 codes-fresh f xs seen codes code given are same is none =
-    ap (λ (k : ℕ). list_any (λ (other : ℕ). other == k) codes) is
-    ∙ (ap (λ (cs : List ℕ). list_any (λ (other : ℕ). other == code) cs) (are ∙ ap (map f) same)
-    ∙ (any-map f (λ (other : ℕ). other == code) seen ∙ none))
+    rw (is, are, same) (any-map f (λ (other : ℕ). other == code) seen ∙ none)
 
 -- .. and the converse, for a head that was read
 pub head-fresh : {X : Type 0} (f : X → ℕ) (xs seen : List X) (codes : List ℕ)
@@ -38,8 +36,6 @@ pub head-fresh : {X : Type 0} (f : X → ℕ) (xs seen : List X) (codes : List �
     ≡ false))
     → IfOk found (λ next. IfSome next (λ head. list_any (λ x. f x == head.code) seen ≡ false))
 head-fresh f xs seen codes (Ok (Some head)) are same none =
-    sym (any-map f (λ (other : ℕ). other == head.code) seen)
-    ∙ (ap (λ (cs : List ℕ). list_any (λ (other : ℕ). other == head.code) cs)
-    (sym (are ∙ ap (map f) same)) ∙ none)
+    rw (← same) (sym (any-map f (λ (other : ℕ). other == head.code) xs) ∙ rw (← are) none)
 head-fresh f xs seen codes (Ok None) are same none = tt
 head-fresh f xs seen codes (Err cause) are same none = tt

@@ -1,6 +1,7 @@
 -- Elements of a list while elements are appended.
 use Rattle.std.proofs.Common.{◌≡◌, ◌⊎◌, inl, inr, ℕ, zero, suc, List, [], ◌∷◌, ◌++◌, length, refl}
 use Rattle.std.proofs.Common.{ap, ◌∙◌, take, false}
+use Rattle.std.proofs.Common.{arith}
 use Rattle.std.specs.Prelude.{Option, Some, None, is_some, slice_get, Result, Ok, Err, IfOk}
 use Rattle.std.proofs.Math.Seq.{take-append_seam}
 use Rattle.std.proofs.lemmas.Option.{same_Some}
@@ -10,12 +11,7 @@ pub at-last : {X : Type 0} (xs : List X) (y z : X) (i : ℕ) → slice_get (xs +
 at-last [] y z zero at = inr (refl, same_Some y z at)
 at-last [] y z (suc i) at = cc
 at-last (x ∷ xs) y z zero at = inl at
-at-last {X = X} (x ∷ xs) y z (suc i) at = further (at-last xs y z i at)
-  where
-    further : (slice_get xs i ≡ Some z) ⊎ ((i ≡ length xs) × (y ≡ z))
-        → (slice_get xs i ≡ Some z) ⊎ ((suc i ≡ suc (length xs)) × (y ≡ z))
-    further (inl h) = inl h
-    further (inr h) = inr (ap suc h.0, h.1)
+at-last (x ∷ xs) y z (suc i) at = let rest = at-last xs y z i at in grind arith
 
 pub at-front : {X : Type 0} (xs ys : List X) (i : ℕ) (z : X) → slice_get xs i ≡ Some z
     → slice_get (xs ++ ys) i ≡ Some z
@@ -34,13 +30,10 @@ at-end {X = X} xs x n is = ap (λ (m : ℕ). slice_get (xs ++ x ∷ []) m) is �
 -- the list before its last element was appended
 pub popped : {X : Type 0} (xs now after : List X) (x : X) (n : ℕ) → now ≡ xs ++ x ∷ []
     → after ≡ take n now → n ≡ length xs → after ≡ xs
-popped {X = X} xs now after x n more rest len =
-    rest ∙ (ap (take n) more ∙ (ap (λ (m : ℕ). take m (xs ++ x ∷ [])) len
-    ∙ take-append_seam xs (x ∷ [])))
+popped xs now after x n more rest len = rw (rest, more, len) (take-append_seam xs (x ∷ []))
 
 pub none-from-false : {X : Type 0} (o : Option X) → is_some o ≡ false → o ≡ None
-none-from-false None h = refl
-none-from-false (Some x) h = cc
+none-from-false o h = grind arith
 
 -- weakens a property of a result
 pub if-ok : {X E : Type 0} (P Q : X → Type 0) (r : Result X E) → IfOk r P → ((x : X) → P x → Q x)

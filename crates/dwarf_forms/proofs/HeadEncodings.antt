@@ -1,9 +1,9 @@
 -- The encoding of a declaration up to its attributes, in both directions.
 use Rattle.std.proofs.Common.{◌≡◌, ◌≢◌, ℕ, ◌+◌, ◌<◌, ◌≤◌, List, [], ◌∷◌, ◌++◌, length, drop, Bool}
-use Rattle.std.proofs.Common.{true, false, cond, refl, ap, ◌∙◌, subst, arith}
+use Rattle.std.proofs.Common.{false, refl, ap, ◌∙◌, arith}
 use Rattle.std.specs.Prelude.{Ok, nat_lt, nat_le, ◌==◌, if◌then◌else◌}
 use Rattle.std.specs.List.{list_any}
-use Rattle.std.proofs.lemmas.Bool.{eqb-true, eqb-false, ltb-false, leb-false}
+use Rattle.std.proofs.lemmas.Bool.{eqb-false, ltb-false, leb-false}
 use Rattle.dwarf_bytes.specs.declared.fault.Cause.TheVariants as causes
 use Rattle.dwarf_bytes.specs.Numbers.{IsEncodedAt, IsUleb, u8_at, uleb_at, little_endian}
 use Rattle.dwarf_bytes.specs.Items.{Item, End, reading}
@@ -12,7 +12,7 @@ use Rattle.dwarf_forms.specs.declared.declaration.Head.{Head}
 use Rattle.dwarf_forms.specs.Tables.{head_at}
 use Rattle.dwarf_forms.proofs.Stretches.{Stretch, stretch-of, encoded-from, both-parts, first-part}
 use Rattle.dwarf_forms.proofs.Stretches.{second-part, within, fixed-encoded, fixed-again}
-use Rattle.dwarf_bytes.proofs.Numbers.Moves.{same-item, same-end}
+use Rattle.dwarf_bytes.proofs.Numbers.Moves.{same-item}
 use Rattle.dwarf_forms.proofs.AttributeEncodings.{uleb-read, uleb-reads, unlike}
 
 pub record EncodesHead (bytes : List ℕ) (head : Head) : Type 0 where
@@ -36,23 +36,16 @@ one_byte (b ∷ []) value len is = let same : b ≡ value = omega (arith, is) in
 one_byte (b ∷ c ∷ bs) value len is = absurd (omega (arith, len))
 
 flag-of : (value : ℕ) → value ≤ 1 → value ≡ (if value == 1 then 1 else 0)
-flag-of value le = by_test (value == 1) refl
-  where
-    by_test : (b : Bool) → (value == 1) ≡ b → value ≡ cond b 1 0
-    by_test true is = eqb-true value 1 is
-    by_test false is = let apart = eqb-false value 1 is in omega arith
+flag-of value le = grind arith
 
 flag-byte : (b : Bool) → little_endian ((if b then 1 else 0) ∷ []) ≡ (if b then 1 else 0)
-flag-byte true = refl
-flag-byte false = refl
+flag-byte b = grind arith
 
 flag-fits : (b : Bool) → nat_lt 1 (if b then 1 else 0) ≡ false
-flag-fits true = refl
-flag-fits false = refl
+flag-fits b = grind arith
 
 flag-test : (b : Bool) → ((if b then 1 else 0) == 1) ≡ b
-flag-test true = refl
-flag-test false = refl
+flag-test b = grind arith
 
 pub head-encoded : (budget : ℕ) (section : List ℕ) (codes : List ℕ) (at : ℕ)
     (head : Head)
@@ -100,29 +93,12 @@ head-encoded budget section codes at head next h =
       new =
           once;
     } in
-    let same = same-item it head children.1 next h7 in (
-      subst (λ (k : ℕ). IsEncodedAt EncodesHead section at head k) same.1
-          (subst (λ (y : Head). IsEncodedAt EncodesHead section at y children.1) same.0 is_encoded),
-      subst (λ (y : Head). HeadFits budget codes y.code) same.0 good,
-    ))))))))
+    let same = same-item it head children.1 next h7 in
+    rw (← same.1, ← same.0) (is_encoded, good))))))))
 
 pub head-end : (budget : ℕ) (section : List ℕ) (codes : List ℕ) (at next : ℕ)
     → head_at budget section codes at ≡ Ok (End next) → IsEncodedAt IsUleb section at 0 next
-head-end budget section codes at next h =
-    let P : Type 0 = IsEncodedAt IsUleb section at 0 next in
-    after-bind (reading (uleb_at section at)) _ (End next) h P (λ code code_is h1.
-    chosen (code.0 == 0) _ _ (Ok (End next)) h1 P
-    (λ zero is. subst (λ (k : ℕ). IsEncodedAt IsUleb section at 0 k)
-    (same-end {X = Head} code.1 next is)
-    (subst (λ (k : ℕ). IsEncodedAt IsUleb section at k code.1) (eqb-true code.0 0 zero)
-    (uleb-read section at code code_is)))
-    (λ _ h2.
-    after-test (nat_le budget (length codes)) causes.TooMany _ (End next) h2 P (λ fits h3.
-    after-test (list_any (λ other. other == code.0) codes) causes.AbbrevTwice _
-    (End next) h3 P (λ once h4.
-    after-bind (reading (uleb_at section code.1)) _ (End next) h4 P (λ tag tag_is h5.
-    after-bind (reading (u8_at section tag.1)) _ (End next) h5 P (λ children children_is h6.
-    after-test (nat_lt 1 children.0) causes.Children _ (End next) h6 P (λ flag h7. cc)))))))
+head-end budget section codes at next h = grind (arith, uleb-read section at)
 
 pub head-read : (budget : ℕ) (section : List ℕ) (codes : List ℕ) (at : ℕ) (head : Head)
     (next : ℕ) (code tag rest : List ℕ) → Stretch section at

@@ -157,18 +157,12 @@ pub all-new : {X : Type 0} (P : X → Type 0) (key : X → ℕ) (before xs : Lis
     → AllPairs (λ x y. key x ≢ key y) before → ValidEach (IsNew P key) before xs
     → All P (before ++ xs) × AllPairs (λ x y. key x ≢ key y) (before ++ xs)
 all-new {X = X} P key before [] all pairs good =
-    let same : before ≡ before ++ [] = sym (append-nil before) in (
-      subst (λ (ys : List X). All P ys) same all,
-      subst (λ (ys : List X). AllPairs (λ x y. key x ≢ key y) ys) same pairs,
-    )
+    rw (append-nil before) (all, pairs)
 all-new {X = X} P key before (x ∷ xs) all pairs good =
     let next = all-new P key (before ++ x ∷ []) xs (All-push P before x all good.0.0)
     (all_pairs_push (λ x y. key x ≢ key y) before x pairs (apart key before x good.0.1))
     good.1 in
-    let same : (before ++ x ∷ []) ++ xs ≡ before ++ (x ∷ xs) = append_assoc before (x ∷ []) xs in (
-      subst (λ (ys : List X). All P ys) same next.0,
-      subst (λ (ys : List X). AllPairs (λ x y. key x ≢ key y) ys) same next.1,
-    )
+    rw (← append_assoc before (x ∷ []) xs) next
 
 get_or-first : {X : Type 0} (before xs : List X) (x d : X)
     → get_or (before ++ x ∷ xs) (length before) d ≡ x
@@ -191,19 +185,18 @@ new-each {X = X} P key before (x ∷ xs) all pairs =
     let here : P x = subst P (get_or-first before xs x x)
     (all (length before) x (omega (arith, size))) in
     let unlike : (k : ℕ) (d : X) → k < length before → (key (get_or before k d) == key x) ≡ false =
-    λ k d h. not_same (key (get_or before k d)) (key x)
-    (λ same. pairs k (length before) d h (omega (arith, size))
-    (ap key (get_or-front before (x ∷ xs) k d h) ∙ same
-    ∙ ap key (sym (get_or-first before xs x d)))) in
+    λ k d h. grind (
+      arith,
+      pairs k (length before) d,
+      get_or-front before (x ∷ xs) k d,
+      get_or-first before xs x d,
+      size,
+    ) in
     let same : before ++ (x ∷ xs) ≡ (before ++ x ∷ []) ++ xs =
     sym (append_assoc before (x ∷ []) xs) in (
       (here, list_any_none (λ (y : X). key y == key x) before unlike),
-      new-each P key (before ++ x ∷ []) xs (subst (λ (ys : List X). All P ys) same all)
-          (subst (λ (ys : List X). AllPairs (λ x y. key x ≢ key y) ys) same pairs),
+      new-each P key (before ++ x ∷ []) xs (rw same at all) (rw same at pairs),
     )
-  where
-    not_same : (a b : ℕ) → a ≢ b → (a == b) ≡ false
-    not_same a b h = grind arith
 
 -- fewer than `budget` elements precede the element
 abbrev pub FitsBudget : {X : Type 0} → ℕ → List X → X → Type 0

@@ -1,8 +1,8 @@
 -- Contiguous ranges of bytes, and the reads of fields in them.
-use Rattle.std.proofs.Common.{◌≡◌, ℕ, ◌+◌, ◌<◌, ◌≤◌, List, [], ◌++◌, length, take, drop, false}
-use Rattle.std.proofs.Common.{refl, sym, ap, ◌∙◌, subst, arith, append_assoc, length-append}
+use Rattle.std.proofs.Common.{◌≡◌, ℕ, ◌+◌, ◌<◌, ◌≤◌, List, [], ◌++◌, length, take, drop}
+use Rattle.std.proofs.Common.{refl, sym, ap, ◌∙◌, arith, append_assoc, length-append}
 use Rattle.std.proofs.Common.{length-take, length-drop, take-append-drop}
-use Rattle.std.specs.Prelude.{Ok, nat_lt}
+use Rattle.std.specs.Prelude.{Ok}
 use Rattle.std.proofs.lemmas.List.{take_at, drop_at, drop-drop}
 use Rattle.std.proofs.lemmas.Bool.{le-ltb}
 use Rattle.dwarf_bytes.specs.Numbers.{IsEncodedAt, block_at, fixed_at, little_endian}
@@ -29,17 +29,14 @@ encoded-from Encodes bytes at value next front rest s encoded =
 pub bytes-after : (bytes : List ℕ) (at : ℕ) (stretch : List ℕ) (next : ℕ) (rest : List ℕ)
     → Stretch bytes at stretch next rest → drop next bytes ≡ rest
 bytes-after bytes at stretch next rest s =
-    ap (λ (k : ℕ). drop k bytes) s.next_is
-    ∙ (sym (drop-drop (length stretch) at bytes)
-    ∙ (ap (λ (b : List ℕ). drop (length stretch) b) s.parts
-    ∙ drop_at stretch rest (length stretch) refl))
+    rw (s.next_is, ← drop-drop (length stretch) at bytes, s.parts)
+    (drop_at stretch rest (length stretch) refl)
 
 -- two contiguous ranges form one range
 pub both-parts : (bytes : List ℕ) (at : ℕ) (a b : List ℕ) (mid next : ℕ) (r rest : List ℕ)
     → Stretch bytes at a mid r → Stretch bytes mid b next rest → Stretch bytes at (a ++ b) next rest
 both-parts bytes at a b mid next r rest s t = record {
-  parts = s.parts ∙ (ap (λ (x : List ℕ). a ++ x) (sym (bytes-after bytes at a mid r s) ∙ t.parts)
-      ∙ sym (append_assoc a b rest));
+  parts = rw (s.parts, append_assoc a b rest, ← t.parts, bytes-after bytes at a mid r s) refl;
   next_is = omega (arith, s.next_is, t.next_is, length-append a b);
 }
 
@@ -58,8 +55,7 @@ second-part bytes at a b next rest s = record {
 
 pub respelled : (bytes : List ℕ) (at : ℕ) (a b : List ℕ) (next : ℕ) (rest : List ℕ) → a ≡ b
     → Stretch bytes at a next rest → Stretch bytes at b next rest
-respelled bytes at a b next rest same s =
-    subst (λ (x : List ℕ). Stretch bytes at x next rest) same s
+respelled bytes at a b next rest same s = rw (← same) s
 
 -- an empty range
 pub nothing : (bytes : List ℕ) (at : ℕ) → Stretch bytes at [] at (drop at bytes)
@@ -78,11 +74,8 @@ pub block-again : (n : ℕ) (bytes : List ℕ) (at : ℕ) (block : List ℕ) (ne
     → block_at n bytes at ≡ Ok (block, next)
 unfolding block_at
 block-again n bytes at block next rest s len fits =
-    let test : nat_lt (length bytes) (at + n) ≡ false = le-ltb (length bytes) (at + n) fits in
-    let front : take n (drop at bytes) ≡ block = ap (λ (b : List ℕ). take n b) s.parts
-    ∙ take_at block rest n len in
     let place : at + n ≡ next = omega (arith, s.next_is, len) in
-    rw (test, front, place) refl
+    rw (le-ltb (length bytes) (at + n) fits, s.parts, take_at block rest n len, place) refl
 
 pub fixed-again : (n : ℕ) (bytes : List ℕ) (at : ℕ) (block : List ℕ) (next : ℕ) (rest : List ℕ)
     → Stretch bytes at block next rest → length block ≡ n → at + n ≤ length bytes
@@ -96,16 +89,13 @@ pub fixed-encoded : (n : ℕ) (bytes : List ℕ) (at : ℕ) (read : ℕ × ℕ) 
     × (read.0 ≡ little_endian block)
 fixed-encoded n bytes at read h =
     let moved = fixed_at-moves n bytes at read h in
-    let value : read.0 ≡ little_endian (take n (drop at bytes)) = ap (λ (r : ℕ × ℕ). r.0) moved.1 in
-    let place : read.1 ≡ at + n = ap (λ (r : ℕ × ℕ). r.1) moved.1 in
     let len : length (take n (drop at bytes)) ≡ n =
     omega (arith, length-take n (drop at bytes), length-drop at bytes, moved.0) in (
       take n (drop at bytes),
       record {
         parts = sym (take-append-drop n (drop at bytes));
-        next_is =
-            omega (arith, place, len);
+        next_is = grind (arith, moved.1, len);
       },
       len,
-      value,
+      grind (arith, moved.1),
     )

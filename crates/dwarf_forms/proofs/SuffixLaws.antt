@@ -59,14 +59,10 @@ attribute-twice section before other at x next read twice =
 -- ---- names that two lists share, by the attributes of the second list
 
 pub either : (a b : Bool) → (a || b) ≡ false → (a ≡ false) × (b ≡ false)
-either true b h = cc
-either false b h = (refl, h)
+either a b h = grind arith
 
 same-either : (a b c d : Bool) → ((a || b) || (c || d)) ≡ ((a || c) || (b || d))
-same-either true b c d = refl
-same-either false false c d = refl
-same-either false true true d = refl
-same-either false true false d = refl
+same-either a b c d = grind arith
 
 same-test : (a b : ℕ) → (a == b) ≡ (b == a)
 same-test a b = grind arith
@@ -74,10 +70,7 @@ same-test a b = grind arith
 pub shares-cons : (own rest : List AttributeSpecification) (x : AttributeSpecification)
     → shares_name own (x ∷ rest) ≡ (list_any (named x.name) own || shares_name own rest)
 shares-cons [] rest x = refl
-shares-cons (a ∷ own) rest x =
-    rw (shares-cons own rest x, same-test x.name a.name)
-    (same-either (a.name == x.name) (list_any (named a.name) rest) (list_any (named x.name) own)
-    (shares_name own rest))
+shares-cons (a ∷ own) rest x = let others = shares-cons own rest x in grind arith
 
 pub shares-none : (own : List AttributeSpecification) → shares_name own [] ≡ false
 shares-none [] = refl

@@ -1,14 +1,14 @@
 -- Attribute lists with a memoized rest.
 use Rattle.std.proofs.Common.{◌≡◌, ℕ, List, [], ◌∷◌, ◌++◌, length, Bool, true, false, refl, ap, sym}
 use Rattle.std.proofs.Common.{◌∙◌, subst, append_assoc, append-nil}
+use Rattle.std.proofs.Common.{arith}
 use Rattle.std.specs.Prelude.{Result, Ok, Err, ◌||◌, if◌then◌else◌}
 use Rattle.std.specs.List.{list_any}
 use Rattle.std.proofs.lemmas.List.Folds.{list_any-append}
 use Rattle.dwarf_bytes.specs.declared.fault.Cause.TheVariants as causes
 use Rattle.dwarf_bytes.specs.Items.{At, Lists, without_offset, items_from}
-use Rattle.dwarf_bytes.proofs.Items.ItemLaws.{put_front, with_front, items_from-step}
+use Rattle.dwarf_bytes.proofs.Items.ItemLaws.{put_front, items_from-step}
 use Rattle.dwarf_bytes.proofs.Items.ItemLaws.{items_from-Lists}
-use Rattle.dwarf_bytes.proofs.Numbers.Moves.{same-ok}
 use Rattle.dwarf_bytes.proofs.Items.Turns.{SoFar}
 use Rattle.dwarf_forms.specs.declared.attribute.AttributeSpecification.{AttributeSpecification}
 use Rattle.dwarf_forms.specs.Tables.{attribute_at, attributes_at, shares_name}
@@ -29,13 +29,11 @@ lists-again section own before at (x ∷ xs) next listed apart =
     (sym (shares-cons own xs x) ∙ apart) in
     let new : list_any (named x.name) (own ++ before) ≡ false =
     list_any-append (named x.name) own before
-    ∙ rw (parts.0, attribute-new section before at x listed.0 listed.1) refl in
-    let rest : Lists (attribute_at section) (own ++ (before ++ x ∷ [])) listed.0 xs next =
-    lists-again section own (before ++ x ∷ []) listed.0 xs next listed.2 parts.1 in (
+    ∙ rw (parts.0, attribute-new section before at x listed.0 listed.1) refl in (
       listed.0,
       attribute-again section before (own ++ before) at x listed.0 listed.1 new,
-      subst (λ (ys : List AttributeSpecification). Lists (attribute_at section) ys listed.0 xs
-          next) (sym (append_assoc own before (x ∷ []))) rest,
+      rw (append_assoc own before (x ∷ []))
+          (lists-again section own (before ++ x ∷ []) listed.0 xs next listed.2 parts.1),
     )
 
 -- a list is refused after other attributes if one of them has a name of the list
@@ -52,8 +50,7 @@ lists-twice section own before at (x ∷ xs) next listed shared =
     resolved : {X : Type 0} (x : X) (r : Result (List X × ℕ) At) → without_offset r
         ≡ Err causes.AttrTwice
         → without_offset (put_front x r) ≡ Err causes.AttrTwice
-    resolved x (Ok others) h = cc
-    resolved x (Err e) h = h
+    resolved x r h = grind arith
 
     by_name : (shares_name own xs ≡ true
         → without_offset (items_from (length section) (attribute_at section) (own
@@ -122,14 +119,4 @@ pub so-far-append : (section : List ℕ) (first : ℕ) (own : List AttributeSpec
     → without_offset (items_from (length section) (attribute_at section) own at) ≡ Ok (rest, next)
     → attributes_at section first ≡ Ok (own ++ rest, next)
 so-far-append section first own at rest next so_far both-parts =
-    by_read (items_from (length section) (attribute_at section) own at) so_far both-parts
-  where
-    by_read : (r : Result (List AttributeSpecification × ℕ) At)
-        → with_front own r ≡ items_from (length section) (attribute_at section) [] first
-        → without_offset r ≡ Ok (rest, next) → attributes_at section first ≡ Ok (own ++ rest, next)
-    by_read (Ok found) is h =
-        attributes-ok section first (own ++ rest, next)
-        (sym is ∙ ap (λ (p : List AttributeSpecification × ℕ).
-        (let f : List AttributeSpecification × ℕ → Result (List AttributeSpecification × ℕ) At =
-        λ z. Ok z in f (own ++ p.0, p.1))) (same-ok found (rest, next) h))
-    by_read (Err e) is h = cc
+    attributes-ok section first (own ++ rest, next) (grind (arith, so_far, both-parts))

@@ -1,6 +1,6 @@
 -- Declarations and tables are read if and only if they are encoded and valid.
 use Rattle.std.proofs.Common.{◌≡◌, ◌≢◌, ℕ, ◌+◌, List, [], ◌∷◌, ◌++◌, length, Bool, refl, sym, ap}
-use Rattle.std.proofs.Common.{◌∙◌, subst, arith, append_assoc}
+use Rattle.std.proofs.Common.{◌∙◌, arith, append_assoc}
 use Rattle.std.specs.Prelude.{Result, Ok, All, AllPairs, if◌then◌else◌, ◌==◌}
 use Rattle.dwarf_bytes.specs.declared.fault.Cause.{Cause}
 use Rattle.dwarf_bytes.specs.Bind.{◌>>=◌}
@@ -16,7 +16,7 @@ use Rattle.std.proofs.lemmas.List.{length-map}
 use Rattle.dwarf_forms.proofs.CodeMaps.{any-map}
 use Rattle.dwarf_forms.proofs.Stretches.{second-part}
 use Rattle.dwarf_forms.proofs.Stretches.{respelled}
-use Rattle.dwarf_bytes.proofs.Numbers.Moves.{same-item, same-end}
+use Rattle.dwarf_bytes.proofs.Numbers.Moves.{same-item}
 use Rattle.dwarf_forms.proofs.ListEncodings.{EndEncoded, EncodesReads, IsRead, IsNew, all-new}
 use Rattle.dwarf_forms.proofs.ListEncodings.{new-each}
 use Rattle.dwarf_forms.proofs.ListEncodings.{FitsBudget}
@@ -120,41 +120,16 @@ declaration-encoded budget section = record { item = item; end = end }
               attributes_are = others.0.encoded.items_are;
               ends = others.0.encoded.ends_it;
             }) in
-            let same = same-item it x attributes.1 next last in (
-              subst (λ (k : ℕ). IsEncodedAt EncodesDeclaration section at x k) same.1
-                  (subst (λ (y : Declaration). IsEncodedAt EncodesDeclaration section at y
-                  attributes.1)
-                  same.0 is_encoded),
-              subst (λ (y : Declaration). DeclarationFits budget before y) same.0
-                  fits,
-            ))
+            let same = same-item it x attributes.1 next last in
+            rw (← same.1, ← same.0) (is_encoded, fits))
 
     end : (before : List Declaration) (at next : ℕ) → declaration_at budget section before at
         ≡ Ok (End next) → EndEncoded (λ b. IsUleb b 0) section at next
-    end before at next h = after-bind (head_at budget section (codes_of before) at) _ (End next) h
-        (EndEncoded (λ b. IsUleb b 0) section at next) by_head
-      where
-        by_head : (found : Next Head) → head_at budget section (codes_of before) at ≡ Ok found
-            → (elim found as (λ _. Result (Next Declaration) Cause) [
-              | End end ↦ Ok (End end)
-              | Item head mid ↦ attributes_at section mid
-                  >>= λ attributes. Ok (Item (record {
-                    code = head.code;
-                    tag = head.tag;
-                    children = head.children;
-                    attributes =
-                        attributes.0;
-                  }) attributes.1)
-            ]) ≡ Ok (End next)
-            → EndEncoded (λ b. IsUleb b 0) section at next
-        by_head (End last) is h =
-            let zero = head-end budget section (codes_of before) at last is in
-            subst (λ (k : ℕ). EndEncoded (λ b. IsUleb b 0) section at k)
-            (same-end {X = Declaration} last next h)
-            (encoded-from (λ b (u : Unit {0}). IsUleb b 0) section at tt last zero.front zero.rest
-            (stretch-of IsUleb section at 0 last zero) zero.encoded)
-        by_head (Item head mid) is h = after-bind (attributes_at section mid) _ (End next) h
-            (EndEncoded (λ b. IsUleb b 0) section at next) (λ attributes attributes_are last. cc)
+    end before at next h =
+        let last : head_at budget section (codes_of before) at ≡ Ok (End next) = grind (arith, h) in
+        let zero = head-end budget section (codes_of before) at next last in
+        encoded-from (λ b (u : Unit {0}). IsUleb b 0) section at tt next zero.front zero.rest
+        (stretch-of IsUleb section at 0 next zero) zero.encoded
 
 pub declaration-read : (budget : ℕ) (section : List ℕ)
     → IsRead EncodesDeclaration (λ b. IsUleb b 0) (DeclarationFits budget) section

@@ -24,8 +24,7 @@ use Rattle.dwarf_forms.proofs.Stretches.{Stretch, stretch-of, encoded-from, both
 use Rattle.dwarf_forms.proofs.Stretches.{second-part, respelled, nothing}
 
 reading-ok : {X : Type 0} (r : Result X ReadFault) (x : X) → reading_value r ≡ Ok x → r ≡ Ok x
-reading-ok (Ok y) x h = cc
-reading-ok (Err e) x h = cc
+reading-ok r x h = grind arith
 
 abbrev Direct_read : Option Shape → ℕ → Format → List ℕ → ℕ → Result (Value × ℕ) ValueFault
 Direct_read f form format bytes at = elim f [
@@ -53,8 +52,7 @@ direct-encoded form format bytes at read h = by_form (form_of form) refl h
         let s = content-encoded layout format bytes at found.0.0 found.0.1
         (reading-ok (content_at layout format bytes at) found.0 found.1) in
         let value : Value = record { form = form; content = found.0.0 } in
-        subst (λ (r : Value × ℕ). IsEncodedAt (SpellsDirectly form format) bytes at r.0 r.1)
-        (same-ok (value, found.0.1) read found.2)
+        rw (← same-ok (value, found.0.1) read found.2)
         (encoded-from (SpellsDirectly form format) bytes at value found.0.1 s.front s.rest
         (stretch-of (EncodesContent layout format) bytes at found.0.0 found.0.1 s)
         (layout, is, s.encoded, refl))
@@ -68,10 +66,11 @@ direct-reads form format bytes at value next s =
     let content = content-again layout format bytes at value.content next
     (encoded-from (EncodesContent layout format) bytes at value.content next s.front s.rest
     (stretch-of (SpellsDirectly form format) bytes at value next s) s.encoded.2) in
-    subst (λ (f : Option Shape). Direct_read f form format bytes at ≡ Ok (value, next))
-    (sym s.encoded.1)
-    (rw content (ap (λ (f : ℕ). Ok (record { form = f; content = value.content }, next))
-    (sym s.encoded.3)))
+    rw (s.encoded.1, direct_at, content) (ap (λ (f : ℕ). Ok (
+      record
+          { form = f; content = value.content },
+      next,
+    )) (sym s.encoded.3))
 
 abbrev Spells_by : Option Shape → ℕ → Format → Option ℤ → List ℕ → Value → Type 0
 Spells_by f form format constant bytes value = elim f [
@@ -96,12 +95,6 @@ Value_read f form format constant bytes at = elim f [
       inner.1
 ]
 
-form-in : (form : ℕ) (format : Format) (bytes : List ℕ) (value : Value)
-    → SpellsDirectly form format bytes value → SpellsDirectly value.form format bytes value
-form-in form format bytes value s = subst (λ (f : ℕ). SpellsDirectly f format bytes value)
-    (sym s.3)
-    s
-
 pub value-encoded : (form : ℕ) (format : Format) (constant : Option ℤ) (bytes : List ℕ) (at : ℕ)
     (value : Value) (next : ℕ) → value_at form format constant bytes at ≡ Ok (value, next)
     → IsEncodedAt (Spells form format constant) bytes at value next
@@ -113,8 +106,7 @@ value-encoded form format constant bytes at value next h = by_form (form_of form
         → IsEncodedAt (Spells form format constant) bytes at value next
     is_encoded f is front rest s encoded = encoded-from (Spells form format constant) bytes at
         value next
-        front rest s (subst (λ (f : Option Shape). Spells_by f form format constant front value)
-        (sym is) encoded)
+        front rest s (rw (is, Spells) encoded)
 
     by_constant : (c : Option ℤ) → constant ≡ c → form_of form ≡ Some ImplicitConst
         → (elim c as (λ _. Result (Value × ℕ) ValueFault)
@@ -123,9 +115,8 @@ value-encoded form format constant bytes at value next h = by_form (form_of form
     by_constant None memoized is h = cc
     by_constant (Some c) memoized is h =
         let same = same-ok (record { form = form; content = Signed c }, at) (value, next) h in
-        let place : at ≡ next = ap (λ (r : Value × ℕ). r.1) same in
         is_encoded (Some ImplicitConst) is [] (drop at bytes)
-        (subst (λ (k : ℕ). Stretch bytes at [] k (drop at bytes)) place (nothing bytes at))
+        (rw (← ap (λ (r : Value × ℕ). r.1) same) (nothing bytes at))
         (c, memoized, refl, sym (ap (λ (r : Value × ℕ). r.0) same))
 
     by_form : (f : Option Shape) → form_of form ≡ f → Value_read f form format constant bytes at
@@ -152,8 +143,8 @@ value-encoded form format constant bytes at value next h = by_form (form_of form
           whole = refl;
           form_is =
               subst (λ (k : ℕ). IsUleb inner.front k) (sym s.encoded.3) inner.encoded;
-          value_is =
-              form-in found.0.0 format s.front value s.encoded;
+          value_is = subst (λ (f : ℕ). SpellsDirectly f format s.front value) (sym s.encoded.3)
+              s.encoded;
         })
 
 pub value-reads : (form : ℕ) (format : Format) (constant : Option ℤ) (bytes : List ℕ) (at : ℕ)
