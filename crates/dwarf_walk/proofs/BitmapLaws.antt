@@ -1,7 +1,7 @@
 -- The bitmap of entry offsets: the bits that a walk sets, and how they are looked up.
 use Rattle.std.proofs.Common.{◌≡◌, ℕ, ◌*◌, ◌/◌, ◌%◌, ◌^◌, ◌<◌, List, [], ◌∷◌, ◌++◌, length, set}
 use Rattle.std.proofs.Common.{get_or}
-use Rattle.std.proofs.Common.{Bool, true, false, refl, sym, ap, ◌∙◌, subst, arith, inl, inr}
+use Rattle.std.proofs.Common.{Bool, true, false, sym, ap, ◌∙◌, subst, arith, inl, inr}
 use Rattle.std.specs.Prelude.{nat_eq, ◌==◌, ◌||◌, bit_or, if◌then◌else◌}
 use Rattle.std.specs.Int.Bits.{or_zero_r}
 use Rattle.std.proofs.Math.Nat.{zero-mul}
@@ -61,8 +61,7 @@ has-set words k v j lt is = elim (cases_eq (j / 64) (k / 64)) [
 ]
 
 or-none : (b : Bool) → b ≡ (b || false)
-or-none true = refl
-or-none false = refl
+or-none b = grind arith
 
 -- A bit that is set, or 0 that is added to its word.
 pub adds-bit : (words : List ℕ) (k v j : ℕ) (is_entry : Bool) → k / 64 < length words
@@ -79,10 +78,6 @@ adds-bit words k v j false lt is =
 
 -- ---- setting bits
 
-or-more : (a b c : Bool) → ((a || b) || c) ≡ (a || (b || c))
-or-more true b c = refl
-or-more false b c = refl
-
 pub adds-none : (bitmap : EntryBitmap) → AddsOffsets bitmap bitmap []
 adds-none bitmap at = or-none (has_entry bitmap at)
 
@@ -91,6 +86,4 @@ pub adds-more : (old mid new : EntryBitmap) (xs ys : List ℕ) → AddsOffsets o
     → AddsOffsets old new (xs ++ ys)
 adds-more old mid new xs ys first second at =
     let p : ℕ → Bool = λ place. place == at in
-    second at ∙ (ap (λ (b : Bool). b || list_any p ys) (first at)
-    ∙ (or-more (has_entry old at) (list_any p xs) (list_any p ys)
-    ∙ ap (λ (b : Bool). has_entry old at || b) (sym (list_any-append p xs ys))))
+    grind (arith, first at, second at, list_any-append p xs ys)

@@ -1,7 +1,7 @@
 -- The fast path for the node at an offset of a unit.
 use Rattle.std.proofs.Common.{◌≡◌, ℕ, ◌-◌, ◌+◌, ◌≤◌, Bool, true, false, [], ◌∷◌, refl, ap}
 use Rattle.std.proofs.Common.{◌∙◌, arith, subst}
-use Rattle.std.specs.Prelude.{Option, Some, None, is_some, not, if◌then◌else◌}
+use Rattle.std.specs.Prelude.{Option, Some, is_some, not, if◌then◌else◌}
 use Rattle.std.specs.Int.{from_bool}
 use Rattle.dwarf_units.specs.declared.node_shape.NodeShape.{NodeShape}
 use Rattle.dwarf_units.specs.Entries.{Node, Entry, Null}
@@ -17,17 +17,14 @@ use Rattle.dwarf_walk.specs.References.{or_else}
 
 rooted-is : (root : Option RootEntry) (x : RootEntry) → is_some root ≡ true
     → or_else root (Some x) ≡ root
-rooted-is (Some r) x rooted = refl
-rooted-is None x rooted = cc
+rooted-is root x rooted = grind arith
 
 pub bit-small : (b : Bool) → from_bool b ≤ 1
-bit-small true = omega arith
-bit-small false = omega arith
+bit-small b = grind arith
 
 entry-depth : (children : Bool) (depth : ℕ)
     → (depth + from_bool children) - from_bool false ≡ depth_after_entry children depth
-entry-depth true depth = omega arith
-entry-depth false depth = omega arith
+entry-depth children depth = grind arith
 
 -- The state after the node. `mid` is the state before the depth is updated.
 pub shape-added : (w mid : WalkState) (at depth : ℕ) (shape : NodeShape) (node : Node)

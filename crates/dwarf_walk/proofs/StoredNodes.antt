@@ -1,11 +1,10 @@
 -- An entry with only some of its attributes stored.
-use Rattle.std.proofs.Common.{◌≡◌, ℕ, List, [], ◌∷◌, Bool, true, false, cond, refl, ap, sym, ◌∙◌}
+use Rattle.std.proofs.Common.{◌≡◌, ℕ, List, [], ◌∷◌, Bool, true, false, refl, ap, ◌∙◌}
 use Rattle.std.proofs.Common.{◌+◌, arith}
 use Rattle.std.specs.Int.{from_bool}
 use Rattle.dwarf_walk.specs.declared.entry_bitmap.EntryBitmap.{EntryBitmap}
 use Rattle.dwarf_walk.specs.EntryBitmap.{AddsOffsets}
-use Rattle.std.specs.Prelude.{Option, Some, None, is_some, option_map, Ok, find, filter, not, ◌==◌}
-use Rattle.std.proofs.lemmas.Bool.{false≢true, eqb-true}
+use Rattle.std.specs.Prelude.{Option, Some, is_some, Ok, filter, not}
 use Rattle.dwarf_bytes.specs.declared.constants.TheConstants.{DW_AT_ABSTRACT_ORIGIN}
 use Rattle.dwarf_bytes.specs.declared.constants.TheConstants.{DW_AT_ADDR_BASE, DW_AT_LINKAGE_NAME}
 use Rattle.dwarf_bytes.specs.declared.constants.TheConstants.{DW_AT_LOW_PC, DW_AT_NAME}
@@ -15,7 +14,6 @@ use Rattle.dwarf_bytes.specs.declared.constants.TheConstants.{DW_AT_STR_OFFSETS_
 use Rattle.dwarf_bytes.specs.declared.format.Format.{Format}
 use Rattle.dwarf_forms.specs.Declarations.{Declaration}
 use Rattle.dwarf_units.specs.declared.attributes.Attribute.{Attribute}
-use Rattle.dwarf_units.specs.declared.attributes.AttributeValue.{AttributeValue}
 use Rattle.dwarf_walk.specs.declared.walk.NodeHead.{NodeHead}
 use Rattle.dwarf_walk.specs.declared.unit_entries.RootEntry.{RootEntry}
 use Rattle.dwarf_units.specs.Attributes.{is_used}
@@ -27,33 +25,16 @@ use Rattle.dwarf_walk.specs.Private.Readers.{Takes, after_die, depth_after_entry
 use Rattle.dwarf_units.specs.Private.StoredAttributes.{stored_attributes}
 use Rattle.dwarf_units.specs.Used.{Used, used_among}
 
+-- The value of an attribute is in a list of attributes with certain names, if its name is one.
+value-kept : (p : ℕ → Bool) (xs : List Attribute) (name : ℕ) → p name ≡ true
+    → value_of (filter (λ a. p a.name) xs) name ≡ value_of xs name
+value-kept p [] name has = refl
+value-kept p (a ∷ xs) name has = let rest = value-kept p xs name has in grind arith
+
 -- The value of a used attribute is stored if used attributes are.
 pub value-stored : (xs : List Attribute) (name : ℕ) → is_used name ≡ true
     → value_of (filter (λ a. is_used a.name) xs) name ≡ value_of xs name
-value-stored [] name used = refl
-value-stored (a ∷ xs) name used = by_used (is_used a.name) refl (value-stored xs name used)
-  where
-    rest : List Attribute
-    rest = filter (λ b. is_used b.name) xs
-
-    found : Bool → List Attribute → Option AttributeValue
-    found t ys = option_map (λ (b : Attribute). b.value)
-        (cond t (Some a) (find (λ b. b.name == name) ys))
-
-    by_name : (t : Bool) → value_of rest name ≡ value_of xs name → found t rest ≡ found t xs
-    by_name true behind = refl
-    by_name false behind = behind
-
-    by_other : (t : Bool) → (a.name == name) ≡ t → is_used a.name ≡ false
-        → value_of rest name ≡ value_of xs name → value_of rest name ≡ found t xs
-    by_other true same is behind = absurd
-        (false≢true (sym is ∙ (ap (λ (n : ℕ). is_used n) (eqb-true a.name name same) ∙ used)))
-    by_other false same is behind = behind
-
-    by_used : (u : Bool) → is_used a.name ≡ u → value_of rest name ≡ value_of xs name
-        → value_of (cond u (a ∷ rest) rest) name ≡ value_of (a ∷ xs) name
-    by_used true is behind = by_name (a.name == name) behind
-    by_used false is behind = by_other (a.name == name) refl is behind
+value-stored xs name used = value-kept is_used xs name used
 
 -- An entry with only its used attributes.
 abbrev pub stored_die : Die → Die
@@ -83,8 +64,7 @@ names_at-stored die =
 -- If there is already a root, a later entry does not replace it.
 root-stays : (root : Option RootEntry) (x y : RootEntry) → not (is_some root) ≡ false
     → or_else root (Some x) ≡ or_else root (Some y)
-root-stays (Some r) x y rooted = refl
-root-stays None x y rooted = absurd (false≢true (sym rooted))
+root-stays root x y rooted = grind arith
 
 -- The state after an entry depends only on its stored attributes.
 pub after-stored : (w : WalkState) (offset depth tag : ℕ) (all found : List Attribute)
@@ -124,8 +104,7 @@ ReadsEntry format table w rooted unit at after found used =
 
 depth-bit : (children : Bool) (depth : ℕ)
     → depth + from_bool children ≡ depth_after_entry children depth
-depth-bit true depth = refl
-depth-bit false depth = omega arith
+depth-bit children depth = grind arith
 
 -- The entry that is read with a cursor is added.
 pub entry-taken : (format : Format) (table : List Declaration) (w kept : WalkState)

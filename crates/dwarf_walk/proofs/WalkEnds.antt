@@ -1,9 +1,10 @@
 -- The data stored for a unit and its bitmap, from the final state of its walk.
 use Rattle.std.proofs.Common.{◌≡◌, ℕ, ◌<◌, ◌⊎◌, inl, inr, List, refl}
-use Rattle.std.proofs.Common.{ap, sym, ◌∙◌, subst, arith}
-use Rattle.std.specs.Prelude.{Option, Result, Ok, Err, nat_lt}
+use Rattle.std.proofs.Common.{ap, subst, arith}
+use Rattle.std.proofs.Common.{false}
+use Rattle.std.proofs.Common.{true}
+use Rattle.std.specs.Prelude.{Result, Ok, Err, nat_lt}
 use Rattle.std.specs.List.{filter_map}
-use Rattle.std.proofs.lemmas.Bool.{lt-ltb, le-ltb}
 use Rattle.dwarf_bytes.specs.declared.fault.Cause.TheVariants as causes
 use Rattle.dwarf_bytes.specs.declared.fault.LoadFault.{LoadFault}
 use Rattle.dwarf_bytes.specs.declared.fault.Section.TheVariants as sections
@@ -14,10 +15,9 @@ use Rattle.dwarf_bytes.proofs.Numbers.Advance.{after-bind}
 use Rattle.dwarf_forms.specs.Declarations.{Declaration}
 use Rattle.dwarf_bytes.proofs.Numbers.Moves.{same-ok}
 use Rattle.dwarf_walk.specs.declared.unit_entries.ScopePlace.{ScopePlace}
-use Rattle.dwarf_walk.specs.declared.unit_entries.RootEntry.{RootEntry}
 use Rattle.dwarf_units.specs.declared.unit_headers.UnitHeader.{UnitHeader}
 use Rattle.dwarf_units.specs.Entries.{LocatedNode, Die, die_of, depth_after, entries_of}
-use Rattle.dwarf_walk.specs.Stored.{scope_places, StoredUnit, stored_unit, stored_entries}
+use Rattle.dwarf_walk.specs.Stored.{StoredUnit, stored_unit, stored_entries}
 use Rattle.dwarf_walk.specs.Private.Readers.{WalkState, state_after, nodes_of, walk_of}
 use Rattle.dwarf_walk.specs.declared.entry_bitmap.EntryBitmap.{EntryBitmap}
 use Rattle.dwarf_walk.specs.Private.WalkedScopes.{counted_places, AreBounded}
@@ -37,11 +37,6 @@ abbrev unit_in : UnitHeader → Result (List LocatedNode × ℕ) At → Result S
 unit_in header all = in_section sections.DebugInfo
     (dies_in header all >>= λ dies. Ok (stored_unit header dies))
 
-stored-same : (h : UnitHeader) (r s : Option RootEntry) (p q : List ScopePlace) → r ≡ s → p ≡ q
-    → (let x : StoredUnit = record { header = h; root = r; scopes = p } in x)
-    ≡ record { header = h; root = s; scopes = q }
-stored-same h r s p q h1 h2 = cc
-
 -- A final state of the walk is that of some list of nodes.
 walk-nodes : (nodes : Result (List LocatedNode × ℕ) At) (w : WalkState)
     → in_section sections.DebugInfo (walk_in nodes) ≡ Ok w
@@ -55,7 +50,7 @@ pub entries-bounded : (info : List ℕ) (header : UnitHeader) (table : List Decl
 unfolding walk_of
 entries-bounded info header table w h =
     let all = walk-nodes (nodes_of info header table) w h in
-    subst (λ (x : WalkState). AreBounded x.scopes) all.2 (are-bounded 0 (filter_map die_of all.0.0))
+    rw (← all.2) (are-bounded 0 (filter_map die_of all.0.0))
 
 pub entries-end : (info : List ℕ) (header : UnitHeader) (table : List Declaration) (w : WalkState)
     (places : List ScopePlace) → in_section sections.DebugInfo (walk_of info header table) ≡ Ok w
@@ -65,13 +60,10 @@ pub entries-end : (info : List ℕ) (header : UnitHeader) (table : List Declarat
 unfolding walk_of entries_of
 entries-end info header table w places h none are =
     let all = walk-nodes (nodes_of info header table) w h in
-    let depth = ap (λ (x : WalkState). x.depth) all.2 in
-    let placed : scope_places (filter_map die_of all.0.0) ≡ places =
-    sym (places-counted 0 (filter_map die_of all.0.0))
-    ∙ (ap (λ (x : WalkState). counted_places x.scopes) all.2 ∙ sym are) in
-    rw (all.1, le-ltb 0 (depth_after all.0.0) (omega (arith, depth, none)))
-    (ap (λ (k : StoredUnit). Ok k)
-    (stored-same header _ _ _ _ (ap (λ (x : WalkState). x.root) all.2) placed))
+    let dies = filter_map die_of all.0.0 in
+    let shut : nat_lt 0 (depth_after all.0.0) ≡ false = grind (arith, all.2, none) in
+    rw (all.1, shut, are, ← places-counted 0 dies) (ap (λ (x : WalkState). Ok (record
+    { header = header; root = x.root; scopes = counted_places x.scopes })) all.2)
 
 pub entries-open : (info : List ℕ) (header : UnitHeader) (table : List Declaration) (w : WalkState)
     (fault : LoadFault) → in_section sections.DebugInfo (walk_of info header table) ≡ Ok w
@@ -81,14 +73,12 @@ pub entries-open : (info : List ℕ) (header : UnitHeader) (table : List Declara
 unfolding walk_of entries_of
 entries-open info header table w fault h some is =
     let all = walk-nodes (nodes_of info header table) w h in
-    let depth = ap (λ (x : WalkState). x.depth) all.2 in
-    rw (all.1, lt-ltb 0 (depth_after all.0.0) (omega (arith, depth, some)))
-    (ap (λ (f : LoadFault). Err f) (sym is))
+    let opened : nat_lt 0 (depth_after all.0.0) ≡ true = grind (arith, all.2, some) in
+    rw (all.1, opened, is) refl
 
 unit-fault : (header : UnitHeader) (all : Result (List LocatedNode × ℕ) At) (fault : LoadFault)
     → in_section sections.DebugInfo (walk_in all) ≡ Err fault → unit_in header all ≡ Err fault
-unit-fault header (Err e) fault h = cc
-unit-fault header (Ok all) fault h = cc
+unit-fault header all fault h = grind arith
 
 pub entries-fault : (info : List ℕ) (header : UnitHeader) (table : List Declaration)
     (fault : LoadFault) → (fault ≡ memory_fault)

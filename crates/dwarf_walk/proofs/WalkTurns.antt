@@ -1,13 +1,12 @@
 -- The loop of the walk over a unit.
-use Rattle.std.proofs.Common.{◌≡◌, ℕ, ◌<◌, ◌≤◌, ◌⊎◌, inl, inr, List, [], ◌∷◌, ◌++◌, false}
+use Rattle.std.proofs.Common.{◌≡◌, ℕ, ◌<◌, ◌≤◌, ◌⊎◌, List, [], ◌∷◌, ◌++◌, false}
 use Rattle.std.proofs.Common.{length, take, refl, ap, sym, ◌∙◌, subst, arith, length-take}
 use Rattle.std.proofs.Common.{append-nil}
-use Rattle.std.specs.Prelude.{Option, Some, None, is_some, Result, Ok, Err, nat_le, true}
+use Rattle.std.specs.Prelude.{is_some, Result, Ok, Err, nat_le, true}
 use Rattle.std.specs.List.{filter_map}
 use Rattle.std.proofs.lemmas.Bool.{lt-leb, le-leb}
 use Rattle.std.proofs.lemmas.List.{map-append}
 use Rattle.dwarf_bytes.specs.declared.fault.Cause.{Cause}
-use Rattle.dwarf_bytes.specs.declared.fault.Cause.TheVariants as causes
 use Rattle.dwarf_bytes.specs.declared.fault.LoadFault.{LoadFault}
 use Rattle.dwarf_bytes.specs.declared.fault.Section.TheVariants as sections
 use Rattle.dwarf_bytes.specs.declared.format.Format.{Format}
@@ -22,10 +21,9 @@ use Rattle.dwarf_units.specs.declared.unit_headers.UnitHeader.{UnitHeader}
 use Rattle.dwarf_units.specs.Entries.{Node, Entry, Null, LocatedNode, Die, die_of, depth_after}
 use Rattle.dwarf_units.specs.Entries.{node_at_depth, node_at}
 use Rattle.dwarf_walk.specs.Stored.{root_in}
-use Rattle.dwarf_walk.specs.Private.Readers.{WalkState, state_after, after_node, nodes_of}
+use Rattle.dwarf_walk.specs.Private.Readers.{WalkState, state_after, nodes_of}
 use Rattle.dwarf_walk.specs.Private.Readers.{Takes, places_of, walk_of}
 use Rattle.dwarf_walk.specs.declared.entry_bitmap.EntryBitmap.{EntryBitmap}
-use Rattle.dwarf_walk.specs.declared.unit_entries.RootEntry.{RootEntry}
 use Rattle.dwarf_walk.specs.EntryBitmap.{AddsOffsets, offsets_of}
 use Rattle.dwarf_walk.proofs.BitmapLaws.{adds-more}
 use Rattle.dwarf_units.proofs.EntryAdvances.{node_at_depth-moves, node_at-advances}
@@ -85,13 +83,7 @@ pub walk-rooted : (info : List ℕ) (header : UnitHeader) (table : List Declarat
     (bitmap marked : EntryBitmap) (at : ℕ) (w : WalkState)
     → WalkSoFar info header table bitmap marked at w → 0 < w.depth → is_some w.root ≡ true
 walk-rooted info header table bitmap marked at w so_far below =
-    by_root (root_in (filter_map die_of so_far.before)) refl
-  where
-    by_root : (root : Option RootEntry) → root_in (filter_map die_of so_far.before) ≡ root
-        → is_some w.root ≡ true
-    by_root (Some r) is = rw (so_far.kept, is) refl
-    by_root None is = let outside = so_far.tree.outside is in
-        absurd (omega (arith, below, ap (λ (w : WalkState). w.depth) so_far.kept, outside))
+    grind (arith, so_far.kept, so_far.tree.outside)
 
 pub walk-item : (info : List ℕ) (header : UnitHeader) (table : List Declaration)
     (bitmap marked after : EntryBitmap) (unit : List ℕ) (at next : ℕ) (was is : WalkState)
@@ -104,27 +96,22 @@ walk-item info header table bitmap marked after unit at next was is same within 
     let node = taken.0 in
     let node_is : node_at_depth header.format table (depth_after before)
     (is_some (root_in (filter_map die_of before))) unit at ≡ Ok (node, next) =
-    subst (λ (w : WalkState). node_at_depth header.format table w.depth (is_some w.root) unit at
-    ≡ Ok (node, next)) so_far.kept taken.1 in
+    rw so_far.kept at taken.1 in
     let moved = node_at_depth-moves header.format table (depth_after before)
     (is_some (root_in (filter_map die_of before))) unit at (node, next) node_is in
     let item : node_at header.format table (take header.end info) before at
     ≡ Ok (Item (standing before at node) next) =
-    subst (λ (u : List ℕ). node_at header.format table u before at
-    ≡ Ok (Item (standing before at node) next)) same
+    rw (← same)
     (after-is header.format table unit before at (Ok (node, next)) within so_far.tree node_is) in
     record {
       moves = moved.0;
       within = omega (arith, moved.1, ap length same);
       walk_so = record {
         before = before ++ standing before at node ∷ [];
-        marked_so =
-            subst (λ (places : List ℕ). AddsOffsets bitmap after places)
-            (offsets-push before at node)
-            (adds-more bitmap marked after (offsets_of (filter_map die_of before))
-            (places_of at node) so_far.marked_so taken.2.1);
-        kept = subst (λ (w : WalkState). is ≡ after_node w at node) so_far.kept taken.2.0
-            ∙ state_after-push before at node so_far.tree;
+        marked_so = rw (← offsets-push before at node) (adds-more bitmap marked after
+            (offsets_of (filter_map die_of before)) (places_of at node) so_far.marked_so
+            taken.2.1);
+        kept = rw so_far.kept at taken.2.0 ∙ state_after-push before at node so_far.tree;
         tree = tree-push before at node so_far.tree;
         read = so-far-item header.end (node_at header.format table (take header.end info))
             (advances info header table) header.first before at (standing before at node) next
@@ -165,12 +152,6 @@ walk-bitmap info header table bitmap marked place w past so_far all is =
     subst (λ (before : List LocatedNode). AddsOffsets bitmap marked
     (offsets_of (filter_map die_of before))) same so_far.marked_so
 
-at_item_cases : (cause : Cause) (at : ℕ) → (at_item sections.DebugInfo cause at ≡ memory_fault)
-    ⊎ (at_item sections.DebugInfo cause at ≡ record
-    { section = sections.DebugInfo; cause = cause; at = at })
-at_item_cases causes.Memory at = inl refl
-at_item_cases cause at = inr refl
-
 pub walk-fault : (info : List ℕ) (header : UnitHeader) (table : List Declaration)
     (bitmap marked : EntryBitmap) (unit : List ℕ) (at : ℕ) (was : WalkState) (cause : Cause)
     (fault : LoadFault) → unit ≡ take header.end info → at < length unit
@@ -180,33 +161,11 @@ pub walk-fault : (info : List ℕ) (header : UnitHeader) (table : List Declarati
     → (fault ≡ memory_fault) ⊎ (in_section sections.DebugInfo (walk_of info header table)
     ≡ Err fault)
 unfolding walk_of
-walk-fault info header table bitmap marked unit at was cause fault same within so_far (inl memory)
-    told_is = inl (told_is ∙ ap (λ (c : Cause). at_item sections.DebugInfo c at) memory)
-walk-fault info header table bitmap marked unit at was cause fault same within so_far (inr read)
-    told_is = by-cause (at_item_cases cause at)
-  where
-    before : List LocatedNode
-    before = so_far.before
-
-    here : node_at_depth header.format table (depth_after before)
-        (is_some (root_in (filter_map die_of before))) unit at ≡ Err cause
-    here = subst (λ (w : WalkState). node_at_depth header.format table w.depth (is_some w.root)
-        unit at ≡ Err cause) so_far.kept read
-
-    faulty : node_at header.format table (take header.end info) before at ≡ Err cause
-    faulty =
-        subst (λ (u : List ℕ). node_at header.format table u before at ≡ Err cause) same
-        (after-is header.format table unit before at (Err cause) within so_far.tree here)
-
-    refused : in_section sections.DebugInfo (walk_of info header table)
-        ≡ Err (record { section = sections.DebugInfo; cause = cause; at = at })
-    refused = rw (so-far-fault header.end (node_at header.format table (take header.end info))
-        (advances info header table) header.first before at cause so_far.read faulty) refl
-
-    by-cause : (at_item sections.DebugInfo cause at ≡ memory_fault)
-        ⊎ (at_item sections.DebugInfo cause at
-        ≡ record { section = sections.DebugInfo; cause = cause; at = at })
-        → (fault ≡ memory_fault) ⊎ (in_section sections.DebugInfo (walk_of info header table)
-        ≡ Err fault)
-    by-cause (inl memory) = inl (told_is ∙ memory)
-    by-cause (inr itself) = inr (refused ∙ ap (λ (f : LoadFault). Err f) (sym (told_is ∙ itself)))
+walk-fault info header table bitmap marked unit at was cause fault same within so_far fails is =
+    let before = so_far.before in
+    let here = λ (read : node_at_depth header.format table was.depth (is_some was.root) unit at
+    ≡ Err cause). so-far-fault header.end (node_at header.format table (take header.end info))
+    (advances info header table) header.first before at cause so_far.read (rw (← same)
+    (after-is header.format table unit before at (Err cause) within so_far.tree
+    (rw so_far.kept at read))) in
+    grind (arith, fails, is)
