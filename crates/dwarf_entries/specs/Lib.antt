@@ -1,6 +1,5 @@
-pub mod Bases
+pub mod Units
 pub mod Names
-pub mod Ranges
 pub mod Scopes
 pub mod Order
 pub mod TreeLaws

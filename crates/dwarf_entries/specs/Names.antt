@@ -17,14 +17,15 @@ use Rattle.dwarf_bytes.specs.declared.tables.TableKind.TheVariants.{StrOffsets}
 use Rattle.dwarf_bytes.specs.Bind.{◌>>=◌}
 use Rattle.dwarf_bytes.specs.Items.{reading}
 use Rattle.dwarf_bytes.specs.Numbers.{text_at}
-use Rattle.dwarf_entries.specs.declared.bases.Table.{Table}
+use Rattle.dwarf_ranges.specs.declared.bases.Table.{Table}
 use Rattle.dwarf_entries.specs.declared.origin_chains.EntryNames.{EntryNames}
 use Rattle.dwarf_entries.specs.declared.text_offset.TextOffset.{TextOffset}
 use Rattle.dwarf_units.specs.declared.attributes.AttributeValue.{AttributeValue}
 use Rattle.dwarf_units.specs.Entries.{Die, attribute}
 use Rattle.dwarf_walk.specs.Sections.{Sections}
 use Rattle.dwarf_walk.specs.References.{or_else, next_of}
-use Rattle.dwarf_entries.specs.Bases.{CompilationUnit, item_at, optional}
+use Rattle.dwarf_entries.specs.Units.{CompilationUnit}
+use Rattle.dwarf_ranges.specs.Bases.{item_at, optional}
 
 -- An entry with its unit.
 pub record Member : Type 0 where

@@ -19,7 +19,7 @@ use Rattle.dwarf_entries.specs.declared.calls.CallSite.{CallSite}
 use Rattle.dwarf_entries.specs.declared.calls.Calls.{Calls}
 use Rattle.dwarf_entries.specs.declared.calls.Calls.TheVariants as calls
 use Rattle.dwarf_entries.specs.declared.scope_lists.ScopeLists.{ScopeLists}
-use Rattle.dwarf_entries.specs.declared.scope.Range.{Range}
+use Rattle.dwarf_ranges.specs.declared.range.Range.{Range}
 use Rattle.dwarf_entries.specs.declared.scope.Root.{Root}
 use Rattle.dwarf_entries.specs.declared.scope.Scope.{Scope as StoredScope}
 use Rattle.dwarf_entries.specs.declared.text_offset.TextOffset.{TextOffset}
@@ -27,9 +27,9 @@ use Rattle.dwarf_units.specs.Entries.{Die, below}
 use Rattle.dwarf_walk.specs.declared.scope_kind.ScopeKind.{ScopeKind}
 use Rattle.dwarf_walk.specs.Sections.{Sections}
 use Rattle.dwarf_walk.specs.ScopeEntries.{kind_of, is_scope, number_of}
-use Rattle.dwarf_entries.specs.Bases.{CompilationUnit, units_read}
+use Rattle.dwarf_entries.specs.Units.{CompilationUnit, units_read}
 use Rattle.dwarf_entries.specs.Names.{Member, names_of}
-use Rattle.dwarf_entries.specs.Ranges.{Covering, covers_of}
+use Rattle.dwarf_ranges.specs.Ranges.{Covering, covers_of}
 
 -- The data of a scope. `end` is the number of the first later scope that is not below it.
 pub record Scope : Type 0 where

@@ -1,5 +1,5 @@
 -- Theorems about the result for a whole object.
-use Rattle.std.specs.Prelude.{◌≡◌, ◌≢◌, ℕ, ◌+◌, ◌<◌, ◌≤◌, ◌^◌, List, [], ◌∷◌, length, take, drop}
+use Rattle.std.specs.Prelude.{◌≡◌, ◌≢◌, ℕ, ◌+◌, ◌<◌, ◌≤◌, List, [], ◌∷◌, length, take, drop}
 use Rattle.std.specs.Prelude.{Some, Ok, All, slice_get}
 use Rattle.std.specs.List.Sorted.{IsStrictlyIncreasing}
 use Rattle.dwarf_bytes.specs.declared.fault.Section.{Section}
@@ -9,21 +9,16 @@ use Rattle.dwarf_forms.specs.Declarations.{Declaration}
 use Rattle.dwarf_units.specs.declared.unit_headers.UnitHeader.{UnitHeader}
 use Rattle.dwarf_units.specs.Units.{unit_at}
 use Rattle.dwarf_units.specs.Entries.{LocatedNode, Die, node_at}
-use Rattle.dwarf_entries.specs.declared.scope.Range.{Range}
 use Rattle.dwarf_entries.specs.declared.scope.Root.{Root}
 use Rattle.dwarf_entries.specs.declared.text_offset.TextOffset.{TextOffset}
 use Rattle.dwarf_walk.specs.Sections.{Sections}
-use Rattle.dwarf_entries.specs.Bases.{CompilationUnit}
+use Rattle.dwarf_entries.specs.Units.{CompilationUnit}
 use Rattle.dwarf_entries.specs.Scopes.{Scope}
 use Rattle.dwarf_walk.specs.ScopeEntries.{kind_of}
 
 -- Offsets are strictly increasing and less than an end.
 abbrev pub RiseBelow : ℕ → List ℕ → Type 0
 RiseBelow end offsets = IsStrictlyIncreasing offsets × All (λ offset. offset < end) offsets
-
--- A range is nonempty, and its addresses have 64 bits.
-abbrev pub IsValidRange : Range → Type 0
-IsValidRange range = (range.from < range.to) × (range.to < 2 ^ 64)
 
 -- The roots partition the numbers up to an end, in order. The numbers of each root start where the
 -- numbers of the previous root end.

@@ -2,12 +2,7 @@
 
 ghost use Rattle.std.specs.Prelude.{◌≡◌, ◌<◌, ◌+◌, ◌↔◌, ℕ, List, [], ◌∷◌, ◌++◌, Option, Some, Ok};
 ghost use Rattle.std.specs.Prelude.{true, map, take, drop, count_by, slice_get};
-ghost use Rattle.dwarf_entries.specs.declared.scope.Range.{Range};
-ghost use Rattle.dwarf_entries.specs.declared.range_entries.RangeListEntry.{RangeListEntry};
-ghost use Rattle.dwarf_entries.specs.declared.range_entries.RangeListEntry.TheVariants.{Base};
-ghost use Rattle.dwarf_entries.specs.declared.range_entries.RangeListEntry.TheVariants.{Covers};
 ghost use Rattle.dwarf_units.specs.Entries.{Die, below, IsBelow};
-ghost use Rattle.dwarf_entries.specs.Ranges.{base_after};
 ghost use Rattle.dwarf_entries.specs.declared.scope.Scope.{Scope as StoredScope};
 ghost use Rattle.dwarf_walk.specs.ScopeEntries.{is_scope};
 ghost use Rattle.dwarf_entries.specs.Scopes.{own, own_of, Scope, Tree, tree_of};
@@ -18,6 +13,7 @@ pub use crate::tree_laws::{
     ends_follow_descendants, entries_are_contiguous, names_are_strings, offsets_rise,
     ranges_are_nonempty, roots_partition_scopes, scopes_are_entries, units_are_contiguous,
 };
+pub use dwarf_ranges::laws::base_is_of_last_base_entry;
 pub use dwarf_units::laws::{entries_are_at_counted_depths, offsets_of_entries_rise};
 
 /// One scope of a unit is below another if and only if its number is greater than the other's
@@ -30,16 +26,6 @@ pub fn scopes_below_are_between()
         → let number : ℕ → ℕ = λ place. count_by is_scope (take place dies) in
         let end : ℕ = number i + 1 + count_by is_scope (below outer (drop (i + 1) dies)) in
         IsBelow dies j i ↔ ((number i < number j) × (number j < end)) }
-{}
-
-/// The current base after some entries of a range list is the one set by the last base entry. If
-/// no entry sets a base, it is the initial base, which is the low_pc of the unit.
-pub fn base_is_of_last_base_entry()
-    ensures last { (low_pc : Option ℕ) (before : List RangeListEntry) (base : ℕ)
-        (ranges : List (Option Range))
-        → base_after low_pc (before ++ Base base ∷ map (λ range. Covers range) ranges) ≡ Some base }
-    ensures none { (low_pc : Option ℕ) (ranges : List (Option Range))
-        → base_after low_pc (map (λ range. Covers range) ranges) ≡ low_pc }
 {}
 
 /// The number of each scope of an object is its index, and its end is within the list. A scope

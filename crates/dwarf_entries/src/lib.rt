@@ -1,7 +1,6 @@
 //! Roots, scopes, ranges and names of `.debug_info` (DWARF 5, chapters 2, 3 and 7.5).
 #![tactic(auto)]
 
-mod bases;
 mod calls;
 mod entry_names;
 pub mod laws;
@@ -9,10 +8,7 @@ mod name_cache;
 mod names;
 mod origin_chains;
 mod passes;
-mod range_entries;
-mod ranges;
 mod references;
-mod roots;
 mod scope;
 mod scope_lists;
 mod scopes;
@@ -22,7 +18,8 @@ mod tree_laws;
 mod unit_scopes;
 mod units;
 
+pub use dwarf_ranges::Range;
 pub use dwarf_walk::{ScopeKind, Sections};
-pub use scope::{Range, Root, Scope};
+pub use scope::{Root, Scope};
 pub use scopes::Scopes;
 pub use text_offset::TextOffset;

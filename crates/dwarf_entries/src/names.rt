@@ -5,11 +5,11 @@ ghost use Rattle.dwarf_entries.specs.Names.{text_in, text_of};
 ghost use Rattle.dwarf_walk.specs.Sections.{sections_of};
 ghost use Rattle.dwarf_entries.specs.Private.StringSections.{AreStringSections};
 
-use crate::bases::{Table, item_at};
 use crate::string_sections::{StringSection, StringSections};
 use crate::text_offset::TextOffset;
 use dwarf_bytes::constants::{DW_FORM_LINE_STRP, DW_FORM_STRING, DW_FORM_STRP};
 use dwarf_bytes::{Cause, Section, TableKind};
+use dwarf_ranges::{Table, item_at};
 use dwarf_units::AttributeValue;
 use dwarf_walk::Sections;
 

@@ -3,17 +3,17 @@
 ghost use Rattle.std.specs.Prelude.{◌≡◌, ◌++◌, ◌∷◌, [], ℕ, List, Some, option_map, slice_get};
 ghost use Rattle.std.specs.Option.{option_or};
 ghost use Rattle.dwarf_bytes.specs.Refusals.{Gives};
-ghost use Rattle.dwarf_entries.specs.Bases.{CompilationUnit};
+ghost use Rattle.dwarf_entries.specs.Units.{CompilationUnit};
 ghost use Rattle.dwarf_entries.specs.Names.{Member, chain_within, first_on, name_on, names_within};
 ghost use Rattle.dwarf_entries.specs.Private.Members.{IsMember, IsPlaceOf, IsRereadOf};
 ghost use Rattle.dwarf_entries.specs.Private.Members.{IsFirst, AreFirst, FindsFirst};
 
-use crate::bases::Table;
 use crate::names::text_of;
 use crate::references::UnitPlace;
 use crate::text_offset::TextOffset;
 use crate::units::Units;
 use dwarf_bytes::Cause;
+use dwarf_ranges::Table;
 use dwarf_units::AttributeValue;
 use dwarf_walk::NamedEntry;
 

@@ -7,14 +7,13 @@ ghost use Rattle.dwarf_forms.specs.Declarations.{Declaration};
 ghost use Rattle.dwarf_units.specs.Units.{tables_of};
 ghost use Rattle.dwarf_walk.specs.Sections.{sections_of};
 ghost use Rattle.dwarf_walk.specs.EntryBitmap.{AddsOffsets};
-ghost use Rattle.dwarf_entries.specs.Bases.{CompilationUnit};
+ghost use Rattle.dwarf_entries.specs.Units.{CompilationUnit};
 ghost use Rattle.dwarf_entries.specs.Private.EntryOffsets.{AreStored, all_offsets};
 ghost use Rattle.dwarf_entries.specs.Private.Passes.{PassGives, all_entries, all_bases};
 ghost use Rattle.dwarf_entries.specs.Private.Passes.{bases_in, bases_of};
 
-use crate::bases::Bases;
-use crate::roots::bases;
 use dwarf_bytes::{LoadFault, Section};
+use dwarf_ranges::{Bases, root_bases};
 use dwarf_units::{Tables, UnitHeader};
 use dwarf_walk::{EntryBitmap, Sections, UnitEntries, entries};
 use std::alloc::Global;
@@ -74,7 +73,7 @@ fn unit_bases(sections: &Sections<'_>, unit: &UnitEntries) -> Result<Bases, Load
             rnglists: None,
             low_pc: None,
         }),
-        Some(root) => match bases(sections, unit.header.format, root) {
+        Some(root) => match root_bases(sections, unit.header.format, root) {
             Ok(bases) => Ok(bases),
             Err(cause) => Err(LoadFault::at_item(Section::DebugInfo, cause, root.offset as u64)),
         },

@@ -3,7 +3,7 @@
 ghost use Rattle.std.specs.Prelude.{◌≡◌, ◌<◌, ◌≤◌, ◌⊎◌, Some, None, IfSome, MatchOption, length};
 ghost use Rattle.std.specs.Prelude.{slice_get, if◌then◌else◌};
 ghost use Rattle.std.specs.List.Sorted.{IsNonDecreasingBy, IsPartitionPoint};
-ghost use Rattle.dwarf_entries.specs.Bases.{CompilationUnit};
+ghost use Rattle.dwarf_entries.specs.Units.{CompilationUnit};
 ghost use Rattle.dwarf_entries.specs.Names.{target_of};
 ghost use Rattle.dwarf_entries.specs.Private.Members.{Finds, LeadsTo, IsWithin, member_in};
 

@@ -9,15 +9,9 @@ use crate::calls::{CallSite, Calls};
 use crate::scopes::Scopes;
 use crate::text_offset::{TextOffset, text_by, text_parts};
 use dwarf_bytes::Section;
+use dwarf_ranges::Range;
 use dwarf_walk::{ScopeKind, narrow};
 use std::alloc::AllocError;
-
-/// An address range from `from` up to `to` (exclusive).
-#[derive(Clone, Copy, Debug, Default, PartialEq, Eq)]
-pub struct Range {
-    pub from: u64,
-    pub to: u64,
-}
 
 /// A subprogram or an inlined subroutine. Its number is its index among all scopes of the object,
 /// in file order. The scopes from the next number up to `end` (exclusive) are below it. Offsets

@@ -7,7 +7,8 @@ ghost use Rattle.dwarf_entries.specs.Scopes.{scopes_of, ranges_at};
 ghost use Rattle.dwarf_entries.specs.Private.Shared.{ranges_start, IsPushed};
 
 use crate::calls::CallSite;
-use crate::scope::{Range, Scope, ScopeFacts};
+use crate::scope::{Scope, ScopeFacts};
+use dwarf_ranges::Range;
 use std::alloc::{AllocError, Global};
 
 /// The scopes and their shared lists. A scope stores the end of its ranges. They start where the

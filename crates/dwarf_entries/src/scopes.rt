@@ -9,10 +9,11 @@ ghost use Rattle.dwarf_entries.specs.Scopes.{own, own_of, ranges_at, stmt_list_a
 ghost use Rattle.dwarf_entries.specs.Scopes.{call_line_at, tree_of};
 
 use crate::calls::CallSite;
-use crate::scope::{Range, Root, Scope};
+use crate::scope::{Root, Scope};
 use crate::scope_lists::ScopeLists;
 use crate::units::Units;
 use dwarf_bytes::LoadFault;
+use dwarf_ranges::Range;
 use dwarf_walk::Sections;
 use std::alloc::{AllocError, Global};
 use std::marker::Model;

@@ -8,11 +8,12 @@ ghost use Rattle.dwarf_units.specs.declared.unit_headers.UnitHeader.{UnitHeader}
 ghost use Rattle.dwarf_units.specs.Units.{headers_of, units_of};
 ghost use Rattle.dwarf_units.specs.Entries.{LocatedNode, Die, IsBelow, die_of, entries_of};
 ghost use Rattle.dwarf_entries.specs.declared.scope.Root.{Root};
-ghost use Rattle.dwarf_entries.specs.Bases.{CompilationUnit, units_read};
+ghost use Rattle.dwarf_entries.specs.Units.{CompilationUnit, units_read};
 ghost use Rattle.dwarf_entries.specs.Scopes.{Scope, Tree, items_limit, roots_from, tree_of};
 ghost use Rattle.dwarf_walk.specs.ScopeEntries.{is_scope};
 ghost use Rattle.dwarf_walk.specs.Sections.{Sections};
-ghost use Rattle.dwarf_entries.specs.TreeLaws.{RiseBelow, IsValidRange, ArePartsFrom, IsOfUnit};
+ghost use Rattle.dwarf_entries.specs.TreeLaws.{RiseBelow, ArePartsFrom, IsOfUnit};
+ghost use Rattle.dwarf_ranges.specs.Ranges.{IsValidRange};
 ghost use Rattle.dwarf_entries.specs.TreeLaws.{IsEntry, IsTextOf, AreContiguous};
 ghost use Rattle.dwarf_entries.specs.TreeLaws.{FillsUnit};
 

@@ -3,7 +3,7 @@
 
 ghost use Rattle.std.specs.Prelude.{◌≡◌, ◌≤◌, ◌<◌, ◌+◌, ◌^◌, List, Some, ◌-◌, length, min};
 ghost use Rattle.std.specs.Prelude.{map, slice_get, IfOk};
-ghost use Rattle.dwarf_entries.specs.Bases.{CompilationUnit};
+ghost use Rattle.dwarf_entries.specs.Units.{CompilationUnit};
 ghost use Rattle.dwarf_entries.specs.Scopes.{ParsedScope, ScopeSite, scope_at, sites_in};
 ghost use Rattle.dwarf_entries.specs.Scopes.{roots_from, scopes_of};
 ghost use Rattle.dwarf_entries.specs.Private.Passes.{IsScopeSite, IsSiteRead, scope_facts};
@@ -14,11 +14,11 @@ ghost use Rattle.dwarf_entries.specs.Private.Shared.{AddsFacts};
 
 use crate::calls::CallSite;
 use crate::origin_chains::{EntryNames, UnitEntry};
-use crate::ranges::covers;
-use crate::scope::{Range, ScopeFacts};
+use crate::scope::ScopeFacts;
 use crate::scope_lists::ScopeLists;
 use crate::units::Units;
 use dwarf_bytes::{Cause, LoadFault, Section};
+use dwarf_ranges::{Range, covers};
 use dwarf_walk::{ScopeEntry, UnitEntries};
 use std::alloc::Global;
 

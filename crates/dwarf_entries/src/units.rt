@@ -4,16 +4,16 @@ ghost use Rattle.std.specs.Prelude.{◌≡◌, ◌<◌, ◌^◌, IfOk};
 ghost use Rattle.std.specs.List.Sorted.{IsNonDecreasingBy};
 ghost use Rattle.dwarf_bytes.specs.Refusals.{Decodes, Builds};
 ghost use Rattle.dwarf_walk.specs.Sections.{sections_of};
-ghost use Rattle.dwarf_entries.specs.Bases.{units_read};
+ghost use Rattle.dwarf_entries.specs.Units.{units_read};
 ghost use Rattle.dwarf_entries.specs.Scopes.{roots_from};
 ghost use Rattle.dwarf_entries.specs.Private.Passes.{number_of_scopes};
 
-use crate::bases::Bases;
 use crate::name_cache::NameCache;
 use crate::passes::{all_bases, all_entries};
 use crate::scope::Root;
 use crate::string_sections::StringSections;
 use dwarf_bytes::LoadFault;
+use dwarf_ranges::Bases;
 use dwarf_units::{Tables, units};
 use dwarf_walk::{EntryBitmap, EntryReader, Sections, UnitEntries};
 use std::alloc::Global;

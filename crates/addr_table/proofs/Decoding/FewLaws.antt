@@ -17,7 +17,7 @@ use Rattle.dwarf_bytes.specs.Elf.{layout, elf_fault, is_too_long, elf_items}
 use Rattle.dwarf_bytes.specs.Elf.{header_tests, load_items, section_items}
 use Rattle.dwarf_bytes.specs.declared.layout.Layout.{Layout}
 use Rattle.dwarf_lines.specs.declared.row.Row.{Row}
-use Rattle.dwarf_entries.specs.declared.scope.Range.{Range}
+use Rattle.dwarf_ranges.specs.declared.range.Range.{Range}
 use Rattle.dwarf_entries.specs.Scopes.{Scope, items_limit}
 use Rattle.dwarf_entries.specs.TreeLaws.{RiseBelow}
 use Rattle.addr_table.specs.declared.starts.Start.{Start}

@@ -5,7 +5,7 @@ use Rattle.std.specs.List.{AllByRecursion, All}
 use Rattle.std.proofs.lemmas.List.Elements.{All-from_recursion, recursion_from_All}
 use Rattle.std.proofs.lemmas.List.Sorted.{All-permutation, IsPermutation-sym}
 use Rattle.dwarf_lines.specs.declared.row.Row.{Row}
-use Rattle.dwarf_entries.specs.declared.scope.Range.{Range}
+use Rattle.dwarf_ranges.specs.declared.range.Range.{Range}
 use Rattle.dwarf_entries.specs.Scopes.{Scope}
 use Rattle.addr_table.specs.declared.starts.Start.{Start}
 use Rattle.addr_table.specs.Segments.{ranges_of, ends_of}

@@ -6,7 +6,7 @@ use Rattle.std.specs.Prelude.{nat_eq, nat_lt, filter}
 use Rattle.std.specs.List.{AllByRecursion}
 use Rattle.std.proofs.lemmas.Bool.Decides.{nat_tests}
 use Rattle.dwarf_lines.specs.declared.row.Row.{Row}
-use Rattle.dwarf_entries.specs.declared.scope.Range.{Range}
+use Rattle.dwarf_ranges.specs.declared.range.Range.{Range}
 use Rattle.dwarf_entries.specs.Scopes.{Scope}
 use Rattle.addr_table.specs.Rows.{Cover, covers_of}
 use Rattle.addr_table.specs.Segments.{is_nonempty, row_ranges, scope_ranges, ranges_of, with_end}

@@ -9,7 +9,7 @@ use Rattle.std.proofs.lemmas.List.Sorted.{IsPermutation-refl, IsPermutation-tran
 use Rattle.std.proofs.lemmas.List.Sorted.{IsPermutation-append_left}
 use Rattle.std.specs.List.Sorted.{IsPermutation}
 use Rattle.dwarf_lines.specs.declared.row.Row.{Row}
-use Rattle.dwarf_entries.specs.declared.scope.Range.{Range}
+use Rattle.dwarf_ranges.specs.declared.range.Range.{Range}
 use Rattle.dwarf_entries.specs.declared.scope.Scope.{Scope as Kept}
 use Rattle.dwarf_entries.specs.Scopes.{Scope, Own, own_of, ranges_at}
 use Rattle.dwarf_entries.specs.Order.{HasDataOf}

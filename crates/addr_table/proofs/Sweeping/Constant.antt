@@ -7,7 +7,7 @@ use Rattle.std.specs.Prelude.{None, option_map, nat_lt, nat_eq, filter}
 use Rattle.std.specs.List.{AllByRecursion, list_any}
 use Rattle.std.proofs.lemmas.Bool.Decides.{nat_tests}
 use Rattle.dwarf_lines.specs.declared.row.Row.{Row}
-use Rattle.dwarf_entries.specs.declared.scope.Range.{Range}
+use Rattle.dwarf_ranges.specs.declared.range.Range.{Range}
 use Rattle.dwarf_walk.specs.declared.scope_kind.ScopeKind.TheVariants.{Subprogram}
 use Rattle.dwarf_entries.specs.Scopes.{Scope}
 use Rattle.addr_table.specs.Rows.{Cover, holds, covers_of, row_at}

@@ -13,7 +13,7 @@ use Rattle.dwarf_walk.specs.declared.entry_bitmap.EntryBitmap.{EntryBitmap}
 use Rattle.dwarf_walk.specs.EntryBitmap.{has_entry, offsets_of}
 use Rattle.dwarf_walk.specs.Sections.{Sections}
 use Rattle.dwarf_entries.specs.declared.references.UnitPlace.{UnitPlace}
-use Rattle.dwarf_entries.specs.Bases.{CompilationUnit}
+use Rattle.dwarf_entries.specs.Units.{CompilationUnit}
 use Rattle.dwarf_entries.specs.Names.{Member, members_of}
 use Rattle.dwarf_entries.specs.Private.EntryOffsets.{IsBitmapOf, all_offsets}
 use Rattle.dwarf_entries.specs.Private.Members.{IsWithin, Finds, member_in}

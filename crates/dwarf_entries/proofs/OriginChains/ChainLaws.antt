@@ -14,7 +14,7 @@ use Rattle.dwarf_entries.specs.declared.origin_chains.UnitEntry.{UnitEntry}
 use Rattle.dwarf_entries.specs.declared.references.UnitPlace.{UnitPlace}
 use Rattle.dwarf_entries.specs.declared.origin_chains.FirstNames.{FirstNames}
 use Rattle.dwarf_units.specs.Entries.{attribute}
-use Rattle.dwarf_entries.specs.Bases.{CompilationUnit}
+use Rattle.dwarf_entries.specs.Units.{CompilationUnit}
 use Rattle.dwarf_entries.specs.Names.{Member, target_of, chain_within, of_member, first_on}
 use Rattle.dwarf_walk.specs.References.{or_else, next_of}
 use Rattle.dwarf_entries.specs.Private.Members.{IsMember, IsPlaceOf, Finds, IsFirst, AreFirst}

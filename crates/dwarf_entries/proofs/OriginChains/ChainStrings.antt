@@ -11,7 +11,8 @@ use Rattle.dwarf_entries.specs.declared.text_offset.TextOffset.{TextOffset}
 use Rattle.dwarf_entries.specs.declared.origin_chains.FirstNames.{FirstNames}
 use Rattle.dwarf_entries.specs.declared.origin_chains.EntryNames.{EntryNames}
 use Rattle.dwarf_walk.specs.Sections.{Sections}
-use Rattle.dwarf_entries.specs.Bases.{CompilationUnit, optional}
+use Rattle.dwarf_entries.specs.Units.{CompilationUnit}
+use Rattle.dwarf_ranges.specs.Bases.{optional}
 use Rattle.dwarf_entries.specs.Names.{Member, chain_within, name_on, target_of, first_on, text_of}
 use Rattle.dwarf_entries.specs.Names.{names_of, names_within, references_limit}
 use Rattle.dwarf_entries.specs.Private.NameCache.{CachedNames, slot_of, slot_at, second_names}

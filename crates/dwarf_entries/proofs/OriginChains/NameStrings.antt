@@ -20,11 +20,12 @@ use Rattle.dwarf_bytes.proofs.Numbers.Advance.{after-bind, chosen, reading-ok}
 use Rattle.dwarf_bytes.proofs.Numbers.Moves.{same-ok}
 use Rattle.dwarf_bytes.proofs.Strings.StringLaws.{text-encoded}
 use Rattle.dwarf_units.specs.declared.attributes.AttributeValue.{AttributeValue}
-use Rattle.dwarf_entries.specs.declared.bases.Table.{Table}
+use Rattle.dwarf_ranges.specs.declared.bases.Table.{Table}
 use Rattle.dwarf_entries.specs.declared.origin_chains.EntryNames.{EntryNames}
 use Rattle.dwarf_entries.specs.declared.text_offset.TextOffset.{TextOffset}
 use Rattle.dwarf_walk.specs.Sections.{Sections}
-use Rattle.dwarf_entries.specs.Bases.{CompilationUnit, item_at, optional}
+use Rattle.dwarf_entries.specs.Units.{CompilationUnit}
+use Rattle.dwarf_ranges.specs.Bases.{item_at, optional}
 use Rattle.dwarf_entries.specs.Names.{Member, chain_within, text_in, text_of, first_on, name_on}
 use Rattle.dwarf_entries.specs.Names.{names_of, references_limit}
 use Rattle.dwarf_entries.specs.Scopes.{Scope, Tree, ParsedScope, tree_of}

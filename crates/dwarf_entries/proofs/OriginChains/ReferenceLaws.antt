@@ -18,7 +18,7 @@ use Rattle.dwarf_units.specs.Private.Rising.{RiseWithin}
 use Rattle.dwarf_walk.specs.declared.unit_entries.UnitEntries.{UnitEntries}
 use Rattle.dwarf_walk.specs.Stored.{StoredUnit}
 use Rattle.dwarf_walk.specs.Sections.{Sections}
-use Rattle.dwarf_entries.specs.Bases.{CompilationUnit}
+use Rattle.dwarf_entries.specs.Units.{CompilationUnit}
 use Rattle.dwarf_entries.specs.Names.{Member, members_of, member_at, target_of}
 use Rattle.dwarf_entries.specs.Private.EntryOffsets.{AreStored}
 use Rattle.dwarf_entries.specs.Private.Members.{IsWithin, member_in}

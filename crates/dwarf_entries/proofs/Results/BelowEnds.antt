@@ -7,7 +7,7 @@ use Rattle.std.proofs.lemmas.Option.{same_Some}
 use Rattle.dwarf_units.specs.Entries.{IsBelow}
 use Rattle.dwarf_walk.specs.ScopeEntries.{is_scope}
 use Rattle.dwarf_walk.specs.Sections.{Sections}
-use Rattle.dwarf_entries.specs.Bases.{CompilationUnit, units_read}
+use Rattle.dwarf_entries.specs.Units.{CompilationUnit, units_read}
 use Rattle.dwarf_entries.specs.Scopes.{Scope, ScopeSite, ParsedScope, Tree, tree_of}
 use Rattle.dwarf_entries.specs.Private.Passes.{first_number, all_scopes, all_sites}
 use Rattle.dwarf_entries.specs.TreeLaws.{IsEntry}

@@ -7,12 +7,12 @@ use Rattle.std.proofs.lemmas.List.Folds.{fold-map}
 use Rattle.std.proofs.lemmas.List.Sums.{sum_by_more}
 use Rattle.std.proofs.lemmas.Option.{get_or_from_slice_get}
 use Rattle.dwarf_walk.specs.Sections.{Sections}
-use Rattle.dwarf_entries.specs.Bases.{CompilationUnit}
+use Rattle.dwarf_entries.specs.Units.{CompilationUnit}
 use Rattle.dwarf_entries.specs.Scopes.{Scope, Tree, ParsedScope, items_limit, tree_of}
 use Rattle.dwarf_entries.specs.Private.Passes.{all_scopes}
-use Rattle.dwarf_entries.specs.TreeLaws.{IsValidRange}
-use Rattle.dwarf_entries.proofs.RangeLists.EntryLaws.{AllHold}
-use Rattle.dwarf_entries.proofs.RangeLists.ScopeBudget.{Fits, covers-fits}
+use Rattle.dwarf_ranges.specs.Ranges.{IsValidRange}
+use Rattle.dwarf_ranges.proofs.EntryLaws.{AllHold}
+use Rattle.dwarf_ranges.proofs.ScopeBudget.{Fits, covers-fits}
 use Rattle.dwarf_entries.proofs.Results.TreeParts.{after-tree, scope-at, all-are}
 use Rattle.dwarf_entries.proofs.UnitPasses.PassLaws.{element}
 

@@ -8,7 +8,7 @@ use Rattle.dwarf_units.specs.Entries.{Die}
 use Rattle.dwarf_walk.specs.declared.scope_kind.ScopeKind.{ScopeKind}
 use Rattle.dwarf_walk.specs.ScopeEntries.{kind_of, is_scope}
 use Rattle.dwarf_walk.specs.Sections.{Sections}
-use Rattle.dwarf_entries.specs.Bases.{CompilationUnit, units_read}
+use Rattle.dwarf_entries.specs.Units.{CompilationUnit, units_read}
 use Rattle.dwarf_entries.specs.Scopes.{Scope, ScopeSite, ParsedScope, Tree, roots_from, tree_of}
 use Rattle.dwarf_entries.specs.Private.Passes.{first_number, all_sites, parse_scope, all_scopes}
 use Rattle.dwarf_entries.specs.TreeLaws.{IsEntry}

@@ -13,7 +13,7 @@ use Rattle.dwarf_units.specs.Private.Rising.{RiseWithin}
 use Rattle.dwarf_entries.specs.declared.scope.Root.{Root}
 use Rattle.dwarf_walk.specs.ScopeEntries.{is_scope, number_of}
 use Rattle.dwarf_walk.specs.Sections.{Sections}
-use Rattle.dwarf_entries.specs.Bases.{CompilationUnit}
+use Rattle.dwarf_entries.specs.Units.{CompilationUnit}
 use Rattle.dwarf_entries.specs.Scopes.{Scope, Tree, ParsedScope, root_of, roots_from, tree_of}
 use Rattle.dwarf_entries.specs.TreeLaws.{RiseBelow}
 use Rattle.dwarf_entries.proofs.OriginChains.ReferenceLaws.{within-le}

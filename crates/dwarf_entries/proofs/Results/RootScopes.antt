@@ -13,7 +13,7 @@ use Rattle.dwarf_units.specs.Entries.{Die}
 use Rattle.dwarf_walk.specs.ScopeEntries.{is_scope}
 use Rattle.dwarf_walk.specs.Sections.{Sections}
 use Rattle.dwarf_entries.specs.declared.scope.Root.{Root}
-use Rattle.dwarf_entries.specs.Bases.{CompilationUnit}
+use Rattle.dwarf_entries.specs.Units.{CompilationUnit}
 use Rattle.dwarf_entries.specs.Scopes.{Scope, Tree, ParsedScope, sites_in, stmt_list_of, root_of}
 use Rattle.dwarf_entries.specs.Scopes.{roots_from, tree_of}
 use Rattle.dwarf_entries.specs.Private.Passes.{first_number, parse_scope, all_sites}

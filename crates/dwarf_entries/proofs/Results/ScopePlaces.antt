@@ -8,7 +8,7 @@ use Rattle.std.proofs.lemmas.List.Elements.{recursion_from_All}
 use Rattle.std.proofs.lemmas.Option.{slice_get-get_or, slice_get_within}
 use Rattle.dwarf_bytes.proofs.Items.EachPlaces.{each-length}
 use Rattle.dwarf_walk.specs.Sections.{Sections}
-use Rattle.dwarf_entries.specs.Bases.{CompilationUnit}
+use Rattle.dwarf_entries.specs.Units.{CompilationUnit}
 use Rattle.dwarf_entries.specs.Order.{AreNumbered, AreNested, AreInOrder}
 use Rattle.dwarf_entries.specs.Scopes.{Scope, ScopeSite, ParsedScope, Tree, tree_of}
 use Rattle.dwarf_entries.specs.Private.Passes.{parse_scope, all_sites}

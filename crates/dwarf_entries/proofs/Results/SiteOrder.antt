@@ -11,7 +11,7 @@ use Rattle.dwarf_units.specs.Entries.{Die, below}
 use Rattle.dwarf_units.specs.Private.Rising.{RiseWithin}
 use Rattle.dwarf_walk.specs.ScopeEntries.{is_scope}
 use Rattle.dwarf_walk.specs.Sections.{Sections}
-use Rattle.dwarf_entries.specs.Bases.{CompilationUnit}
+use Rattle.dwarf_entries.specs.Units.{CompilationUnit}
 use Rattle.dwarf_entries.specs.Scopes.{ScopeSite}
 use Rattle.dwarf_entries.specs.Private.Passes.{number_of_scopes, first_number}
 use Rattle.dwarf_entries.proofs.OriginChains.ReferenceLaws.{within-le}

@@ -16,9 +16,9 @@ use Rattle.dwarf_bytes.proofs.Numbers.Moves.{same-ok}
 use Rattle.dwarf_units.proofs.TableLaws.{in_section-ok}
 use Rattle.dwarf_walk.specs.Sections.{Sections}
 use Rattle.dwarf_entries.specs.declared.origin_chains.EntryNames.{EntryNames}
-use Rattle.dwarf_entries.specs.Bases.{CompilationUnit, units_read}
+use Rattle.dwarf_entries.specs.Units.{CompilationUnit, units_read}
 use Rattle.dwarf_entries.specs.Names.{names_of}
-use Rattle.dwarf_entries.specs.Ranges.{Covering}
+use Rattle.dwarf_ranges.specs.Ranges.{Covering}
 use Rattle.dwarf_entries.specs.Scopes.{Tree, Scope, ScopeSite, ParsedScope, scope_at, tree_of}
 use Rattle.dwarf_entries.specs.Scopes.{scope_of_site, covers_there, roots_from}
 use Rattle.dwarf_entries.specs.Private.Passes.{parse_scope, all_sites, all_scopes}

@@ -10,7 +10,7 @@ use Rattle.std.proofs.lemmas.List.Sums.{position_or_len_is, sum_by-cons}
 use Rattle.std.proofs.lemmas.Option.{same_Some}
 use Rattle.dwarf_entries.specs.declared.scope.Root.{Root}
 use Rattle.dwarf_units.specs.Entries.{Die}
-use Rattle.dwarf_entries.specs.Bases.{CompilationUnit}
+use Rattle.dwarf_entries.specs.Units.{CompilationUnit}
 use Rattle.dwarf_walk.specs.ScopeEntries.{is_scope}
 use Rattle.dwarf_entries.specs.Scopes.{stmt_list_of, stmt_list_by_number, root_of, roots_from}
 use Rattle.dwarf_entries.specs.Private.Passes.{first_number}

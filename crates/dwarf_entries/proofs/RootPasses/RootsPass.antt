@@ -13,7 +13,7 @@ use Rattle.dwarf_walk.specs.declared.unit_entries.UnitEntries.{UnitEntries}
 use Rattle.dwarf_walk.specs.ScopeEntries.{is_scope}
 use Rattle.dwarf_walk.specs.Stored.{StoredUnit, root_in}
 use Rattle.dwarf_entries.specs.declared.scope.Root.{Root}
-use Rattle.dwarf_entries.specs.Bases.{CompilationUnit}
+use Rattle.dwarf_entries.specs.Units.{CompilationUnit}
 use Rattle.dwarf_entries.specs.Scopes.{root_of, roots_from}
 use Rattle.dwarf_entries.specs.Private.EntryOffsets.{scope_count}
 use Rattle.dwarf_entries.specs.Private.Passes.{number_of_scopes, first_number}

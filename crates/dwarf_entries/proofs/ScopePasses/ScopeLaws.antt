@@ -8,18 +8,19 @@ use Rattle.dwarf_bytes.specs.Bind.{◌>>=◌}
 use Rattle.dwarf_bytes.specs.Refusals.{Fails}
 use Rattle.dwarf_walk.specs.declared.unit_entries.ScopeEntry.{ScopeEntry}
 use Rattle.dwarf_walk.specs.Sections.{Sections}
-use Rattle.dwarf_entries.specs.declared.bases.Bases.{Bases}
+use Rattle.dwarf_ranges.specs.declared.bases.Bases.{Bases}
 use Rattle.dwarf_entries.specs.declared.origin_chains.EntryNames.{EntryNames}
-use Rattle.dwarf_entries.specs.declared.scope.Range.{Range}
+use Rattle.dwarf_ranges.specs.declared.range.Range.{Range}
 use Rattle.dwarf_entries.specs.declared.unit_scopes.ScopeNumbers.{ScopeNumbers}
-use Rattle.dwarf_entries.specs.Bases.{CompilationUnit}
+use Rattle.dwarf_entries.specs.Units.{CompilationUnit}
 use Rattle.dwarf_entries.specs.Names.{names_of}
-use Rattle.dwarf_entries.specs.Ranges.{Covering, covers_by, covers_of}
+use Rattle.dwarf_ranges.specs.Ranges.{Covering, covers_by, covers_of}
 use Rattle.dwarf_entries.specs.Scopes.{ParsedScope, ScopeSite, scope_by, scope_at, scope_of_site}
 use Rattle.dwarf_entries.specs.Scopes.{covers_there, roots_from}
 use Rattle.dwarf_entries.specs.Private.Members.{IsMember}
 use Rattle.dwarf_entries.specs.Private.Passes.{IsScopeSite, scope_facts, bases_of}
-use Rattle.dwarf_entries.specs.Private.Shared.{AddsRanges, AddsFacts}
+use Rattle.dwarf_ranges.specs.Ranges.{AddsRanges}
+use Rattle.dwarf_entries.specs.Private.Shared.{AddsFacts}
 use Rattle.dwarf_entries.proofs.UnitPasses.PassLaws.{first-fails}
 
 -- The bases of a unit.

@@ -16,7 +16,7 @@ use Rattle.dwarf_entries.specs.declared.scope.Root.{Root}
 use Rattle.dwarf_entries.specs.declared.scope.ScopeFacts.{ScopeFacts}
 use Rattle.dwarf_entries.specs.declared.scope_lists.ScopeLists.{ScopeLists}
 use Rattle.dwarf_entries.specs.declared.unit_scopes.ScopeNumbers.{ScopeNumbers}
-use Rattle.dwarf_entries.specs.Bases.{CompilationUnit}
+use Rattle.dwarf_entries.specs.Units.{CompilationUnit}
 use Rattle.dwarf_entries.specs.Scopes.{ParsedScope, ScopeSite, Scope, scope_at, sites_in}
 use Rattle.dwarf_entries.specs.Scopes.{stmt_list_of, roots_from}
 use Rattle.dwarf_entries.specs.Private.Passes.{IsScopeSite, IsSiteRead, AreParsedTo, first_number}

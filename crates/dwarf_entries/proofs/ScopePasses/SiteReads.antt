@@ -16,7 +16,7 @@ use Rattle.dwarf_walk.specs.Sections.{Sections}
 use Rattle.dwarf_walk.specs.Private.Rereading.{scope_entry_at}
 use Rattle.dwarf_walk.specs.Stored.{StoredUnit, scope_entry, scope_place, scope_places}
 use Rattle.dwarf_walk.specs.Stored.{stored_of}
-use Rattle.dwarf_entries.specs.Bases.{CompilationUnit}
+use Rattle.dwarf_entries.specs.Units.{CompilationUnit}
 use Rattle.dwarf_entries.specs.Scopes.{ScopeSite, site_of, sites_in}
 use Rattle.dwarf_entries.specs.Private.EntryOffsets.{stored_unit_of}
 use Rattle.dwarf_entries.proofs.ScopePasses.SiteLaws.{site-in}

@@ -15,8 +15,8 @@ use Rattle.dwarf_units.proofs.TableLaws.{in_section-ok}
 use Rattle.dwarf_walk.specs.declared.unit_entries.UnitEntries.{UnitEntries}
 use Rattle.dwarf_walk.specs.Sections.{Sections}
 use Rattle.dwarf_walk.specs.Stored.{StoredUnit, root_in, stored_of}
-use Rattle.dwarf_entries.specs.declared.bases.Bases.{Bases}
-use Rattle.dwarf_entries.specs.Bases.{CompilationUnit, bases_of_first, with_bases}
+use Rattle.dwarf_ranges.specs.declared.bases.Bases.{Bases}
+use Rattle.dwarf_entries.specs.Units.{CompilationUnit, bases_of_first, with_bases}
 use Rattle.dwarf_entries.specs.Private.EntryOffsets.{stored_unit_of}
 use Rattle.dwarf_entries.specs.Private.Passes.{PassedTo, bases_in, bases_of, all_bases}
 use Rattle.dwarf_entries.proofs.UnitPasses.PassLaws.{Faults, first-fault, pass-next, pass-fault}

@@ -24,7 +24,8 @@ use Rattle.dwarf_walk.specs.declared.entry_bitmap.EntryBitmap.{EntryBitmap}
 use Rattle.dwarf_walk.specs.EntryBitmap.{AddsOffsets, offsets_of}
 use Rattle.dwarf_walk.specs.Stored.{StoredUnit, stored_unit, stored_entries, stored_of}
 use Rattle.dwarf_walk.proofs.BitmapLaws.{adds-none, adds-more}
-use Rattle.dwarf_entries.specs.Bases.{CompilationUnit, no_bases, unit_of}
+use Rattle.dwarf_entries.specs.Units.{CompilationUnit, unit_of}
+use Rattle.dwarf_ranges.specs.Bases.{no_bases}
 use Rattle.dwarf_entries.specs.Private.EntryOffsets.{AreStored, stored_unit_of, all_offsets}
 use Rattle.dwarf_entries.specs.Private.EntryOffsets.{dies_of}
 use Rattle.dwarf_entries.specs.Private.Passes.{PassedTo, all_entries}

@@ -3,7 +3,7 @@ use Rattle.std.proofs.Common.{◌≡◌, List, sym, subst}
 use Rattle.dwarf_walk.specs.declared.entry_bitmap.EntryBitmap.{EntryBitmap}
 use Rattle.dwarf_walk.specs.declared.entry_reader.EntryReader.{EntryReader}
 use Rattle.dwarf_walk.specs.declared.unit_entries.UnitEntries.{UnitEntries}
-use Rattle.dwarf_entries.specs.declared.bases.Bases.{Bases}
+use Rattle.dwarf_ranges.specs.declared.bases.Bases.{Bases}
 use Rattle.dwarf_entries.specs.declared.name_cache.NameCache.{NameCache}
 use Rattle.dwarf_entries.specs.declared.string_sections.StringSections.{StringSections}
 use Rattle.dwarf_walk.specs.Sections.{Sections}

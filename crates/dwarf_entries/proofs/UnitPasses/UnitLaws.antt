@@ -20,7 +20,8 @@ use Rattle.dwarf_units.proofs.TableLaws.{table_is, in_section-ok}
 use Rattle.dwarf_walk.specs.declared.entry_bitmap.EntryBitmap.{EntryBitmap}
 use Rattle.dwarf_walk.specs.EntryBitmap.{has_entry, AddsOffsets, offsets_of}
 use Rattle.dwarf_walk.specs.Sections.{Sections}
-use Rattle.dwarf_entries.specs.Bases.{CompilationUnit, no_bases, with_bases, unit_of, units_read}
+use Rattle.dwarf_entries.specs.Units.{CompilationUnit, with_bases, unit_of, units_read}
+use Rattle.dwarf_ranges.specs.Bases.{no_bases}
 use Rattle.dwarf_entries.specs.Private.EntryOffsets.{IsBitmapOf, all_offsets, dies_of}
 use Rattle.dwarf_entries.specs.Private.ObjectUnits.{ObjectUnits, units_or_none, units_of_object}
 use Rattle.dwarf_entries.specs.Private.Passes.{all_entries, all_bases}

@@ -6,7 +6,7 @@ use Rattle.dwarf_walk.specs.declared.unit_entries.UnitEntries.{UnitEntries}
 use Rattle.dwarf_walk.specs.declared.entry_bitmap.EntryBitmap.{EntryBitmap}
 use Rattle.dwarf_walk.specs.EntryBitmap.{has_entry, offsets_of}
 use Rattle.dwarf_walk.specs.Stored.{StoredUnit, stored_unit, stored_of}
-use Rattle.dwarf_entries.specs.Bases.{CompilationUnit}
+use Rattle.dwarf_entries.specs.Units.{CompilationUnit}
 
 -- The number of scopes of the units of the program.
 abbrev pub scope_count : List UnitEntries → ℕ

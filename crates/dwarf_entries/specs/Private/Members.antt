@@ -10,7 +10,7 @@ use Rattle.dwarf_entries.specs.declared.references.UnitPlace.{UnitPlace}
 use Rattle.dwarf_entries.specs.declared.origin_chains.UnitAttribute.{UnitAttribute}
 use Rattle.dwarf_entries.specs.declared.origin_chains.FirstNames.{FirstNames}
 use Rattle.dwarf_units.specs.declared.attributes.AttributeValue.{AttributeValue}
-use Rattle.dwarf_entries.specs.Bases.{CompilationUnit}
+use Rattle.dwarf_entries.specs.Units.{CompilationUnit}
 use Rattle.dwarf_entries.specs.Names.{Member, members_of, member_at, first_on}
 use Rattle.dwarf_bytes.specs.Refusals.{Fails}
 use Rattle.dwarf_walk.specs.Stored.{named_entry}

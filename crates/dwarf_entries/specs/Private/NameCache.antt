@@ -8,7 +8,7 @@ use Rattle.dwarf_entries.specs.declared.name_cache.PackedNames.{PackedNames}
 use Rattle.dwarf_entries.specs.declared.origin_chains.EntryNames.{EntryNames}
 use Rattle.dwarf_entries.specs.declared.references.UnitPlace.{UnitPlace}
 use Rattle.dwarf_walk.specs.Sections.{Sections}
-use Rattle.dwarf_entries.specs.Bases.{CompilationUnit}
+use Rattle.dwarf_entries.specs.Units.{CompilationUnit}
 use Rattle.dwarf_entries.specs.Names.{Member, target_of, names_within}
 use Rattle.dwarf_entries.specs.Scopes.{text_by}
 use Rattle.dwarf_entries.specs.Private.Members.{member_in}

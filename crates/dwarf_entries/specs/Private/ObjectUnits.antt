@@ -5,11 +5,11 @@ use Rattle.dwarf_walk.specs.declared.entry_reader.EntryReader.{EntryReader}
 use Rattle.dwarf_walk.specs.declared.unit_entries.UnitEntries.{UnitEntries}
 use Rattle.dwarf_walk.specs.Sections.{Sections}
 use Rattle.dwarf_walk.specs.Private.Rereading.{IsReaderOf}
-use Rattle.dwarf_entries.specs.declared.bases.Bases.{Bases}
+use Rattle.dwarf_ranges.specs.declared.bases.Bases.{Bases}
 use Rattle.dwarf_entries.specs.declared.name_cache.NameCache.{NameCache}
 use Rattle.dwarf_entries.specs.declared.string_sections.StringSections.{StringSections}
 use Rattle.dwarf_bytes.specs.declared.fault.LoadFault.{LoadFault}
-use Rattle.dwarf_entries.specs.Bases.{CompilationUnit, units_read}
+use Rattle.dwarf_entries.specs.Units.{CompilationUnit, units_read}
 use Rattle.dwarf_entries.specs.Private.EntryOffsets.{AreStored, IsBitmapOf}
 use Rattle.dwarf_entries.specs.Private.NameCache.{IsCacheOf}
 use Rattle.dwarf_entries.specs.Private.Passes.{bases_of}

@@ -9,14 +9,15 @@ use Rattle.dwarf_bytes.specs.Items.{At, with_offset, each}
 use Rattle.dwarf_bytes.specs.Refusals.{memory_fault, in_section}
 use Rattle.dwarf_forms.specs.Declarations.{Declaration}
 use Rattle.dwarf_units.specs.declared.unit_headers.UnitHeader.{UnitHeader}
-use Rattle.dwarf_entries.specs.declared.bases.Bases.{Bases}
+use Rattle.dwarf_ranges.specs.declared.bases.Bases.{Bases}
 use Rattle.dwarf_walk.specs.declared.unit_entries.RootEntry.{RootEntry}
 use Rattle.dwarf_entries.specs.declared.scope.ScopeFacts.{ScopeFacts}
 use Rattle.dwarf_entries.specs.declared.scope_lists.ScopeLists.{ScopeLists}
 use Rattle.dwarf_entries.specs.declared.origin_chains.EntryNames.{EntryNames}
 use Rattle.dwarf_entries.specs.declared.unit_scopes.ScopeNumbers.{ScopeNumbers}
 use Rattle.dwarf_walk.specs.Sections.{Sections}
-use Rattle.dwarf_entries.specs.Bases.{CompilationUnit, no_bases, bases_by, unit_of, with_bases}
+use Rattle.dwarf_entries.specs.Units.{CompilationUnit, unit_of, with_bases}
+use Rattle.dwarf_ranges.specs.Bases.{no_bases, bases_by}
 use Rattle.dwarf_entries.specs.Scopes.{ParsedScope, ScopeSite, items_limit, sites_in}
 use Rattle.dwarf_entries.specs.Scopes.{roots_from, stmt_list_by_number, scopes_of, scope_at}
 use Rattle.dwarf_entries.specs.Scopes.{stmt_list_of}

@@ -7,23 +7,13 @@ use Rattle.dwarf_bytes.specs.Refusals.{Fails}
 use Rattle.dwarf_entries.specs.declared.calls.CallSite.{CallSite}
 use Rattle.dwarf_entries.specs.declared.calls.Calls.{Calls}
 use Rattle.dwarf_entries.specs.declared.calls.Calls.TheVariants as calls
-use Rattle.dwarf_entries.specs.declared.scope.Range.{Range}
+use Rattle.dwarf_ranges.specs.declared.range.Range.{Range}
 use Rattle.dwarf_entries.specs.declared.scope.Root.{Root}
 use Rattle.dwarf_entries.specs.declared.scope.Scope.{Scope as StoredScope}
 use Rattle.dwarf_entries.specs.declared.scope.ScopeFacts.{ScopeFacts}
 use Rattle.dwarf_entries.specs.declared.scope_lists.ScopeLists.{ScopeLists}
-use Rattle.dwarf_entries.specs.Ranges.{Covering}
 use Rattle.dwarf_entries.specs.Scopes.{Scope, scope_of, stmt_list_by_number, wide_index}
 use Rattle.dwarf_entries.specs.Scopes.{ParsedScope}
-
--- The ranges of an entry are appended. On success, the result also has the number of range list
--- items that were read.
-abbrev pub AddsRanges : Result ℕ Cause → List Range → List Range → Result Covering Cause
-    → Type 0
-AddsRanges (Ok items) old new outcome =
-    (found : List Range) × (outcome ≡ Ok (record { ranges = found; items = items }))
-    × (new ≡ old ++ found)
-AddsRanges (Err cause) old new outcome = Fails cause outcome
 
 -- The data of a scope before it is packed, given the roots and its ranges.
 abbrev pub facts_of : List Root → List Range → ScopeFacts → Scope

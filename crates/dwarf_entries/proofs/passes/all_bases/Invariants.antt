@@ -1,6 +1,6 @@
 use Rattle.std.proofs.Common.{List}
 use Rattle.dwarf_walk.specs.Sections.{sections_of}
-use Rattle.dwarf_entries.specs.Bases.{CompilationUnit}
+use Rattle.dwarf_entries.specs.Units.{CompilationUnit}
 use Rattle.dwarf_entries.specs.Private.EntryOffsets.{AreStored}
 use Rattle.dwarf_entries.proofs.UnitPasses.BasesPass.{BasesSoFar}
 use Rattle.dwarf_entries.proofs.passes.all_bases.Given as goal

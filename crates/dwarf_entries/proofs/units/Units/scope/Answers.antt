@@ -4,7 +4,7 @@ use Rattle.dwarf_walk.specs.Sections.{sections_of}
 use Rattle.dwarf_entries.specs.Private.ObjectUnits.{ObjectUnits}
 use Rattle.dwarf_entries.proofs.ScopePasses.ScopeLaws.{site-member, names-fault, covers-fault}
 use Rattle.dwarf_entries.proofs.ScopePasses.ScopeLaws.{scope-is, bases-there}
-use Rattle.dwarf_entries.proofs.RangeLists.ScopeBudget.{budget-left}
+use Rattle.dwarf_ranges.proofs.ScopeBudget.{budget-left}
 use Rattle.dwarf_entries.proofs.UnitPasses.ObjectLaws.{seen}
 use Rattle.dwarf_entries.proofs.units.Units.scope.Goals as goal
 

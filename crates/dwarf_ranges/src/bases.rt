@@ -3,7 +3,7 @@
 
 ghost use Rattle.std.specs.Prelude.{◌≡◌, ◌+◌, ◌*◌};
 ghost use Rattle.dwarf_bytes.specs.Position.{Reads};
-ghost use Rattle.dwarf_entries.specs.Bases.{item_len, item_in, item_at, address_of};
+ghost use Rattle.dwarf_ranges.specs.Bases.{item_len, item_in, item_at, address_of};
 ghost use Rattle.dwarf_walk.specs.Sections.{sections_of};
 
 use dwarf_bytes::constants::DW_FORM_ADDR;
@@ -13,7 +13,7 @@ use dwarf_walk::Sections;
 
 /// A table of a unit: its base, its header, and the format of the unit.
 #[derive(Clone, Copy)]
-pub(crate) struct Table {
+pub struct Table {
     pub(crate) base: u64,
     pub(crate) head: TableHead,
     pub(crate) format: Format,
@@ -21,11 +21,11 @@ pub(crate) struct Table {
 
 /// The tables and the low_pc of a unit. Each is `None` if the root lacks the attribute.
 #[derive(Clone, Copy)]
-pub(crate) struct Bases {
-    pub(crate) str_offsets: Option<Table>,
-    pub(crate) addr: Option<Table>,
-    pub(crate) rnglists: Option<Table>,
-    pub(crate) low_pc: Option<u64>,
+pub struct Bases {
+    pub str_offsets: Option<Table>,
+    pub addr: Option<Table>,
+    pub rnglists: Option<Table>,
+    pub low_pc: Option<u64>,
 }
 
 /// Returns the size in bytes of an item of a table.
@@ -50,7 +50,7 @@ fn item(kind: TableKind, format: Format, cursor: &mut Cursor) -> Result<u64, Rea
 
 /// Returns the item at an index of a table. The index counts from the base of the table. Fails if
 /// the unit has no such table, if the index is out of range, or if the item is truncated.
-pub(crate) fn item_at(
+pub fn item_at(
     kind: TableKind,
     section: &[u8],
     table: Option<Table>,

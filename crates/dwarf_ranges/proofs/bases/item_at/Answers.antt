@@ -1,6 +1,6 @@
 use Rattle.std.proofs.Common.{refl}
-use Rattle.dwarf_entries.proofs.RangeLists.BaseLaws.{item_at-outside}
-use Rattle.dwarf_entries.proofs.bases.item_at.Goals as goal
+use Rattle.dwarf_ranges.proofs.BaseLaws.{item_at-outside}
+use Rattle.dwarf_ranges.proofs.bases.item_at.Goals as goal
 
 pub returns-then-place-section : goal.returns-then-place-section
 returns-then-place-section c =

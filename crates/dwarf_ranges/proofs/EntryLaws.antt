@@ -14,19 +14,19 @@ use Rattle.dwarf_bytes.specs.Numbers.{u8_at, u64_at, uleb_at}
 use Rattle.dwarf_bytes.proofs.Numbers.Advance.{after-bind, after-test, reading-ok, MovesOn}
 use Rattle.dwarf_bytes.proofs.Numbers.Moves.{same-ok, same-item, uleb-moves, u8-moves}
 use Rattle.dwarf_bytes.proofs.Numbers.Moves.{fixed_at-moves}
-use Rattle.dwarf_entries.specs.declared.scope.Range.{Range}
-use Rattle.dwarf_entries.specs.declared.bases.Bases.{Bases}
-use Rattle.dwarf_entries.specs.declared.range_entries.Operand.{Operand}
-use Rattle.dwarf_entries.specs.declared.range_entries.Operand.TheVariants.{Index, Address, Number}
-use Rattle.dwarf_entries.specs.declared.range_entries.Operands.{Operands}
-use Rattle.dwarf_entries.specs.declared.range_entries.RangeListEntry.{RangeListEntry}
-use Rattle.dwarf_entries.specs.declared.range_entries.RangeListEntry.TheVariants.{Base, Covers}
+use Rattle.dwarf_ranges.specs.declared.range.Range.{Range}
+use Rattle.dwarf_ranges.specs.declared.bases.Bases.{Bases}
+use Rattle.dwarf_ranges.specs.declared.range_entries.Operand.{Operand}
+use Rattle.dwarf_ranges.specs.declared.range_entries.Operand.TheVariants.{Index, Address, Number}
+use Rattle.dwarf_ranges.specs.declared.range_entries.Operands.{Operands}
+use Rattle.dwarf_ranges.specs.declared.range_entries.RangeListEntry.{RangeListEntry}
+use Rattle.dwarf_ranges.specs.declared.range_entries.RangeListEntry.TheVariants.{Base, Covers}
 use Rattle.dwarf_walk.specs.Sections.{Sections}
-use Rattle.dwarf_entries.specs.Bases.{item_at}
-use Rattle.dwarf_entries.specs.Ranges.{range_between, tombstone, live_range, live_range_from_base}
-use Rattle.dwarf_entries.specs.Ranges.{ranges_in, base_after, operand_at, end_of, range_of}
-use Rattle.dwarf_entries.specs.Ranges.{operands_of, entry_at, list_entry_of, list_entry_at}
-use Rattle.dwarf_entries.specs.TreeLaws.{IsValidRange}
+use Rattle.dwarf_ranges.specs.Bases.{item_at}
+use Rattle.dwarf_ranges.specs.Ranges.{range_between, tombstone, live_range, live_range_from_base}
+use Rattle.dwarf_ranges.specs.Ranges.{ranges_in, base_after, operand_at, end_of, range_of}
+use Rattle.dwarf_ranges.specs.Ranges.{operands_of, entry_at, list_entry_of, list_entry_at}
+use Rattle.dwarf_ranges.specs.Ranges.{IsValidRange}
 
 -- ---- the range between two bounds
 

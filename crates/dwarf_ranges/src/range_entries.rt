@@ -2,19 +2,15 @@
 
 ghost use Rattle.std.specs.Prelude.{◌≡◌, ◌<◌, IsSome, IfOk};
 ghost use Rattle.dwarf_bytes.specs.Refusals.{ReadsField, ReadsNext};
-ghost use Rattle.dwarf_entries.specs.Ranges.{operands_of, range_between, live_range};
-ghost use Rattle.dwarf_entries.specs.Ranges.{live_range_from_base, operand_at, end_of, range_of};
-ghost use Rattle.dwarf_entries.specs.Ranges.{entry_at, list_entry_of};
+ghost use Rattle.dwarf_ranges.specs.Ranges.{operands_of, operand_at, end_of, range_of, entry_at};
+ghost use Rattle.dwarf_ranges.specs.Ranges.{list_entry_of};
 ghost use Rattle.dwarf_walk.specs.Sections.{sections_of};
 
 use crate::bases::{Bases, item_at};
-use crate::scope::Range;
+use crate::range::{Range, live_range, live_range_from_base};
 use dwarf_bytes::constants::*;
 use dwarf_bytes::{Cause, Cursor, TableKind};
 use dwarf_walk::Sections;
-
-/// The tombstone: the start address of discarded code (2^64-1). No code has this address.
-const DROPPED: u64 = u64::MAX;
 
 /// An operand of an entry: an index of `.debug_addr`, an address, or a number.
 #[derive(Clone, Copy)]
@@ -56,44 +52,6 @@ fn operands_of(code: u8) -> Result<Option<Operands>, Cause>
 pub(crate) enum RangeListEntry {
     Base(u64),
     Covers(Option<Range>),
-}
-
-/// Returns the range from `start` up to `end` (exclusive), or `None` if they are equal. Fails if
-/// the range is backwards or does not fit into 64 bits.
-fn range_between(start: u128, end: u128) -> Result<Option<Range>, Cause>
-    ensures { result ≡ range_between (start, end) }
-{
-    let (Ok(from), Ok(to)) = (u64::try_from(start), u64::try_from(end)) else {
-        return Err(Cause::Overflow);
-    };
-    if to < from {
-        return Err(Cause::RangeBackwards);
-    }
-    if from == to {
-        return Ok(None);
-    }
-    Ok(Some(Range { from, to }))
-}
-
-/// Returns the range from `start` up to `end`, or `None` if `start` is the tombstone.
-pub(crate) fn live_range(start: u128, end: u128) -> Result<Option<Range>, Cause>
-    ensures { result ≡ live_range (start, end) }
-{
-    if start == u128::from(DROPPED) {
-        return Ok(None);
-    }
-    range_between(start, end)
-}
-
-/// Returns the range between two offsets from a base, or `None` if the base is the tombstone.
-fn live_range_from_base(base: u64, start: u64, end: u64) -> Result<Option<Range>, Cause>
-    ensures { result ≡ live_range_from_base base (start, end) }
-{
-    if base == DROPPED {
-        return Ok(None);
-    }
-    let base = u128::from(base);
-    range_between(base + u128::from(start), base + u128::from(end))
 }
 
 /// Reads an operand at the cursor. The value of an index is the address at the index.

@@ -1,7 +1,7 @@
 //! The bases that the root of a unit defines for the whole unit (DWARF 5, 3.1.1).
 
 ghost use Rattle.std.specs.Prelude.{◌≡◌};
-ghost use Rattle.dwarf_entries.specs.Bases.{optional, table_of, address_of, bases_by};
+ghost use Rattle.dwarf_ranges.specs.Bases.{optional, table_of, address_of, bases_by};
 ghost use Rattle.dwarf_walk.specs.Sections.{sections_of};
 
 use crate::bases::{Bases, Table, address_of};
@@ -11,11 +11,7 @@ use dwarf_walk::{RootEntry, Sections};
 
 /// Reads the bases that the root of a unit defines. The attributes are validated in the order of
 /// the fields of `Bases`.
-pub(crate) fn bases(
-    sections: &Sections<'_>,
-    format: Format,
-    root: &RootEntry,
-) -> Result<Bases, Cause>
+pub fn root_bases(sections: &Sections<'_>, format: Format, root: &RootEntry) -> Result<Bases, Cause>
     ensures { result ≡ bases_by (sections_of sections.now) format root.now.str_offsets_base
         root.now.addr_base root.now.rnglists_base root.now.low_pc }
 {

@@ -1,31 +1,25 @@
--- The units of an object, and the bases that the root of a unit defines for the whole unit: its
--- tables and its low_pc (DWARF 5, 3.1.1, 7.26 to 7.28).
-use Rattle.std.specs.Prelude.{ℕ, ◌+◌, ◌*◌, List, [], ◌∷◌, Option, Some, None, Result, Ok, Err}
-use Rattle.std.specs.Prelude.{nat_le, ◌==◌, if◌then◌else◌, zip}
+-- The bases that the root of a unit defines for the whole unit: its tables and its low_pc
+-- (DWARF 5, 3.1.1, 7.26 to 7.28).
+use Rattle.std.specs.Prelude.{ℕ, ◌+◌, ◌*◌, List, Option, Some, None, Result, Ok, Err, nat_le, ◌==◌}
+use Rattle.std.specs.Prelude.{if◌then◌else◌}
 use Rattle.dwarf_bytes.specs.declared.constants.TheConstants.{DW_AT_ADDR_BASE, DW_AT_LOW_PC}
 use Rattle.dwarf_bytes.specs.declared.constants.TheConstants.{DW_AT_RNGLISTS_BASE}
 use Rattle.dwarf_bytes.specs.declared.constants.TheConstants.{DW_AT_STR_OFFSETS_BASE, DW_FORM_ADDR}
 use Rattle.dwarf_bytes.specs.declared.fault.Cause.{Cause}
 use Rattle.dwarf_bytes.specs.declared.fault.Cause.TheVariants as causes
-use Rattle.dwarf_bytes.specs.declared.fault.LoadFault.{LoadFault}
 use Rattle.dwarf_bytes.specs.declared.fault.ReadFault.{ReadFault}
-use Rattle.dwarf_bytes.specs.declared.fault.Section.TheVariants as names
 use Rattle.dwarf_bytes.specs.declared.format.Format.{Format}
 use Rattle.dwarf_bytes.specs.declared.tables.TableKind.{TableKind}
 use Rattle.dwarf_bytes.specs.declared.tables.TableKind.TheVariants.{StrOffsets, Addr, RngLists}
 use Rattle.dwarf_bytes.specs.Bind.{◌>>=◌}
-use Rattle.dwarf_bytes.specs.Items.{At, each, reading, refuse_if, with_offset}
+use Rattle.dwarf_bytes.specs.Items.{reading, refuse_if}
 use Rattle.dwarf_bytes.specs.Numbers.{u64_at, offset_len, offset_at}
-use Rattle.dwarf_bytes.specs.Refusals.{in_section}
 use Rattle.dwarf_bytes.specs.Tables.{table_before}
-use Rattle.dwarf_forms.specs.Declarations.{Declaration}
-use Rattle.dwarf_units.specs.declared.unit_headers.UnitHeader.{UnitHeader}
-use Rattle.dwarf_entries.specs.declared.bases.Table.{Table}
-use Rattle.dwarf_entries.specs.declared.bases.Bases.{Bases}
-use Rattle.dwarf_walk.specs.Sections.{Sections}
 use Rattle.dwarf_units.specs.declared.attributes.AttributeValue.{AttributeValue}
-use Rattle.dwarf_units.specs.Units.{units_of, tables_of}
-use Rattle.dwarf_units.specs.Entries.{Die, attribute, entries_of}
+use Rattle.dwarf_units.specs.Entries.{Die, attribute}
+use Rattle.dwarf_walk.specs.Sections.{Sections}
+use Rattle.dwarf_ranges.specs.declared.bases.Table.{Table}
+use Rattle.dwarf_ranges.specs.declared.bases.Bases.{Bases}
 
 -- The bases of a unit without a root.
 abbrev pub no_bases : Bases
@@ -82,37 +76,3 @@ abbrev pub bases_at : Sections → Format → Die → Result Bases Cause
 bases_at sections format root = bases_by sections format
     (attribute root DW_AT_STR_OFFSETS_BASE) (attribute root DW_AT_ADDR_BASE)
     (attribute root DW_AT_RNGLISTS_BASE) (attribute root DW_AT_LOW_PC)
-
--- A unit with its entries and with the bases that its root defines. The root is the first entry,
--- if there is one.
-pub record CompilationUnit : Type 0 where
-  pub header : UnitHeader
-  pub dies : List Die
-  pub bases : Bases
-
--- A unit with its entries, before its root is read.
-abbrev pub unit_of : List ℕ → UnitHeader → List Declaration → Result CompilationUnit At
-unit_of info header table =
-    entries_of info header table
-    >>= λ dies. Ok (record { header = header; dies = dies; bases = no_bases })
-
--- The bases that the first of these entries defines.
-abbrev pub bases_of_first : Sections → Format → List Die → Result Bases At
-bases_of_first sections format [] = Ok no_bases
-bases_of_first sections format (root ∷ dies) =
-    with_offset root.offset (bases_at sections format root)
-
--- The same unit, with the bases that its root defines.
-abbrev pub with_bases : Sections → CompilationUnit → Result CompilationUnit At
-with_bases sections unit =
-    bases_of_first sections unit.header.format unit.dies
-    >>= λ bases. Ok (record { header = unit.header; dies = unit.dies; bases = bases })
-
--- The units of an object. The passes over all units read headers, tables, entries and roots.
-unfoldable pub units_read : Sections → Result (List CompilationUnit) LoadFault
-units_read s = do
-  headers ← in_section names.DebugInfo (units_of s.debug_info)
-  tables ← in_section names.DebugAbbrev (tables_of s.debug_abbrev headers)
-  units ← in_section names.DebugInfo
-      (each (λ _ p. unit_of s.debug_info p.0 p.1) (zip headers tables))
-  in_section names.DebugInfo (each (λ _ unit. with_bases s unit) units)

@@ -1,6 +1,6 @@
 -- The address ranges of an entry (DWARF 5, 2.17 and 7.25).
-use Rattle.std.specs.Prelude.{ℕ, ◌+◌, ◌-◌, ◌^◌, List, [], ◌∷◌, length, Option, Some, None, Result}
-use Rattle.std.specs.Prelude.{Ok, Err, nat_lt, nat_le, ◌==◌, ◌||◌, if◌then◌else◌, ok_or}
+use Rattle.std.specs.Prelude.{◌≡◌, ℕ, ◌+◌, ◌-◌, ◌^◌, ◌<◌, List, [], ◌∷◌, ◌++◌, length, Option, Some}
+use Rattle.std.specs.Prelude.{None, Result, Ok, Err, nat_lt, nat_le, ◌==◌, ◌||◌, if◌then◌else◌, ok_or}
 use Rattle.std.specs.Prelude.{option_to_list, flat_map, slice_get}
 use Rattle.dwarf_bytes.specs.declared.constants.TheConstants.{DW_AT_HIGH_PC, DW_AT_LOW_PC}
 use Rattle.dwarf_bytes.specs.declared.constants.TheConstants.{DW_AT_RANGES, DW_FORM_RNGLISTX}
@@ -9,19 +9,24 @@ use Rattle.dwarf_bytes.specs.declared.fault.Cause.TheVariants as causes
 use Rattle.dwarf_bytes.specs.declared.tables.TableKind.TheVariants.{Addr, RngLists}
 use Rattle.dwarf_bytes.specs.Bind.{◌>>=◌}
 use Rattle.dwarf_bytes.specs.Items.{Next, Item, End, reading, refuse_if, without_offset, items_from}
+use Rattle.dwarf_bytes.specs.Refusals.{Fails}
 use Rattle.dwarf_bytes.specs.Numbers.{u8_at, u64_at, uleb_at}
-use Rattle.dwarf_entries.specs.declared.scope.Range.{Range}
-use Rattle.dwarf_entries.specs.declared.bases.Bases.{Bases}
-use Rattle.dwarf_entries.specs.declared.range_entries.Operand.{Operand}
-use Rattle.dwarf_entries.specs.declared.range_entries.Operand.TheVariants.{Index, Address, Number}
-use Rattle.dwarf_entries.specs.declared.range_entries.Operands.{Operands}
-use Rattle.dwarf_entries.specs.declared.range_entries.RangeListEntry.{RangeListEntry}
-use Rattle.dwarf_entries.specs.declared.range_entries.RangeListEntry.TheVariants.{Base, Covers}
+use Rattle.dwarf_ranges.specs.declared.range.Range.{Range}
+use Rattle.dwarf_ranges.specs.declared.bases.Bases.{Bases}
+use Rattle.dwarf_ranges.specs.declared.range_entries.Operand.{Operand}
+use Rattle.dwarf_ranges.specs.declared.range_entries.Operand.TheVariants.{Index, Address, Number}
+use Rattle.dwarf_ranges.specs.declared.range_entries.Operands.{Operands}
+use Rattle.dwarf_ranges.specs.declared.range_entries.RangeListEntry.{RangeListEntry}
+use Rattle.dwarf_ranges.specs.declared.range_entries.RangeListEntry.TheVariants.{Base, Covers}
 use Rattle.dwarf_walk.specs.Sections.{Sections}
 use Rattle.dwarf_units.specs.Attributes.{is_among, address_forms}
 use Rattle.dwarf_units.specs.declared.attributes.AttributeValue.{AttributeValue}
 use Rattle.dwarf_units.specs.Entries.{Die, attribute}
-use Rattle.dwarf_entries.specs.Bases.{item_at, address_of}
+use Rattle.dwarf_ranges.specs.Bases.{item_at, address_of}
+
+-- A range is nonempty, and its addresses have 64 bits.
+abbrev pub IsValidRange : Range → Type 0
+IsValidRange range = (range.from < range.to) × (range.to < 2 ^ 64)
 
 -- The range from a start up to an end. It is None if they are equal.
 abbrev pub range_between : ℕ × ℕ → Result (Option Range) Cause
@@ -191,3 +196,12 @@ covers_by budget sections bases low None None = Ok (record { ranges = []; items 
 unfoldable pub covers_of : ℕ → Sections → Bases → Die → Result Covering Cause
 covers_of budget sections bases die = covers_by budget sections bases
     (attribute die DW_AT_LOW_PC) (attribute die DW_AT_HIGH_PC) (attribute die DW_AT_RANGES)
+
+-- The ranges of an entry are appended. On success, the result also has the number of range list
+-- items that were read.
+abbrev pub AddsRanges : Result ℕ Cause → List Range → List Range → Result Covering Cause
+    → Type 0
+AddsRanges (Ok items) old new outcome =
+    (found : List Range) × (outcome ≡ Ok (record { ranges = found; items = items }))
+    × (new ≡ old ++ found)
+AddsRanges (Err cause) old new outcome = Fails cause outcome

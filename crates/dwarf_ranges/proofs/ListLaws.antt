@@ -10,15 +10,15 @@ use Rattle.dwarf_bytes.specs.Items.{Next, Item, End, Advances}
 use Rattle.dwarf_bytes.proofs.Numbers.Advance.{MovesOn}
 use Rattle.dwarf_bytes.proofs.Items.Turns.{SoFar, so-far-none, so-far-item, so-far-end}
 use Rattle.dwarf_bytes.proofs.Items.Turns.{so-far-fault}
-use Rattle.dwarf_entries.specs.declared.scope.Range.{Range}
-use Rattle.dwarf_entries.specs.declared.bases.Bases.{Bases}
-use Rattle.dwarf_entries.specs.declared.range_entries.RangeListEntry.{RangeListEntry}
+use Rattle.dwarf_ranges.specs.declared.range.Range.{Range}
+use Rattle.dwarf_ranges.specs.declared.bases.Bases.{Bases}
+use Rattle.dwarf_ranges.specs.declared.range_entries.RangeListEntry.{RangeListEntry}
 use Rattle.dwarf_walk.specs.Sections.{Sections}
-use Rattle.dwarf_entries.specs.Private.Shared.{AddsRanges}
-use Rattle.dwarf_entries.specs.Ranges.{next_base, base_after, ranges_in, list_entry_of}
-use Rattle.dwarf_entries.specs.Ranges.{list_entry_at, list_at}
-use Rattle.dwarf_entries.proofs.RangeLists.BaseLaws.{fixed-outside}
-use Rattle.dwarf_entries.proofs.RangeLists.EntryLaws.{list_entry_at-advances}
+use Rattle.dwarf_ranges.specs.Ranges.{AddsRanges}
+use Rattle.dwarf_ranges.specs.Ranges.{next_base, base_after, ranges_in, list_entry_of}
+use Rattle.dwarf_ranges.specs.Ranges.{list_entry_at, list_at}
+use Rattle.dwarf_ranges.proofs.BaseLaws.{fixed-outside}
+use Rattle.dwarf_ranges.proofs.EntryLaws.{list_entry_at-advances}
 
 base_after-push : (base : Option ℕ) (before : List RangeListEntry) (x : RangeListEntry)
     → base_after base (before ++ x ∷ []) ≡ next_base x (base_after base before)

@@ -1,14 +1,14 @@
 //! The address ranges of a scope (DWARF 5, 2.17 and 7.25).
 
 ghost use Rattle.std.specs.Prelude.{◌≡◌, ◌≤◌, ◌++◌, IfOk, length};
-ghost use Rattle.dwarf_entries.specs.Ranges.{list_place, list_at, list_of, high_of, pair_range};
-ghost use Rattle.dwarf_entries.specs.Ranges.{pair_at, covers_by, next_base, ranges_in};
-ghost use Rattle.dwarf_entries.specs.Private.Shared.{AddsRanges};
+ghost use Rattle.dwarf_ranges.specs.Ranges.{list_place, list_at, list_of, high_of, pair_range};
+ghost use Rattle.dwarf_ranges.specs.Ranges.{pair_at, covers_by, next_base, ranges_in};
+ghost use Rattle.dwarf_ranges.specs.Ranges.{AddsRanges};
 ghost use Rattle.dwarf_walk.specs.Sections.{sections_of};
 
 use crate::bases::{Bases, address_of, item_at};
-use crate::range_entries::{RangeListEntry, live_range, next_entry};
-use crate::scope::Range;
+use crate::range::{Range, live_range};
+use crate::range_entries::{RangeListEntry, next_entry};
 use dwarf_bytes::constants::DW_FORM_RNGLISTX;
 use dwarf_bytes::{Cause, Cursor, TableKind};
 use dwarf_units::{AttributeValue, is_address};
@@ -18,7 +18,7 @@ use std::alloc::AllocError;
 /// Appends the ranges of a scope, given by its low_pc, high_pc and ranges, to `all`. Returns the
 /// number of range items that were read, which is at most `budget`. Fails if the attributes
 /// contradict each other.
-pub(crate) fn covers(
+pub fn covers(
     budget: u64,
     sections: &Sections<'_>,
     bases: &Bases,
@@ -39,7 +39,7 @@ pub(crate) fn covers(
 }
 
 /// Appends the ranges of the range list that an attribute refers to.
-#[tactic(auto, using(crate::proofs::RangeLists::ListLaws::list_outside))]
+#[tactic(auto, using(crate::proofs::ListLaws::list_outside))]
 fn add_list_of(
     budget: u64,
     sections: &Sections<'_>,
@@ -131,7 +131,7 @@ fn high(
 }
 
 /// Returns the range of a low_pc and high_pc, or `None` if it is empty.
-pub(crate) fn pair(
+fn pair(
     sections: &Sections<'_>,
     bases: &Bases,
     low_pc: AttributeValue,

@@ -1,7 +1,7 @@
 use Rattle.std.proofs.Common.{◌-◌, length}
 use Rattle.dwarf_walk.specs.Sections.{sections_of}
-use Rattle.dwarf_entries.proofs.RangeLists.ListLaws.{ListSoFar}
-use Rattle.dwarf_entries.proofs.ranges.add_list.Given as goal
+use Rattle.dwarf_ranges.proofs.ListLaws.{ListSoFar}
+use Rattle.dwarf_ranges.proofs.ranges.add_list.Given as goal
 
 abbrev pub invariant-loop-entry : goal.invariant-loop-entry
 invariant-loop-entry l =

@@ -12,19 +12,19 @@ use Rattle.dwarf_bytes.specs.Items.{At, Next, Lists, without_offset, items_from}
 use Rattle.dwarf_bytes.proofs.Numbers.Advance.{after-bind, after-test}
 use Rattle.dwarf_bytes.proofs.Items.ItemLaws.{Lists-within}
 use Rattle.dwarf_bytes.proofs.Numbers.Moves.{same-ok}
-use Rattle.dwarf_entries.specs.declared.scope.Range.{Range}
-use Rattle.dwarf_entries.specs.declared.bases.Bases.{Bases}
-use Rattle.dwarf_entries.specs.declared.range_entries.RangeListEntry.{RangeListEntry}
+use Rattle.dwarf_ranges.specs.declared.range.Range.{Range}
+use Rattle.dwarf_ranges.specs.declared.bases.Bases.{Bases}
+use Rattle.dwarf_ranges.specs.declared.range_entries.RangeListEntry.{RangeListEntry}
 use Rattle.dwarf_units.specs.declared.attributes.AttributeValue.{AttributeValue}
 use Rattle.dwarf_units.specs.Entries.{Die, attribute}
 use Rattle.dwarf_walk.specs.Sections.{Sections}
-use Rattle.dwarf_entries.specs.Bases.{address_of}
-use Rattle.dwarf_entries.specs.Ranges.{Covering, ranges_in, base_after, list_entry_at, list_place}
-use Rattle.dwarf_entries.specs.Ranges.{list_at, high_of, pair_range, pair_at, covers_by, covers_of}
-use Rattle.dwarf_entries.specs.TreeLaws.{IsValidRange}
-use Rattle.dwarf_entries.proofs.RangeLists.EntryLaws.{AllHold, MayHold, none-holds, live-holds}
-use Rattle.dwarf_entries.proofs.RangeLists.EntryLaws.{list_entry-facts}
-use Rattle.dwarf_entries.specs.Private.Shared.{AddsRanges}
+use Rattle.dwarf_ranges.specs.Bases.{address_of}
+use Rattle.dwarf_ranges.specs.Ranges.{Covering, ranges_in, base_after, list_entry_at, list_place}
+use Rattle.dwarf_ranges.specs.Ranges.{list_at, high_of, pair_range, pair_at, covers_by, covers_of}
+use Rattle.dwarf_ranges.specs.Ranges.{IsValidRange}
+use Rattle.dwarf_ranges.proofs.EntryLaws.{AllHold, MayHold, none-holds, live-holds}
+use Rattle.dwarf_ranges.proofs.EntryLaws.{list_entry-facts}
+use Rattle.dwarf_ranges.specs.Ranges.{AddsRanges}
 
 pub record Fits (budget : ℕ) (covering : Covering) : Type 0 where
   pub hold : AllHold covering.ranges

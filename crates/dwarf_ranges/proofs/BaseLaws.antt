@@ -9,12 +9,12 @@ use Rattle.dwarf_bytes.specs.declared.format.Format.TheVariants.{Dwarf32, Dwarf6
 use Rattle.dwarf_bytes.specs.declared.tables.TableKind.{TableKind}
 use Rattle.dwarf_bytes.specs.declared.tables.TableKind.TheVariants.{StrOffsets, Addr, RngLists}
 use Rattle.dwarf_bytes.specs.Numbers.{block_at, fixed_at}
-use Rattle.dwarf_entries.specs.declared.bases.Table.{Table}
-use Rattle.dwarf_entries.specs.Bases.{item_len, item_in, item_at}
-use Rattle.dwarf_entries.specs.declared.scope.Range.{Range}
-use Rattle.dwarf_entries.specs.declared.range_entries.RangeListEntry.{RangeListEntry}
-use Rattle.dwarf_entries.specs.declared.range_entries.RangeListEntry.TheVariants.{Base, Covers}
-use Rattle.dwarf_entries.specs.Ranges.{base_after, next_base}
+use Rattle.dwarf_ranges.specs.declared.bases.Table.{Table}
+use Rattle.dwarf_ranges.specs.Bases.{item_len, item_in, item_at}
+use Rattle.dwarf_ranges.specs.declared.range.Range.{Range}
+use Rattle.dwarf_ranges.specs.declared.range_entries.RangeListEntry.{RangeListEntry}
+use Rattle.dwarf_ranges.specs.declared.range_entries.RangeListEntry.TheVariants.{Base, Covers}
+use Rattle.dwarf_ranges.specs.Ranges.{base_after, next_base}
 use Rattle.dwarf_bytes.specs.declared.fault.Cause.TheVariants as causes
 
 pub fixed-outside : (n : ℕ) (bytes : List ℕ) (at : ℕ) → length bytes < at

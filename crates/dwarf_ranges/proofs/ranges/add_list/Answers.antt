@@ -1,8 +1,8 @@
 use Rattle.std.proofs.Common.{length, ap, arith, inr}
 use Rattle.std.proofs.lemmas.Result.{err_from_is_err_and}
 use Rattle.dwarf_bytes.proofs.Items.Turns.{None-from-no-Some}
-use Rattle.dwarf_entries.proofs.RangeLists.ListLaws.{list-next, list-end, list-fault}
-use Rattle.dwarf_entries.proofs.ranges.add_list.Goals as goal
+use Rattle.dwarf_ranges.proofs.ListLaws.{list-next, list-end, list-fault}
+use Rattle.dwarf_ranges.proofs.ranges.add_list.Goals as goal
 
 pub returns-in_err-entry : goal.returns-in_err-entry
 returns-in_err-entry c =

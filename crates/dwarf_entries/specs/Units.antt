@@ -1,0 +1,49 @@
+-- The units of an object, each with its entries and its bases.
+use Rattle.std.specs.Prelude.{ℕ, List, [], ◌∷◌, Result, Ok, zip}
+use Rattle.dwarf_bytes.specs.declared.fault.LoadFault.{LoadFault}
+use Rattle.dwarf_bytes.specs.declared.fault.Section.TheVariants as names
+use Rattle.dwarf_bytes.specs.declared.format.Format.{Format}
+use Rattle.dwarf_bytes.specs.Bind.{◌>>=◌}
+use Rattle.dwarf_bytes.specs.Items.{At, each, with_offset}
+use Rattle.dwarf_bytes.specs.Refusals.{in_section}
+use Rattle.dwarf_forms.specs.Declarations.{Declaration}
+use Rattle.dwarf_units.specs.declared.unit_headers.UnitHeader.{UnitHeader}
+use Rattle.dwarf_units.specs.Units.{units_of, tables_of}
+use Rattle.dwarf_units.specs.Entries.{Die, entries_of}
+use Rattle.dwarf_walk.specs.Sections.{Sections}
+use Rattle.dwarf_ranges.specs.declared.bases.Bases.{Bases}
+use Rattle.dwarf_ranges.specs.Bases.{no_bases, bases_at}
+
+-- A unit with its entries and with the bases that its root defines. The root is the first entry,
+-- if there is one.
+pub record CompilationUnit : Type 0 where
+  pub header : UnitHeader
+  pub dies : List Die
+  pub bases : Bases
+
+-- A unit with its entries, before its root is read.
+abbrev pub unit_of : List ℕ → UnitHeader → List Declaration → Result CompilationUnit At
+unit_of info header table =
+    entries_of info header table
+    >>= λ dies. Ok (record { header = header; dies = dies; bases = no_bases })
+
+-- The bases that the first of these entries defines.
+abbrev pub bases_of_first : Sections → Format → List Die → Result Bases At
+bases_of_first sections format [] = Ok no_bases
+bases_of_first sections format (root ∷ dies) =
+    with_offset root.offset (bases_at sections format root)
+
+-- The same unit, with the bases that its root defines.
+abbrev pub with_bases : Sections → CompilationUnit → Result CompilationUnit At
+with_bases sections unit =
+    bases_of_first sections unit.header.format unit.dies
+    >>= λ bases. Ok (record { header = unit.header; dies = unit.dies; bases = bases })
+
+-- The units of an object. The passes over all units read headers, tables, entries and roots.
+unfoldable pub units_read : Sections → Result (List CompilationUnit) LoadFault
+units_read s = do
+  headers ← in_section names.DebugInfo (units_of s.debug_info)
+  tables ← in_section names.DebugAbbrev (tables_of s.debug_abbrev headers)
+  units ← in_section names.DebugInfo
+      (each (λ _ p. unit_of s.debug_info p.0 p.1) (zip headers tables))
+  in_section names.DebugInfo (each (λ _ unit. with_bases s unit) units)

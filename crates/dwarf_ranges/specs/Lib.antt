@@ -1,0 +1,2 @@
+pub mod Bases
+pub mod Ranges
