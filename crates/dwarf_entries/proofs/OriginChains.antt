@@ -1,5 +1,4 @@
 pub mod BitmapLaws
 pub mod ChainLaws
 pub mod ChainStrings
-pub mod NameStrings
 pub mod ReferenceLaws

@@ -1,9 +1,3 @@
-pub mod BelowEnds
 pub mod BelowLaws
-pub mod CoveredScopes
-pub mod EntryScopes
-pub mod OffsetLaws
-pub mod RootScopes
-pub mod ScopePlaces
 pub mod SiteOrder
 pub mod TreeParts

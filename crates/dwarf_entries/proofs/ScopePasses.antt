@@ -1,4 +1,3 @@
-pub mod DataLaws
 pub mod PushedScopes
 pub mod ScopeLaws
 pub mod ScopesPass

@@ -1,13 +1,13 @@
 -- The order of scope sites and of their entries.
 use Rattle.std.proofs.Common.{◌≡◌, ◌⊎◌, inl, inr, ℕ, zero, suc, ◌+◌, ◌<◌, ◌≤◌, true, cond, List, []}
-use Rattle.std.proofs.Common.{◌∷◌, take, drop, get_or, ap, sym, ◌∙◌, subst, arith}
+use Rattle.std.proofs.Common.{◌∷◌, take, drop, get_or, ap, sym, ◌∙◌, subst, arith, ◌↔◌, refl}
 use Rattle.std.specs.Prelude.{Some, slice_get, is_some, count_by, nat_lt}
 use Rattle.std.specs.List.{prefix_len}
 use Rattle.std.proofs.lemmas.Bool.{cases_lt, cases_order}
 use Rattle.std.proofs.lemmas.List.{take-take}
 use Rattle.std.proofs.lemmas.List.Sums.{sum_by-take-le, sum_by-take-drop, count_by_more_yes}
 use Rattle.std.proofs.lemmas.Option.{same_Some, get_or_from_slice_get, slice_get_within}
-use Rattle.dwarf_units.specs.Entries.{Die, below}
+use Rattle.dwarf_units.specs.Entries.{Die, below, IsBelow}
 use Rattle.dwarf_units.specs.Private.Rising.{RiseWithin}
 use Rattle.dwarf_walk.specs.ScopeEntries.{is_scope}
 use Rattle.dwarf_walk.specs.Sections.{Sections}
@@ -15,7 +15,7 @@ use Rattle.dwarf_entries.specs.Units.{CompilationUnit}
 use Rattle.dwarf_entries.specs.Scopes.{ScopeSite}
 use Rattle.dwarf_entries.specs.Private.Passes.{number_of_scopes, first_number}
 use Rattle.dwarf_entries.proofs.OriginChains.ReferenceLaws.{within-le}
-use Rattle.dwarf_entries.proofs.Results.BelowLaws.{counted-rises}
+use Rattle.dwarf_entries.proofs.Results.BelowLaws.{counted-rises, scopes-between}
 use Rattle.dwarf_entries.proofs.ScopePasses.SiteLaws.{IsSiteAt, first-next}
 use Rattle.dwarf_entries.proofs.UnitPasses.UnitLaws.{AreUnitsIn, dies-rise}
 
@@ -81,6 +81,49 @@ in-unit-of {us} {n} {m} {p} {q} a b e =
           ∙ ap (λ (u : CompilationUnit). count_by is_scope (below q.member.die
           (drop (k + 1) u.dies))) (sym same));
     }
+
+-- ---- the sites below another
+
+-- A site is below another in the same unit if and only if its number is between the other's number
+-- and end.
+pub sites-below : {us : List CompilationUnit} {n m : ℕ} {p q : ScopeSite} (a : IsSiteAt us n p)
+    (b : IsSiteAt us m q)
+    → ((a.unit ≡ b.unit) × IsBelow p.member.unit.dies b.is.index a.is.index)
+    ↔ ((n < m) × (m < n + 1 + p.inside))
+sites-below {us} {n} {m} {p} {q} a b = by_order (cases_order a.unit b.unit)
+  where
+    Between : Type 0
+    Between = ((a.unit ≡ b.unit) × IsBelow p.member.unit.dies b.is.index a.is.index)
+        ↔ ((n < m) × (m < n + 1 + p.inside))
+
+    by_order : (a.unit ≡ b.unit) ⊎ ((a.unit < b.unit) ⊎ (b.unit < a.unit)) → Between
+    by_order (inl e) =
+        let here = in-unit-of a a refl in
+        let there = in-unit-of a b e in
+        let between = scopes-between p.member.unit.dies a.is.index b.is.index p.member.die
+        q.member.die here.there there.there (ap is_some a.is.kind_is) (ap is_some b.is.kind_is) in (
+          λ below. let counts = between.0 below.1 in (
+            omega (arith, counts.0, here.number_is, there.number_is),
+            omega (arith, counts.1, here.number_is, here.inside_is, there.number_is),
+          ),
+          λ numbers. (
+            e,
+            between.1 (
+              omega (arith, numbers.0, here.number_is, there.number_is),
+              omega (arith, numbers.1, here.number_is, here.inside_is, there.number_is),
+            ),
+          ),
+        )
+    by_order (inr (inl lt)) =
+        let past = (before-later a b.unit lt).1 in (
+          λ below. absurd (let e = below.0 in omega (arith, e, lt)),
+          λ numbers. absurd (omega (arith, past, numbers.1, b.number_is)),
+        )
+    by_order (inr (inr gt)) =
+        let past = (before-later b a.unit gt).0 in (
+          λ below. absurd (let e = below.0 in omega (arith, e, gt)),
+          λ numbers. absurd (omega (arith, past, numbers.0, a.number_is)),
+        )
 
 -- A scope with a lower number is in an earlier unit, or earlier in the same unit.
 pub site-order : {us : List CompilationUnit} {n m : ℕ} {p q : ScopeSite} (a : IsSiteAt us n p)

@@ -1,10 +1,10 @@
--- The units of .debug_info are contiguous, and so are the nodes of a unit up to its end.
+-- The units of .debug_info are contiguous, and their headers have bounds.
 use Rattle.std.proofs.Common.{◌≡◌, ℕ, ◌+◌, ◌<◌, ◌≤◌, List, [], ◌∷◌, ◌++◌, length, take, ap, sym}
-use Rattle.std.proofs.Common.{◌∙◌, subst, arith, length-take}
-use Rattle.std.specs.Prelude.{Ok, All, Contains, nat_lt, nat_le, ◌==◌, not, ok_or, filter}
-use Rattle.std.specs.List.{AllPairs, filter_map, list_any}
+use Rattle.std.proofs.Common.{◌∙◌, subst, arith}
+use Rattle.std.specs.Prelude.{Ok, All, nat_lt, nat_le, ◌==◌, not, ok_or, filter}
+use Rattle.std.specs.List.{AllPairs}
 use Rattle.std.proofs.lemmas.Bool.{leb-true}
-use Rattle.std.proofs.lemmas.List.Elements.{All-nil, All-cons, All-contains, All-weaker, All-filter}
+use Rattle.std.proofs.lemmas.List.Elements.{All-nil, All-cons, All-weaker, All-filter}
 use Rattle.std.proofs.lemmas.List.Kept.{AllPairs-cons, AllPairs-filter}
 use Rattle.dwarf_bytes.specs.declared.fault.Cause.TheVariants as causes
 use Rattle.dwarf_bytes.specs.declared.format.Format.{Format}
@@ -13,18 +13,13 @@ use Rattle.dwarf_bytes.specs.Items.{Item, End, Lists, reading, items_from}
 use Rattle.dwarf_bytes.proofs.Numbers.LengthLaws.{initial_length_at-moves}
 use Rattle.dwarf_bytes.proofs.Numbers.Advance.{after-bind, after-test, chosen, reading-ok}
 use Rattle.dwarf_bytes.proofs.Items.ItemLaws.{Lists-within}
-use Rattle.dwarf_bytes.proofs.Numbers.Moves.{same-ok, same-item, same-end}
-use Rattle.dwarf_forms.specs.Declarations.{Declaration}
+use Rattle.dwarf_bytes.proofs.Numbers.Moves.{same-ok, same-item}
 use Rattle.dwarf_units.specs.declared.unit_headers.UnitHeader.{UnitHeader}
 use Rattle.dwarf_units.specs.Units.{unit_type_of, is_read_type, is_read, header_in, unit_at}
 use Rattle.dwarf_units.specs.Units.{header_at, headers_of, units_of}
-use Rattle.dwarf_units.specs.Entries.{LocatedNode, Die, is_root, depth_after, node_at_depth}
-use Rattle.dwarf_units.specs.Entries.{node_at, die_of, entries_of}
 use Rattle.dwarf_units.proofs.EntryMoves.{fixed-stays, offset-stays}
 use Rattle.dwarf_units.proofs.UnitLaws.{header_in-places, unit_at-moves}
-use Rattle.dwarf_units.proofs.NodeLaws.{node_at-facts}
-use Rattle.dwarf_units.proofs.EntryOrder.{list-in}
-use Rattle.dwarf_entries.specs.TreeLaws.{AreContiguous, FillsUnit}
+use Rattle.dwarf_entries.specs.TreeLaws.{AreContiguous}
 
 -- ---- the bounds of a unit
 
@@ -163,39 +158,3 @@ headers-in info headers h =
       apart = AllPairs-filter IsBefore is_read all order.apart;
       bounded = All-filter is_read (HasBounds (length info)) all order.bounded;
     }))
-
--- ---- the nodes of a unit
-
--- The last node ends where the unit ends.
-filled : (format : Format) (table : List Declaration) (unit : List ℕ) (before : List LocatedNode)
-    (at : ℕ) (all : List LocatedNode) (after : ℕ)
-    → Lists (node_at format table unit) before at all after → at ≤ length unit → after ≡ length unit
-filled format table unit before at [] after h le =
-    chosen (nat_le (length unit) at) _ _ (Ok (End after)) h (after ≡ length unit)
-    (λ past is. let ge = leb-true (length unit) at past in let same = same-end at after is in
-    omega (arith, le, ge, same)) (λ _ h1.
-    after-bind (node_at_depth format table (depth_after before) (list_any is_root before) unit at) _
-    (End after) h1 (after ≡ length unit) (λ _ _ last. cc))
-filled format table unit before at (x ∷ all) after h le =
-    let here = node_at-facts format table unit before at x h.0 h.1 in
-    filled format table unit (before ++ x ∷ []) h.0 all after h.2 (omega (arith, here.moves.1))
-
-pub entries-contiguous : (info : List ℕ) (headers : List UnitHeader) (header : UnitHeader)
-    (table : List Declaration) (dies : List Die) → units_of info ≡ Ok headers
-    → Contains headers header → entries_of info header table ≡ Ok dies
-    → (all : List LocatedNode) × FillsUnit info header table all × (filter_map die_of all ≡ dies)
-entries-contiguous info headers header table dies read inside h =
-    let bounds = All-contains (HasBounds (length info)) headers header
-    (headers-in info headers read).bounded inside in
-    let unit : List ℕ = take header.end info in
-    let size : length unit ≡ header.end = let taken = length-take header.end info in
-    omega (arith, taken, bounds.within) in
-    list-in info header table dies ((all : List LocatedNode) × FillsUnit info header table all
-    × (filter_map die_of all ≡ dies)) h (λ all after lists same.
-    let end_is : after ≡ header.end = filled header.format table unit [] header.first all after
-    lists (omega (arith, size, bounds.last)) ∙ size in (
-      all,
-      subst (λ (k : ℕ). Lists (node_at header.format table unit) [] header.first all k) end_is
-          lists,
-      same,
-    ))

@@ -1,5 +1,101 @@
-use Rattle.dwarf_entries.proofs.Results.BelowEnds.{below-ends}
+use Rattle.std.proofs.Common.{◌≡◌, ◌⊎◌, ◌↔◌, inl, inr, ℕ, suc, ◌+◌, ◌<◌, List, take, drop, refl, ap}
+use Rattle.std.proofs.Common.{sym, ◌∙◌, arith}
+use Rattle.std.specs.Prelude.{Some, Ok, Contains, slice_get, count_by}
+use Rattle.std.proofs.lemmas.Bool.{cases_order}
+use Rattle.std.proofs.lemmas.Option.{same_Some}
+use Rattle.dwarf_units.specs.Entries.{IsBelow}
+use Rattle.dwarf_walk.specs.ScopeEntries.{is_scope}
+use Rattle.dwarf_walk.specs.Sections.{Sections}
+use Rattle.dwarf_entries.specs.Units.{CompilationUnit}
+use Rattle.dwarf_entries.specs.Scopes.{Scope, ScopeSite, ParsedScope}
+use Rattle.dwarf_entries.specs.Private.Passes.{first_number, all_scopes, all_sites}
+use Rattle.dwarf_entries.specs.TreeLaws.{IsEntry}
+use Rattle.dwarf_entries.proofs.Results.SiteOrder.{sites-rise, sites-below}
+use Rattle.dwarf_entries.proofs.Results.TreeParts.{IsScopeAt, with-units, scope-at, contained}
+use Rattle.dwarf_entries.proofs.Results.TreeParts.{scopes_in}
+use Rattle.dwarf_entries.proofs.ScopePasses.SiteLaws.{IsSiteAt, site_at, site-of-entry}
+use Rattle.dwarf_entries.proofs.UnitPasses.UnitLaws.{AreUnitsIn, units-in}
 use Rattle.dwarf_entries.proofs.tree_laws.ends_follow_descendants.Goals as goal
 
+-- The site of an entry.
+abbrev entry_site : (us : List CompilationUnit) (i k : ℕ) (scope : Scope) → IsEntry us i k scope
+    → ScopeSite
+entry_site us i k scope at = site_at at.of at.die (drop (suc k) at.of.dies) scope.kind
+
+abbrev entry_number : (us : List CompilationUnit) (i k : ℕ) (scope : Scope) → IsEntry us i k scope
+    → ℕ
+entry_number us i k scope at = first_number us i + count_by is_scope (take k at.of.dies)
+
+site-of : (us : List CompilationUnit) (i k : ℕ) (scope : Scope) (at : IsEntry us i k scope)
+    → IsSiteAt us (entry_number us i k scope at) (entry_site us i k scope at)
+site-of us i k scope at = record {
+  unit = i;
+  unit_is = at.of_is;
+  number = count_by is_scope (take k at.of.dies);
+  number_is = refl;
+  is = record {
+    unit_is = refl;
+    kind_is = at.kind_is;
+    index = k;
+    there = at.die_is;
+    number_is = refl;
+    inside_is = refl;
+  };
+}
+
+-- The number and the end of the scope of an entry.
+numbers-are : (s : Sections) (us : List CompilationUnit) (parsed : List ParsedScope)
+    → AreUnitsIn s us → all_scopes s us ≡ Ok parsed → (i k : ℕ) (scope : Scope)
+    → Contains (scopes_in parsed) scope → (at : IsEntry us i k scope)
+    → (scope.number ≡ entry_number us i k scope at)
+    × (scope.«end» ≡ entry_number us i k scope at + 1 + (entry_site us i k scope at).inside)
+numbers-are s us parsed are parsed_are i k scope inside at =
+    by_order (cases_order j.0 (entry_number us i k scope at))
+  where
+    j : (n : ℕ) × (j : ParsedScope) × (slice_get parsed n ≡ Some j) × (j.scope ≡ scope)
+    j = contained parsed scope inside
+
+    x : IsScopeAt s us parsed j.0 j.1
+    x = scope-at s us parsed parsed_are j.0 j.1 j.2
+
+    offset : x.site.member.die.offset ≡ at.die.offset
+    offset = ap (λ (y : ParsedScope). y.scope.offset) x.is
+        ∙ (ap (λ (y : Scope). y.offset) j.3 ∙ at.offset_is)
+
+    by_order : (j.0 ≡ entry_number us i k scope at) ⊎ ((j.0 < entry_number us i k scope at)
+        ⊎ (entry_number us i k scope at < j.0))
+        → (scope.number ≡ entry_number us i k scope at)
+        × (scope.«end» ≡ entry_number us i k scope at + 1 + (entry_site us i k scope at).inside)
+    by_order (inl e) =
+        let same = same_Some x.site (entry_site us i k scope at)
+        (sym x.there ∙ (ap (slice_get (all_sites us)) e
+        ∙ site-of-entry us i k at.of at.die scope.kind at.of_is at.die_is at.kind_is)) in
+        let insides = ap (λ (p : ScopeSite). p.inside) same in
+        let number = ap (λ (y : Scope). y.number) j.3 in
+        let end = ap (λ (y : Scope). y.«end») j.3 in (
+          omega (arith, number, x.number_is, e),
+          omega (arith, end, x.end_is, e, insides),
+        )
+    by_order (inr (inl lt)) =
+        let less = sites-rise are x.place (site-of us i k scope at) lt in
+        absurd (omega (arith, less, offset))
+    by_order (inr (inr gt)) =
+        let less = sites-rise are (site-of us i k scope at) x.place gt in
+        absurd (omega (arith, less, offset))
+
 pub returns : goal.returns
-returns c = below-ends
+unfolding site-of
+returns c s tree us outer inner i j p q h us_are outer_in inner_in outer_at inner_at =
+    with-units s us tree us_are h (λ tree. Contains tree.scopes outer → Contains tree.scopes inner
+    → ((i ≡ j) × IsBelow outer_at.of.dies q p)
+    ↔ ((outer.number < inner.number) × (inner.number < outer.«end»)))
+    (λ parsed parsed_are outer_in inner_in.
+    let are = units-in s us us_are in
+    let a = numbers-are s us parsed are parsed_are i p outer outer_in outer_at in
+    let b = numbers-are s us parsed are parsed_are j q inner inner_in inner_at in
+    let below = sites-below (site-of us i p outer outer_at) (site-of us j q inner inner_at) in (
+      λ under. let numbers = below.0 under in
+          (omega (arith, numbers.0, a.0, b.0), omega (arith, numbers.1, a.1, b.0)),
+      λ numbers. below.1
+          (omega (arith, numbers.0, a.0, b.0), omega (arith, numbers.1, a.1, b.0)),
+    )) outer_in inner_in

@@ -1,5 +1,146 @@
-use Rattle.dwarf_entries.proofs.Results.OffsetLaws.{scopes-rise, roots-rise}
+use Rattle.std.proofs.Common.{◌≡◌, ℕ, suc, ◌+◌, ◌<◌, ◌≤◌, List, [], ◌∷◌, length, map, refl, ap}
+use Rattle.std.proofs.Common.{arith}
+use Rattle.std.specs.Prelude.{Some, All, slice_get, count_by}
+use Rattle.std.specs.List.{AllPairs}
+use Rattle.std.specs.List.Sorted.{IsStrictlyIncreasing}
+use Rattle.std.proofs.lemmas.List.Elements.{All-nil, All-cons, All-weaker, All-map}
+use Rattle.std.proofs.lemmas.List.Kept.{AllPairs-cons}
+use Rattle.std.proofs.lemmas.Option.{slice_get-get_or, get_or_from_slice_get, slice_get_within}
+use Rattle.dwarf_bytes.specs.declared.constants.TheConstants.{DW_AT_STMT_LIST}
+use Rattle.dwarf_units.specs.Entries.{Die}
+use Rattle.dwarf_units.specs.Private.Rising.{RiseWithin}
+use Rattle.dwarf_entries.specs.declared.scope.Root.{Root}
+use Rattle.dwarf_walk.specs.ScopeEntries.{is_scope, number_of}
+use Rattle.dwarf_walk.specs.Sections.{Sections}
+use Rattle.dwarf_entries.specs.Units.{CompilationUnit}
+use Rattle.dwarf_entries.specs.Scopes.{Scope, ParsedScope, root_of, roots_from}
+use Rattle.dwarf_entries.specs.TreeLaws.{RiseBelow}
+use Rattle.dwarf_entries.proofs.OriginChains.ReferenceLaws.{within-le}
+use Rattle.dwarf_entries.proofs.Results.SiteOrder.{sites-rise, within-unit}
+use Rattle.dwarf_entries.proofs.Results.TreeParts.{after-tree, scope-at, scopes_in, all-are}
+use Rattle.dwarf_entries.proofs.UnitPasses.UnitLaws.{IsUnitIn, AreUnitsIn, dies-rise, units-in}
+use Rattle.dwarf_entries.proofs.UnitPasses.UnitLaws.{units-after}
+use Rattle.dwarf_entries.proofs.UnitPasses.PassLaws.{from-map}
 use Rattle.dwarf_entries.proofs.tree_laws.offsets_rise.Goals as goal
 
-pub returns : goal.returns
-returns c = record { scopes = scopes-rise; roots = roots-rise }
+increasing : {X : Type 0} (key : X → ℕ) (xs : List X) → ((i j : ℕ) (x y : X)
+    → slice_get xs i ≡ Some x → slice_get xs j ≡ Some y → i < j → key x < key y)
+    → IsStrictlyIncreasing (map key xs)
+increasing key xs rise k lt =
+    let keys : List ℕ = map key xs in
+    let a = from-map key xs k _ (slice_get-get_or keys k 0 (omega (arith, lt))) in
+    let b = from-map key xs (k + 1) _ (slice_get-get_or keys (k + 1) 0 lt) in
+    let less = rise k (k + 1) a.0 b.0 a.1 b.1 (omega arith) in
+    omega (arith, less, a.2, b.2)
+
+-- ---- scopes
+
+pub returns-clause-scopes : goal.returns-clause-scopes
+returns-clause-scopes c s tree h = after-tree s tree h (λ tree. RiseBelow (length s.debug_info)
+    (map (λ (scope : Scope). scope.offset) tree.scopes)) (λ us parsed us_are parsed_are.
+    let are = units-in s us us_are in
+    let at = scope-at s us parsed parsed_are in (
+      increasing (λ (scope : Scope). scope.offset) (scopes_in parsed) (λ i j x y x_is y_is lt.
+          let a = from-map (λ (j : ParsedScope). j.scope) parsed i x x_is in
+          let b = from-map (λ (j : ParsedScope). j.scope) parsed j y y_is in
+          let first = at i a.0 a.1 in
+          let second = at j b.0 b.1 in
+          let less = sites-rise are first.place second.place lt in
+          omega (
+            arith,
+            less,
+            ap (λ (z : ParsedScope). z.scope.offset) first.is,
+            ap (λ (z : ParsedScope). z.scope.offset) second.is,
+            ap (λ (z : Scope). z.offset) a.2,
+            ap (λ (z : Scope). z.offset) b.2,
+          )),
+      All-map (λ (offset : ℕ). offset < length s.debug_info) (λ (scope : Scope). scope.offset)
+          (scopes_in parsed)
+          (all-are (λ (scope : Scope). scope.offset < length s.debug_info) parsed (λ n j there.
+          let one = at n j there in
+          let inside = within-unit are one.place in
+          let bounds =
+          (are.each_is one.place.unit one.site.member.unit one.place.unit_is).bounds in
+          omega (
+            arith,
+            inside.1,
+            bounds.within,
+            ap (λ (z : ParsedScope). z.scope.offset) one.is,
+          ))),
+    ))
+
+-- ---- roots
+
+abbrev Within : ℕ → ℕ → Root → Type 0
+Within from end root = (from ≤ root.offset) × (root.offset < end)
+
+-- The offsets of roots rise, from a lower bound on.
+abbrev RootsRise : Sections → ℕ → List Root → Type 0
+RootsRise s from roots =
+    All (Within from (length s.debug_info)) roots × AllPairs (λ a b. a.offset < b.offset) roots
+
+roots-from-rise : (s : Sections) (from number : ℕ) (us : List CompilationUnit) → AreUnitsIn s us
+    → ((i : ℕ) (u : CompilationUnit) → slice_get us i ≡ Some u → from ≤ u.header.start)
+    → RootsRise s from (roots_from number us)
+roots-from-rise s from number [] are starts = (
+  All-nil _,
+  λ i j d lt within.
+      absurd (omega (arith, within)),
+)
+roots-from-rise s from number (u ∷ us) are starts =
+    let past : ℕ = number + count_by is_scope u.dies in
+    by_root u.dies past (dies-rise is) (roots-from-rise s u.header.end past us
+    (units-after u us are) (λ i v found. are.apart 0 (suc i) u v refl found (omega arith)))
+  where
+    is : IsUnitIn s u
+    is = are.each_is 0 u refl
+
+    lower : from ≤ u.header.end → (past : ℕ)
+        → All (Within u.header.end (length s.debug_info)) (roots_from past us)
+        → All (Within from (length s.debug_info)) (roots_from past us)
+    lower le past = All-weaker (Within u.header.end (length s.debug_info))
+        (Within from (length s.debug_info)) (λ root at. (omega (arith, le, at.0), at.1))
+        (roots_from past us)
+
+    by_root : (dies : List Die) (past : ℕ) → RiseWithin u.header.start u.header.end dies
+        → RootsRise s u.header.end (roots_from past us)
+        → RootsRise s from (root_of number past dies (roots_from past us))
+    by_root [] past rise rest =
+        let start = starts 0 u refl in
+        let fits = within-le u.header.start u.header.end [] rise in
+        (lower (omega (arith, start, fits)) past rest.0, rest.1)
+    by_root (die ∷ dies) past rise rest =
+        let start = starts 0 u refl in
+        let first = rise.0 in
+        let fits = within-le (suc die.offset) u.header.end dies rise.1 in
+        let within = is.bounds.within in
+        let root : Root = record {
+          offset = die.offset;
+          stmt_list = number_of DW_AT_STMT_LIST die;
+          first = number;
+          past = past;
+        } in (
+          All-cons (Within from (length s.debug_info)) root (roots_from past us)
+              (omega (arith, start, first), omega (arith, fits, within))
+              (lower (omega (arith, start, first, fits)) past rest.0),
+          AllPairs-cons (λ (a b : Root). a.offset < b.offset) root (roots_from past us)
+              (All-weaker (Within u.header.end (length s.debug_info))
+              (λ (root : Root). die.offset < root.offset)
+              (λ root at. omega (arith, fits, at.0)) (roots_from past us) rest.0) rest.1,
+        )
+
+pub returns-clause-roots : goal.returns-clause-roots
+returns-clause-roots c s tree h = after-tree s tree h (λ tree. RiseBelow (length s.debug_info)
+    (map (λ (root : Root). root.offset) tree.roots)) (λ us parsed us_are parsed_are.
+    let rise = roots-from-rise s 0 0 us (units-in s us us_are) (λ i u found. omega arith) in (
+      increasing (λ (root : Root). root.offset) (roots_from 0 us) (λ i j x y x_is y_is lt.
+          let less = rise.1 i j x lt (slice_get_within (roots_from 0 us) j y y_is) in
+          omega (
+            arith,
+            less,
+            ap (λ (r : Root). r.offset) (get_or_from_slice_get (roots_from 0 us) i x x x_is),
+            ap (λ (r : Root). r.offset) (get_or_from_slice_get (roots_from 0 us) j y x y_is),
+          )),
+      All-map (λ (offset : ℕ). offset < length s.debug_info) (λ (root : Root). root.offset)
+          (roots_from 0 us) (λ k d lt. (rise.0 k d lt).1),
+    ))

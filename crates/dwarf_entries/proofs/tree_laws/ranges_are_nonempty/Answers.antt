@@ -1,5 +1,88 @@
-use Rattle.dwarf_entries.proofs.Results.CoveredScopes.{scopes-hold, ranges-limited}
+use Rattle.std.proofs.Common.{◌≡◌, ℕ, zero, suc, ◌+◌, ◌-◌, ◌≤◌, List, length, take, ap, subst}
+use Rattle.std.proofs.Common.{arith}
+use Rattle.std.specs.Prelude.{Some, Ok, All, sum_by, slice_get}
+use Rattle.std.proofs.lemmas.List.{take_all}
+use Rattle.std.proofs.lemmas.List.Folds.{fold-map}
+use Rattle.std.proofs.lemmas.List.Sums.{sum_by_more}
+use Rattle.std.proofs.lemmas.Option.{get_or_from_slice_get}
+use Rattle.dwarf_walk.specs.Sections.{Sections}
+use Rattle.dwarf_entries.specs.Units.{CompilationUnit}
+use Rattle.dwarf_entries.specs.Scopes.{Scope, ParsedScope, items_limit}
+use Rattle.dwarf_entries.specs.Private.Passes.{all_scopes}
+use Rattle.dwarf_ranges.specs.Ranges.{IsValidRange}
+use Rattle.dwarf_ranges.proofs.EntryLaws.{AllHold}
+use Rattle.dwarf_ranges.proofs.ScopeBudget.{Fits, covers-fits}
+use Rattle.dwarf_entries.proofs.Results.TreeParts.{after-tree, scope-at, all-are}
+use Rattle.dwarf_entries.proofs.UnitPasses.PassLaws.{element}
 use Rattle.dwarf_entries.proofs.tree_laws.ranges_are_nonempty.Goals as goal
 
-pub returns : goal.returns
-returns c = record { ranges = scopes-hold; count = ranges-limited }
+-- The ranges of a scope are valid, and it took as many range items as the budget allows.
+abbrev HasFit : List ParsedScope → ℕ → ParsedScope → Type 0
+HasFit parsed n j = Fits (items_limit - sum_by (λ j. j.items) (take n parsed))
+    (record { ranges = j.scope.ranges; items = j.items })
+
+fits-at : (s : Sections) (us : List CompilationUnit) (parsed : List ParsedScope)
+    → all_scopes s us ≡ Ok parsed → (n : ℕ) (j : ParsedScope) → slice_get parsed n ≡ Some j
+    → HasFit parsed n j
+fits-at s us parsed parsed_are n j there =
+    let at = scope-at s us parsed parsed_are n j there in
+    subst (HasFit parsed n) at.is (covers-fits _ s at.site.member.unit.bases at.site.member.die
+    at.covering at.covering_is)
+
+pub returns-clause-ranges : goal.returns-clause-ranges
+returns-clause-ranges c s tree h = after-tree s tree h (λ tree.
+    All (λ (scope : Scope). All IsValidRange scope.ranges) tree.scopes)
+    (λ us parsed us_are parsed_are. all-are (λ (scope : Scope). AllHold scope.ranges) parsed
+    (λ n j there. (fits-at s us parsed parsed_are n j there).hold))
+
+-- The scopes before a number have at most as many ranges as range items, which are within the
+-- limit.
+limited : (s : Sections) (us : List CompilationUnit) (parsed : List ParsedScope)
+    → all_scopes s us ≡ Ok parsed → (n : ℕ) → n ≤ length parsed
+    → (sum_by (λ j. length j.scope.ranges) (take n parsed) ≤ sum_by (λ j. j.items) (take n parsed))
+    × (sum_by (λ j. j.items) (take n parsed) ≤ items_limit)
+limited s us parsed parsed_are zero le = (omega arith, omega arith)
+limited s us parsed parsed_are (suc n) le =
+    let within : suc n ≤ length parsed = le in
+    let j = element parsed n within in
+    let fits = fits-at s us parsed parsed_are n j.0 j.1 in
+    let rest = limited s us parsed parsed_are n (omega (arith, le)) in
+    let one : suc n ≡ n + 1 = omega arith in
+    let same = get_or_from_slice_get parsed n j.0 j.0 j.1 in
+    let ranges = sum_by_more (λ (j : ParsedScope). length j.scope.ranges) parsed n j.0 within in
+    let items = sum_by_more (λ (j : ParsedScope). j.items) parsed n j.0 within in
+    let more = ap (λ (k : ℕ). sum_by (λ (j : ParsedScope). length j.scope.ranges) (take k parsed))
+    one in
+    let count = ap (λ (k : ℕ). sum_by (λ (j : ParsedScope). j.items) (take k parsed)) one in
+    let first = ap (λ (x : ParsedScope). length x.scope.ranges) same in
+    let second = ap (λ (x : ParsedScope). x.items) same in (
+      omega (
+        arith,
+        rest.0,
+        fits.counted,
+        ranges,
+        items,
+        more,
+        count,
+        first,
+        second,
+      ),
+      omega (arith, rest.1, fits.within, items, count, second),
+    )
+
+pub returns-clause-count : goal.returns-clause-count
+returns-clause-count c s tree h = after-tree s tree h (λ tree.
+    sum_by (λ (scope : Scope). length scope.ranges) tree.scopes ≤ items_limit)
+    (λ us parsed us_are parsed_are.
+    let all = limited s us parsed parsed_are (length parsed) (omega arith) in
+    let whole = take_all (length parsed) parsed (omega arith) in
+    let mapped = fold-map (λ (n : ℕ) (scope : Scope). n + length scope.ranges)
+    (λ (j : ParsedScope). j.scope) 0 parsed in
+    omega (
+      arith,
+      all.0,
+      all.1,
+      ap (λ (js : List ParsedScope). sum_by (λ (j : ParsedScope). length j.scope.ranges) js) whole,
+      ap (λ (js : List ParsedScope). sum_by (λ (j : ParsedScope). j.items) js) whole,
+      mapped,
+    ))

@@ -1,5 +1,170 @@
-use Rattle.dwarf_entries.proofs.Results.RootScopes.{roots-part, scopes-of-roots}
+use Rattle.std.proofs.Common.{◌≡◌, ◌⊎◌, inl, inr, ℕ, zero, suc, ◌+◌, ◌<◌, ◌≤◌, List, [], ◌∷◌}
+use Rattle.std.proofs.Common.{length, take, refl, ap, sym, ◌∙◌, subst, arith, length-append}
+use Rattle.std.specs.Prelude.{Some, All, Contains, slice_get, count_by}
+use Rattle.std.proofs.lemmas.Bool.{cases_order}
+use Rattle.std.proofs.lemmas.List.{length-map}
+use Rattle.std.proofs.lemmas.List.Elements.{All-nil, All-cons, All-contains, All-weaker}
+use Rattle.std.proofs.lemmas.List.Sums.{sum_by-cons}
+use Rattle.std.proofs.lemmas.Option.{same_Some}
+use Rattle.dwarf_bytes.proofs.Items.EachPlaces.{each-length}
+use Rattle.dwarf_units.specs.Entries.{Die}
+use Rattle.dwarf_walk.specs.ScopeEntries.{is_scope}
+use Rattle.dwarf_walk.specs.Sections.{Sections}
+use Rattle.dwarf_entries.specs.declared.scope.Root.{Root}
+use Rattle.dwarf_entries.specs.Units.{CompilationUnit}
+use Rattle.dwarf_entries.specs.Scopes.{Scope, ParsedScope, sites_in, stmt_list_of, root_of}
+use Rattle.dwarf_entries.specs.Scopes.{roots_from}
+use Rattle.dwarf_entries.specs.Private.Passes.{first_number, parse_scope, all_sites}
+use Rattle.dwarf_entries.specs.TreeLaws.{ArePartsFrom, IsOfUnit}
+use Rattle.dwarf_entries.proofs.Results.SiteOrder.{first-rises, before-later, rise-order}
+use Rattle.dwarf_entries.proofs.Results.TreeParts.{IsScopeAt, after-tree, scope-at, contained}
+use Rattle.dwarf_entries.proofs.Results.TreeParts.{scopes_in}
+use Rattle.dwarf_entries.proofs.ScopePasses.SiteLaws.{sites-count, first-next}
+use Rattle.dwarf_entries.proofs.UnitPasses.UnitLaws.{AreUnitsIn, dies-rise, units-in}
 use Rattle.dwarf_entries.proofs.tree_laws.roots_partition_scopes.Goals as goal
 
-pub returns : goal.returns
-returns c = record { parts = roots-part; scopes = scopes-of-roots }
+-- The roots partition the numbers of the scopes.
+parted : (number : ℕ) (units : List CompilationUnit)
+    → ArePartsFrom number (number + length (all_sites units)) (roots_from number units)
+parted number [] = omega arith
+parted number (unit ∷ units) =
+    let past : ℕ = number + count_by is_scope unit.dies in
+    let sites = sites-count unit unit.dies in
+    let size = length-append (sites_in unit unit.dies) (all_sites units) in
+    let end : past + length (all_sites units) ≡ number + length (all_sites (unit ∷ units)) =
+    omega (arith, sites, size) in
+    by_root past unit.dies refl (subst (λ (n : ℕ). ArePartsFrom past n (roots_from past units)) end
+    (parted past units))
+  where
+    by_root : (past : ℕ) (dies : List Die) → number + count_by is_scope dies ≡ past
+        → ArePartsFrom past (number + length (all_sites (unit ∷ units))) (roots_from past units)
+        → ArePartsFrom number (number + length (all_sites (unit ∷ units)))
+        (root_of number past dies (roots_from past units))
+    by_root past [] is rest = let none : past ≡ number = omega (arith, is) in
+        subst (λ (n : ℕ). ArePartsFrom n (number + length (all_sites (unit ∷ units)))
+        (roots_from past units)) none rest
+    by_root past (root ∷ dies) is rest = (refl, omega (arith, is), rest)
+
+-- Each root belongs to a unit with entries.
+record IsRootOf (us : List CompilationUnit) (number : ℕ) (root : Root) : Type 0 where
+  pub unit : ℕ
+  pub of : CompilationUnit
+  pub of_is : slice_get us unit ≡ Some of
+  pub die : Die
+  pub die_is : slice_get of.dies 0 ≡ Some die
+  pub offset_is : root.offset ≡ die.offset
+  pub stmt_list_is : root.stmt_list ≡ stmt_list_of of.dies
+  pub first_is : root.first ≡ number + first_number us unit
+  pub past_is : root.past ≡ root.first + count_by is_scope of.dies
+
+roots-of : (number : ℕ) (us : List CompilationUnit)
+    → All (IsRootOf us number) (roots_from number us)
+roots-of number [] = All-nil (IsRootOf [] number)
+roots-of number (u ∷ us) =
+    let past : ℕ = number + count_by is_scope u.dies in
+    by_dies u.dies refl past refl (All-weaker (IsRootOf us past) (IsRootOf (u ∷ us) number)
+    (λ root at.
+    let sum = sum_by-cons (λ (v : CompilationUnit). count_by is_scope v.dies) u
+    (take at.unit us) in
+    record {
+      unit = suc at.unit;
+      of = at.of;
+      of_is = at.of_is;
+      die = at.die;
+      die_is = at.die_is;
+      offset_is = at.offset_is;
+      stmt_list_is = at.stmt_list_is;
+      first_is = omega (arith, at.first_is, sum);
+      past_is = at.past_is;
+    }) (roots_from past us) (roots-of past us))
+  where
+    by_dies : (dies : List Die) → u.dies ≡ dies → (past : ℕ)
+        → past ≡ number + count_by is_scope u.dies
+        → All (IsRootOf (u ∷ us) number) (roots_from past us)
+        → All (IsRootOf (u ∷ us) number) (root_of number past dies (roots_from past us))
+    by_dies [] is past past_is rest = rest
+    by_dies (die ∷ dies) is past past_is rest =
+        let none : first_number (u ∷ us) zero ≡ 0 = refl in
+        All-cons (IsRootOf (u ∷ us) number) _ (roots_from past us) (record {
+          unit = zero;
+          of = u;
+          of_is = refl;
+          die = die;
+          die_is = ap (λ (ds : List Die). slice_get ds 0) is;
+          offset_is = refl;
+          stmt_list_is = ap stmt_list_of (sym is);
+          first_is = omega (arith, none);
+          past_is = past_is;
+        }) rest
+
+-- ---- the theorems
+
+pub returns-clause-parts : goal.returns-clause-parts
+returns-clause-parts c s tree h = after-tree s tree h (λ tree. ArePartsFrom 0 (length tree.scopes) tree.roots)
+    (λ us parsed us_are parsed_are.
+    let made = each-length (parse_scope s us) [] (all_sites us) parsed parsed_are in
+    let size : 0 + length (all_sites us) ≡ length (scopes_in parsed) =
+    omega (arith, made, length-map parsed (λ (j : ParsedScope). j.scope)) in
+    subst (λ (n : ℕ). ArePartsFrom 0 n (roots_from 0 us)) size (parted 0 us))
+
+of-unit : (s : Sections) (us : List CompilationUnit) (parsed : List ParsedScope) (n : ℕ)
+    (j : ParsedScope) (root : Root) → AreUnitsIn s us → IsScopeAt s us parsed n j
+    → IsRootOf us 0 root → root.first ≤ j.scope.number → j.scope.number < root.past
+    → IsOfUnit root j.scope
+of-unit s us parsed n j root are x r from until = by_unit (cases_order x.place.unit r.unit)
+  where
+    next : first_number us (r.unit + 1) ≡ first_number us r.unit + count_by is_scope r.of.dies
+    next = first-next us r.unit r.of r.of_is
+
+    by_unit : (x.place.unit ≡ r.unit) ⊎ ((x.place.unit < r.unit) ⊎ (r.unit < x.place.unit))
+        → IsOfUnit root j.scope
+    by_unit (inl e) =
+        let same : x.site.member.unit ≡ r.of = same_Some x.site.member.unit r.of
+        (sym x.place.unit_is ∙ (ap (slice_get us) e ∙ r.of_is)) in
+        let die = x.site.member.die in
+        let last = (before-later x.place (r.unit + 1) (omega (arith, e))).1 in
+        let there = subst (λ (u : CompilationUnit). slice_get u.dies x.place.is.index ≡ Some die)
+        same x.place.is.there in
+        let offset = ap (λ (y : ParsedScope). y.scope.offset) x.is in
+        record {
+          stmt_list_is = sym (ap (λ (y : ParsedScope). y.scope.stmt_list) x.is)
+              ∙ (ap (λ (u : CompilationUnit). stmt_list_of u.dies) same ∙ sym r.stmt_list_is);
+          ends = omega (arith, x.end_is, last, next, r.first_is, r.past_is);
+          starts = let first = from-first x.place.is.index die there in
+              omega (arith, first, offset, r.offset_is);
+        }
+      where
+        from-first : (k : ℕ) (die : Die) → slice_get r.of.dies k ≡ Some die
+            → r.die.offset ≤ die.offset
+        from-first zero die there =
+            let e = ap (λ (d : Die). d.offset) (same_Some r.die die (sym r.die_is ∙ there)) in
+            omega (arith, e)
+        from-first (suc k) die there =
+            let less = rise-order r.of.header.start r.of.header.end r.of.dies 0 (suc k) r.die die
+            (dies-rise (are.each_is r.unit r.of r.of_is)) r.die_is there (omega arith) in
+            omega (arith, less)
+    by_unit (inr (inl lt)) =
+        let past = (before-later x.place r.unit lt).0 in
+        absurd (omega (arith, past, from, x.number_is, r.first_is))
+    by_unit (inr (inr gt)) =
+        let rises = first-rises us (r.unit + 1) x.place.unit (omega (arith, gt)) in
+        absurd (omega (
+          arith,
+          until,
+          x.number_is,
+          x.place.number_is,
+          rises,
+          next,
+          r.first_is,
+          r.past_is,
+        ))
+
+pub returns-clause-scopes : goal.returns-clause-scopes
+returns-clause-scopes c s tree root scope h = after-tree s tree h (λ tree. Contains tree.roots root
+    → Contains tree.scopes scope → root.first ≤ scope.number → scope.number < root.past
+    → IsOfUnit root scope) (λ us parsed us_are parsed_are root_in scope_in.
+    let j = contained parsed scope scope_in in
+    subst (λ (x : Scope). root.first ≤ x.number → x.number < root.past → IsOfUnit root x) j.3
+    (of-unit s us parsed j.0 j.1 root (units-in s us us_are)
+    (scope-at s us parsed parsed_are j.0 j.1 j.2)
+    (All-contains (IsRootOf us 0) (roots_from 0 us) root (roots-of 0 us) root_in)))

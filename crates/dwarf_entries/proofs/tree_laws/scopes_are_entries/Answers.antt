@@ -1,6 +1,75 @@
-use Rattle.dwarf_entries.proofs.Results.EntryScopes.{units-were-read, scopes-enter}
-use Rattle.dwarf_entries.proofs.Results.EntryScopes.{entries-described}
+use Rattle.std.proofs.Common.{◌≡◌, ℕ, suc, ◌+◌, true, List, [], drop, take, refl, ap, sym, ◌∙◌}
+use Rattle.std.proofs.Common.{arith}
+use Rattle.std.specs.Prelude.{Option, Some, None, Ok, Contains, is_some, count_by}
+use Rattle.std.proofs.lemmas.Option.{same_Some, slice_get_within}
+use Rattle.dwarf_bytes.proofs.Items.EachPlaces.{each-length}
+use Rattle.dwarf_walk.specs.declared.scope_kind.ScopeKind.{ScopeKind}
+use Rattle.dwarf_walk.specs.ScopeEntries.{kind_of, is_scope}
+use Rattle.dwarf_entries.specs.Units.{CompilationUnit, units_read}
+use Rattle.dwarf_entries.specs.Scopes.{Scope, ScopeSite, ParsedScope, roots_from}
+use Rattle.dwarf_entries.specs.Private.Passes.{first_number, all_sites, parse_scope, all_scopes}
+use Rattle.dwarf_entries.specs.TreeLaws.{IsEntry}
+use Rattle.dwarf_entries.proofs.Results.TreeParts.{after-tree, with-units, scope-at, contained}
+use Rattle.dwarf_entries.proofs.Results.TreeParts.{contains, scopes_in}
+use Rattle.dwarf_entries.proofs.ScopePasses.SiteLaws.{site_at, site-of-entry}
+use Rattle.dwarf_entries.proofs.UnitPasses.PassLaws.{element}
 use Rattle.dwarf_entries.proofs.tree_laws.scopes_are_entries.Goals as goal
 
-pub returns : goal.returns
-returns c = record { units = units-were-read; entries = scopes-enter; scopes = entries-described }
+pub returns-clause-units : goal.returns-clause-units
+returns-clause-units c s tree h = after-tree s tree h (λ tree. (units : List CompilationUnit)
+    × (units_read s ≡ Ok units) × (roots_from 0 units ≡ tree.roots))
+    (λ us parsed us_are parsed_are. (us, us_are, refl))
+
+pub returns-clause-entries : goal.returns-clause-entries
+returns-clause-entries c s tree us scope h us_are = with-units s us tree us_are h
+    (λ tree. Contains tree.scopes scope → (unit place : ℕ) × IsEntry us unit place scope)
+    (λ parsed parsed_are inside.
+    let j = contained parsed scope inside in
+    let at = scope-at s us parsed parsed_are j.0 j.1 j.2 in (
+      at.place.unit,
+      at.place.is.index,
+      record {
+        of = at.site.member.unit;
+        of_is = at.place.unit_is;
+        die = at.site.member.die;
+        die_is = at.place.is.there;
+        offset_is = ap (λ (x : Scope). x.offset) (sym j.3)
+            ∙ sym (ap (λ (x : ParsedScope). x.scope.offset) at.is);
+        kind_is = at.place.is.kind_is ∙ ap (λ (k : ScopeKind). Some k)
+            (ap (λ (x : ParsedScope). x.scope.kind) at.is ∙ ap (λ (x : Scope). x.kind) j.3);
+      },
+    ))
+
+pub returns-clause-scopes : goal.returns-clause-scopes
+returns-clause-scopes c s tree us unit place of die h us_are of_is die_is is =
+    with-units s us tree us_are h
+    (λ tree. (scope : Scope) × Contains tree.scopes scope × IsEntry us unit place scope)
+    (λ parsed parsed_are. by_kind (kind_of die.tag) refl is parsed parsed_are)
+  where
+    by_kind : (found : Option ScopeKind) → kind_of die.tag ≡ found → is_some found ≡ true
+        → (parsed : List ParsedScope) → all_scopes s us ≡ Ok parsed
+        → (scope : Scope) × Contains (scopes_in parsed) scope × IsEntry us unit place scope
+    by_kind None at is parsed parsed_are = absurd cc
+    by_kind (Some kind) at is parsed parsed_are =
+        let n : ℕ = first_number us unit + count_by is_scope (take place of.dies) in
+        let site = site_at of die (drop (suc place) of.dies) kind in
+        let there = site-of-entry us unit place of die kind of_is die_is at in
+        let within = slice_get_within (all_sites us) n site there in
+        let size = each-length (parse_scope s us) [] (all_sites us) parsed parsed_are in
+        let j = element parsed n (omega (arith, within, size)) in
+        let found = scope-at s us parsed parsed_are n j.0 j.1 in
+        let same = same_Some site found.site (sym there ∙ found.there) in (
+          j.0.scope,
+          contains parsed n j.0 j.1,
+          record {
+            of = of;
+            of_is = of_is;
+            die = die;
+            die_is = die_is;
+            offset_is = sym (ap (λ (x : ParsedScope). x.scope.offset) found.is)
+                ∙ ap (λ (p : ScopeSite). p.member.die.offset) (sym same);
+            kind_is = at ∙ ap (λ (k : ScopeKind). Some k)
+                (ap (λ (p : ScopeSite). p.kind) same
+                ∙ ap (λ (x : ParsedScope). x.scope.kind) found.is);
+          },
+        )
