@@ -1,16 +1,15 @@
 -- The units and scopes that a result was read from.
-use Rattle.std.proofs.Common.{◌≡◌, ◌⊎◌, inl, inr, ℕ, ◌+◌, ◌<◌, List, [], length, take, map, get_or}
-use Rattle.std.proofs.Common.{ap, sym, refl, ◌∙◌, subst, arith, length-take}
+use Rattle.std.proofs.Common.{◌≡◌, ℕ, ◌+◌, ◌<◌, List, [], length, take, map, get_or, ap, sym, ◌∙◌}
+use Rattle.std.proofs.Common.{subst, arith, length-take}
 use Rattle.std.specs.Prelude.{Result, Ok, Err, Some, All, Contains, slice_get}
 use Rattle.std.proofs.lemmas.List.{get_or-map, length-map}
 use Rattle.std.proofs.lemmas.List.Elements.{All-map}
 use Rattle.std.proofs.lemmas.Option.{slice_get-get_or, slice_get_within, get_or_from_slice_get}
 use Rattle.dwarf_bytes.specs.declared.fault.Cause.{Cause}
 use Rattle.dwarf_bytes.specs.declared.fault.Section.TheVariants as names
-use Rattle.dwarf_bytes.specs.declared.fault.LoadFault.{LoadFault}
 use Rattle.dwarf_bytes.specs.Bind.{◌>>=◌}
 use Rattle.dwarf_bytes.specs.Items.{with_offset}
-use Rattle.dwarf_bytes.specs.Refusals.{memory_fault, in_section}
+use Rattle.dwarf_bytes.specs.Refusals.{in_section}
 use Rattle.dwarf_bytes.proofs.Numbers.Advance.{bind_ok, after-bind}
 use Rattle.dwarf_bytes.proofs.Numbers.Moves.{same-ok}
 use Rattle.dwarf_units.proofs.TableLaws.{in_section-ok}
@@ -23,32 +22,12 @@ use Rattle.dwarf_entries.specs.Scopes.{Tree, Scope, ScopeSite, ParsedScope, scop
 use Rattle.dwarf_entries.specs.Scopes.{scope_of_site, covers_there, roots_from}
 use Rattle.dwarf_entries.specs.Private.Passes.{parse_scope, all_sites, all_scopes}
 use Rattle.dwarf_entries.proofs.ScopePasses.SiteLaws.{IsSiteAt, site-at}
-use Rattle.dwarf_entries.proofs.UnitPasses.PassLaws.{Faults, element, each-at}
+use Rattle.dwarf_entries.proofs.UnitPasses.PassLaws.{element, each-at}
 
 -- ---- the passes of a read
 
 abbrev pub tree_from : List CompilationUnit → List ParsedScope → Tree
 tree_from us parsed = record { roots = roots_from 0 us; scopes = map (λ j. j.scope) parsed }
-
-abbrev pub FaultOfTree : Sections → LoadFault → Type 0
-FaultOfTree s fault = (fault ≡ memory_fault) ⊎ (tree_of s ≡ Err fault)
-
-pub units-fault : (s : Sections) (fault : LoadFault)
-    → (fault ≡ memory_fault) ⊎ (units_read s ≡ Err fault) → FaultOfTree s fault
-unfolding tree_of
-units-fault s fault (inl memory) = inl memory
-units-fault s fault (inr bad) = inr (rw bad refl)
-
-module _ (s : Sections) (us : List CompilationUnit) (us_are : units_read s ≡ Ok us) where
-  pub scopes-fault : (fault : LoadFault) → Faults fault (all_scopes s us) → FaultOfTree s fault
-  unfolding tree_of
-  scopes-fault fault (inl memory) = inl memory
-  scopes-fault fault (inr bad) = inr (rw (us_are, bad) refl)
-
-  pub tree-read : (parsed : List ParsedScope) → all_scopes s us ≡ Ok parsed
-      → tree_of s ≡ Ok (tree_from us parsed)
-  unfolding tree_of
-  tree-read parsed parsed_are = rw (us_are, parsed_are) refl
 
 -- A property of a result follows from the units and scopes that it was read from.
 pub after-tree : (s : Sections) (tree : Tree) → tree_of s ≡ Ok tree → (P : Tree → Type 0)

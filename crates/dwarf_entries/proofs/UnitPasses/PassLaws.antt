@@ -16,6 +16,7 @@ use Rattle.dwarf_bytes.specs.Items.{At, each, each_from, with_offset}
 use Rattle.dwarf_bytes.specs.Refusals.{Fails, memory_fault, at_item, in_section}
 use Rattle.dwarf_bytes.proofs.Items.EachPlaces.{each-append, each-length, each-place}
 use Rattle.dwarf_entries.specs.Private.Passes.{PassedTo}
+use Rattle.std.specs.Result.{IsErrAnd}
 
 -- ---- elements by index
 
@@ -68,6 +69,18 @@ each-at {X = X} {Y = Y} make before xs ys h i y found =
     )
 
 -- ---- faults
+
+-- The result at the exit of a `?`.
+pub exit : {T E : Type 0} {e : E} (r : Result T E) → IsErrAnd r (λ y. y ≡ e) → r ≡ Err e
+exit (Ok x) h = absurd h
+exit {T} {E} (Err y) h = ap (λ (z : E). let r : Result T E = Err z in r) h
+
+-- The fault of the first of two steps.
+pub step-fault : {X Y : Type 0} {fault : LoadFault} (r : Result X LoadFault)
+    (f : X → Result Y LoadFault) → (fault ≡ memory_fault) ⊎ (r ≡ Err fault)
+    → (fault ≡ memory_fault) ⊎ ((r >>= f) ≡ Err fault)
+step-fault r f (inl memory) = inl memory
+step-fault r f (inr bad) = inr (rw bad refl)
 
 -- The fault of an element, reported at its offset.
 pub item-fault : {X : Type 0} (r : Result X Cause) (cause : Cause) (at : ℕ) → Fails cause r

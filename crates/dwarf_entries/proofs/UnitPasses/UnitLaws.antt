@@ -1,12 +1,12 @@
 -- The units of an object, as they were read from its sections, and the faults of reading them.
-use Rattle.std.proofs.Common.{◌≡◌, ◌⊎◌, inl, inr, ℕ, zero, suc, ◌<◌, ◌≤◌, List, [], ◌∷◌, length}
-use Rattle.std.proofs.Common.{map, false, Bool, ◌==◌, ◌||◌, refl, ap, sym, ◌∙◌, subst, arith}
+use Rattle.std.proofs.Common.{◌≡◌, ℕ, zero, suc, ◌<◌, ◌≤◌, List, [], ◌∷◌, length, map, false, Bool}
+use Rattle.std.proofs.Common.{◌==◌, ◌||◌, refl, ap, sym, ◌∙◌, subst, arith}
 use Rattle.std.specs.Prelude.{Some, Result, Ok, Err, zip, slice_get, flat_map}
 use Rattle.std.specs.List.{list_any}
 use Rattle.std.proofs.lemmas.Option.{same_Some, slice_get_within, get_or_from_slice_get}
 use Rattle.dwarf_bytes.specs.declared.fault.Section.TheVariants as names
 use Rattle.dwarf_bytes.specs.declared.fault.LoadFault.{LoadFault}
-use Rattle.dwarf_bytes.specs.Refusals.{memory_fault, in_section}
+use Rattle.dwarf_bytes.specs.Refusals.{in_section}
 use Rattle.dwarf_bytes.proofs.Numbers.Advance.{bind_ok, after-bind}
 use Rattle.dwarf_bytes.proofs.Numbers.Moves.{same-ok}
 use Rattle.dwarf_forms.specs.Declarations.{Declaration}
@@ -27,7 +27,7 @@ use Rattle.dwarf_entries.specs.Private.ObjectUnits.{ObjectUnits, units_or_none, 
 use Rattle.dwarf_entries.specs.Private.Passes.{all_entries, all_bases}
 use Rattle.dwarf_entries.proofs.UnitPasses.BasesPass.{with_bases-parts}
 use Rattle.dwarf_entries.proofs.UnitPasses.HeaderLaws.{HasBounds, headers-in}
-use Rattle.dwarf_entries.proofs.UnitPasses.PassLaws.{Faults, each-at}
+use Rattle.dwarf_entries.proofs.UnitPasses.PassLaws.{each-at}
 
 -- ---- the units that were read
 
@@ -146,45 +146,6 @@ object-units s object same = subst (λ (v : ObjectUnits). AreUnitsIn v.sections 
     by_read (Ok us) is = units-in s us is
     by_read (Err fault) is =
         record { each_is = λ i u found. cc; apart = λ i j u v first second lt. cc }
-
--- ---- the passes, one after the other
-
-abbrev pub FaultOfUnits : Sections → LoadFault → Type 0
-FaultOfUnits s fault = (fault ≡ memory_fault) ⊎ (units_read s ≡ Err fault)
-
-pub headers-fault : (s : Sections) (fault : LoadFault) → Faults fault (units_of s.debug_info)
-    → FaultOfUnits s fault
-unfolding units_read
-headers-fault s fault (inl memory) = inl memory
-headers-fault s fault (inr bad) = inr (rw bad refl)
-
-module _ (s : Sections) (headers : List UnitHeader)
-    (headers_are : in_section names.DebugInfo (units_of s.debug_info) ≡ Ok headers) where
-  pub tables-fault : (fault : LoadFault) → (fault ≡ memory_fault)
-      ⊎ (in_section names.DebugAbbrev (tables_of s.debug_abbrev headers) ≡ Err fault)
-      → FaultOfUnits s fault
-  unfolding units_read
-  tables-fault fault (inl memory) = inl memory
-  tables-fault fault (inr bad) = inr (rw (headers_are, bad) refl)
-
-  module _ (tables : List (List Declaration)) (tables_are :
-      in_section names.DebugAbbrev (tables_of s.debug_abbrev headers) ≡ Ok tables) where
-    pub entries-fault : (fault : LoadFault)
-        → Faults fault (all_entries s.debug_info headers tables) → FaultOfUnits s fault
-    unfolding units_read
-    entries-fault fault (inl memory) = inl memory
-    entries-fault fault (inr bad) = inr (rw (headers_are, tables_are, bad) refl)
-
-    module _ (us : List CompilationUnit)
-        (us_are : all_entries s.debug_info headers tables ≡ Ok us) where
-      pub bases-fault : (fault : LoadFault) → Faults fault (all_bases s us) → FaultOfUnits s fault
-      unfolding units_read
-      bases-fault fault (inl memory) = inl memory
-      bases-fault fault (inr bad) = inr (rw (headers_are, tables_are, us_are, bad) refl)
-
-      pub units-are : (vs : List CompilationUnit) → all_bases s us ≡ Ok vs → units_read s ≡ Ok vs
-      unfolding units_read
-      units-are vs vs_are = rw (headers_are, tables_are, us_are, vs_are) refl
 
 -- If the bitmap was empty, it contains exactly the entries of the units.
 pub all-marked : (none bitmap : EntryBitmap) (us vs : List CompilationUnit)

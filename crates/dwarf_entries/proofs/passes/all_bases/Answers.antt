@@ -1,8 +1,7 @@
 use Rattle.std.proofs.Common.{[], refl, arith}
 use Rattle.std.proofs.lemmas.Option.{slice_get_read}
-use Rattle.std.proofs.lemmas.Result.{err_from_is_err_and}
 use Rattle.dwarf_entries.proofs.UnitPasses.BasesPass.{bases-next, bases-fault}
-use Rattle.dwarf_entries.proofs.UnitPasses.PassLaws.{pass-none, pass-end}
+use Rattle.dwarf_entries.proofs.UnitPasses.PassLaws.{pass-none, pass-end, exit}
 use Rattle.dwarf_entries.proofs.UnitPasses.StoredUnits.{stored-at, stored-length}
 use Rattle.dwarf_entries.proofs.passes.all_bases.Goals as goal
 
@@ -12,8 +11,7 @@ loop-unit-init c us same = rw c.new-all.ensures.items
 
 pub returns-in_err-unit_bases : goal.returns-in_err-unit_bases
 returns-in_err-unit_bases c us same =
-    let p = err_from_is_err_and c.from_residual.result c.from_residual.ensures.1 in
-    rw (p.1, p.2) (bases-fault (c.loop-unit.invariant us same)
+    rw (exit _ c.from_residual.ensures.1) (bases-fault (c.loop-unit.invariant us same)
     (stored-at c.args.units.now us c.loop-unit.unit-index c.unit-item.result same
     (slice_get_read c.args.units.now _ c.loop-unit.unit-index c.unit-item.result refl
     c.loop-unit-test.true c.unit-item.is)) c.in_err-unit_bases.ensures)

@@ -1,9 +1,9 @@
 use Rattle.std.proofs.Common.{◌∙◌, ◌≡◌, sym, inl}
 use Rattle.std.proofs.lemmas.Option.{same_Some, slice_get_within}
-use Rattle.std.proofs.lemmas.Result.{err_from_is_err_and}
 use Rattle.dwarf_entries.proofs.UnitPasses.EntriesPass.{entries-none, entries-next, entries-end}
 use Rattle.dwarf_entries.proofs.UnitPasses.EntriesPass.{entries-table-fault, entries-fault}
 use Rattle.dwarf_entries.proofs.passes.all_entries.Goals as goal
+use Rattle.dwarf_entries.proofs.UnitPasses.PassLaws.{exit}
 
 pub loop-header-init : goal.loop-header-init
 loop-header-init c = rw c.new-units.ensures.items
@@ -11,8 +11,7 @@ loop-header-init c = rw c.new-units.ensures.items
 
 pub returns-in_err-number-clause-units : goal.returns-in_err-number-clause-units
 returns-in_err-number-clause-units c tables all =
-    let p = err_from_is_err_and c.from_residual.result c.from_residual.ensures.1 in
-    rw (p.1, p.2) (inl (entries-table-fault (c.loop-header.invariant.so_far tables all) _ all _
+    rw (exit _ c.from_residual.ensures.1) (inl (entries-table-fault (c.loop-header.invariant.so_far tables all) _ all _
     c.loop-header-test.true c.in_err-number.field-0.0
     (rw c.loop-header.invariant.section at c.in_err-number.ensures.err)))
 
@@ -22,12 +21,10 @@ table-table-requires c = slice_get_within c.number_of.new.self.tables c.in_ok-nu
 
 pub returns-in_err-unit-clause-units : goal.returns-in_err-unit-clause-units
 returns-in_err-unit-clause-units c tables all =
-    let p = err_from_is_err_and c.from_residual-in_err-unit.result
-    c.from_residual-in_err-unit.ensures.1 in
     let found = rw c.loop-header.invariant.section at c.in_ok-number.ensures.ok in
     let same : c.table-table.result ≡ found.0 =
     same_Some c.table-table.result found.0 (sym c.table-table.ensures ∙ found.1) in
-    rw (p.1, p.2) (entries-fault (c.loop-header.invariant.so_far tables all) _ all _
+    rw (exit _ c.from_residual-in_err-unit.ensures.1) (entries-fault (c.loop-header.invariant.so_far tables all) _ all _
     c.loop-header-test.true _ found.2 (rw same at c.in_err-unit.ensures.decodes))
 
 pub loop-header-preserved : goal.loop-header-preserved

@@ -1,28 +1,23 @@
-use Rattle.std.proofs.Common.{List, [], length, Ok, ap, sym, ◌∙◌, arith}
+use Rattle.std.proofs.Common.{List, [], length, ap, arith, refl}
 use Rattle.std.proofs.lemmas.List.{length-map}
-use Rattle.std.proofs.lemmas.Result.{err_from_is_err_and}
 use Rattle.dwarf_bytes.proofs.Items.EachPlaces.{each-length}
-use Rattle.dwarf_walk.specs.Sections.{sections_of}
-use Rattle.dwarf_entries.specs.declared.scope.Root.{Root}
-use Rattle.dwarf_entries.specs.Scopes.{Scope, ParsedScope, roots_from, scopes_of}
+use Rattle.dwarf_entries.specs.Scopes.{Scope, ParsedScope, roots_from, tree_of}
 use Rattle.dwarf_entries.specs.Private.Passes.{parse_scope, all_sites}
-use Rattle.dwarf_entries.proofs.Results.TreeParts.{units-fault, scopes-fault, tree-read}
 use Rattle.dwarf_entries.proofs.ScopePasses.SharedLaws.{scopes-length}
 use Rattle.dwarf_entries.proofs.ScopePasses.SiteLaws.{all-sites-count}
 use Rattle.dwarf_entries.proofs.scopes.Scopes.read.Goals as goal
+use Rattle.dwarf_entries.proofs.UnitPasses.PassLaws.{exit, step-fault}
 
 pub returns-in_err-units : goal.returns-in_err-units
-returns-in_err-units c =
-    let p = err_from_is_err_and c.from_residual-in_err-units.result
-    c.from_residual-in_err-units.ensures.1 in
-    rw (p.1, p.2) (units-fault (sections_of c.args.sections.now) _ c.in_err-units.ensures.units)
+unfolding tree_of
+returns-in_err-units c = rw (exit _ c.from_residual-in_err-units.ensures.1)
+    (step-fault _ _ c.in_err-units.ensures.units)
 
 pub returns-in_err-lists : goal.returns-in_err-lists
+unfolding tree_of
 returns-in_err-lists c =
-    let p = err_from_is_err_and c.from_residual-in_err-lists.result
-    c.from_residual-in_err-lists.ensures.1 in
-    rw (p.1, p.2) (scopes-fault (sections_of c.args.sections.now) _ c.in_ok-units.ensures.units _
-    (rw c.in_ok-units.ensures.sections at c.in_err-lists.ensures.scopes))
+    rw (exit _ c.from_residual-in_err-lists.ensures.1, c.in_ok-units.ensures.units)
+    (step-fault _ _ (rw c.in_ok-units.ensures.sections at c.in_err-lists.ensures.scopes))
 
 pub roots-requires : goal.roots-requires
 roots-requires c =
@@ -48,11 +43,8 @@ roots-requires c =
     ))
 
 pub returns : goal.returns
+unfolding tree_of
 returns c =
-    let us = c.in_ok-units.units.units in
-    let lists = c.in_ok-lists.lists in
     let parsed = rw c.in_ok-units.ensures.sections at c.in_ok-lists.ensures.scopes in
     let roots = rw c.in_ok-lists.ensures.same at c.in_ok-roots.ensures.roots in
-    tree-read (sections_of c.args.sections.now) us c.in_ok-units.ensures.units parsed.0 parsed.1
-    ∙ (ap (λ (ss : List Scope). Ok (record { roots = roots_from 0 us; scopes = ss })) (sym parsed.2)
-    ∙ ap (λ (rs : List Root). Ok (record { roots = rs; scopes = scopes_of rs lists })) (sym roots))
+    rw (c.in_ok-units.ensures.units, parsed.1, roots, parsed.2) refl

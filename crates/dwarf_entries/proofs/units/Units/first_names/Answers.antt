@@ -1,9 +1,9 @@
 use Rattle.std.proofs.Common.{[], inl, inr, refl, arith, ◌∙◌}
-use Rattle.std.proofs.lemmas.Result.{err_from_is_err_and}
 use Rattle.dwarf_bytes.proofs.Items.Turns.{None-from-no-Some}
 use Rattle.dwarf_entries.proofs.OriginChains.ChainLaws.{followed-none, followed-next, followed-end}
 use Rattle.dwarf_entries.proofs.OriginChains.ChainLaws.{followed-deep, followed-lost, target-there}
 use Rattle.dwarf_entries.proofs.units.Units.first_names.Goals as goal
+use Rattle.dwarf_entries.proofs.UnitPasses.PassLaws.{exit}
 
 pub loop-last-init : goal.loop-last-init
 loop-last-init c = record {
@@ -25,10 +25,9 @@ returns-in_default-target-clause-names c m at =
 
 pub returns-in_err-last-clause-names : goal.returns-in_err-last-clause-names
 returns-in_err-last-clause-names c m at =
-    let p = err_from_is_err_and c.from_residual.result c.from_residual.ensures.1 in
     let n = target-there (c.loop-last.invariant.so_far m at) c.in-Some.reference c.in-Some.is _
     (rw c.loop-last.invariant.same at c.in-Some-target.ensures) c.in-Some-target.place refl in
-    rw (p.1, p.2)
+    rw (exit _ c.from_residual.ensures.1)
     (inl ((rw c.loop-last.invariant.same at c.in_err-last.ensures.member) n.0 n.2))
 
 pub loop-last-preserved : goal.loop-last-preserved

@@ -1,61 +1,57 @@
-use Rattle.std.proofs.Common.{sym, ap, ◌∙◌, List, Ok}
-use Rattle.std.proofs.lemmas.Result.{err_from_is_err_and}
+use Rattle.std.proofs.Common.{sym, ◌∙◌, List, refl}
 use Rattle.dwarf_bytes.specs.declared.fault.Section.TheVariants as names
 use Rattle.dwarf_units.specs.Entries.{Die}
 use Rattle.dwarf_units.proofs.TableLaws.{in_section-ok}
 use Rattle.dwarf_walk.specs.Stored.{stored_unit}
 use Rattle.dwarf_walk.specs.Sections.{sections_of}
-use Rattle.dwarf_entries.specs.Private.ObjectUnits.{ObjectUnits, units_or_none}
 use Rattle.dwarf_entries.proofs.OriginChains.ChainStrings.{cache-none}
 use Rattle.dwarf_entries.proofs.UnitPasses.BasesPass.{bases-stay}
-use Rattle.dwarf_entries.proofs.UnitPasses.UnitLaws.{headers-fault, tables-fault, entries-fault}
-use Rattle.dwarf_entries.proofs.UnitPasses.UnitLaws.{bases-fault, units-are, all-marked}
-use Rattle.dwarf_entries.proofs.UnitPasses.ObjectLaws.{seen}
 use Rattle.dwarf_entries.proofs.units.Units.read.Goals as goal
+use Rattle.dwarf_entries.proofs.UnitPasses.PassLaws.{exit, step-fault}
+use Rattle.dwarf_entries.proofs.UnitPasses.UnitLaws.{all-marked}
+use Rattle.dwarf_entries.specs.Units.{units_read}
 
 pub returns-in_err-headers-clause-units : goal.returns-in_err-headers-clause-units
+unfolding units_read
 returns-in_err-headers-clause-units c =
-    let p = err_from_is_err_and c.from_residual.result c.from_residual.ensures.1 in
-    rw (p.1, p.2) (headers-fault (sections_of c.args.sections.now) _ c.in_err-headers.ensures)
+    rw (exit _ c.from_residual.ensures.1) (step-fault _ _ c.in_err-headers.ensures)
 
 pub returns-in_err-tables-clause-units : goal.returns-in_err-tables-clause-units
+unfolding units_read
 returns-in_err-tables-clause-units c =
-    let p = err_from_is_err_and c.from_residual-in_err-tables.result
-    c.from_residual-in_err-tables.ensures.1 in
-    rw (p.1, p.2) (tables-fault (sections_of c.args.sections.now) _ c.in_ok-headers.ensures _
-    (rw c.as_slice.ensures.value at c.in_err-tables.ensures.err))
+    rw (exit _ c.from_residual-in_err-tables.ensures.1, c.in_ok-headers.ensures)
+    (step-fault _ _ (rw c.as_slice.ensures.value at c.in_err-tables.ensures.err))
 
 pub returns-in_err-units-clause-units : goal.returns-in_err-units-clause-units
+unfolding units_read
 returns-in_err-units-clause-units c =
-    let p = err_from_is_err_and c.from_residual-in_err-units.result
-    c.from_residual-in_err-units.ensures.1 in
     let tables = rw c.as_slice.ensures.value at c.in_ok-tables.ensures.ok in
-    rw (p.1, p.2) (entries-fault (sections_of c.args.sections.now) _ c.in_ok-headers.ensures
-    tables.0 tables.1 _ ((rw c.as_slice-headers.ensures.value at c.in_err-units.ensures.units)
-    tables.0 (in_section-ok names.DebugAbbrev _ tables.0 tables.1)))
+    rw (exit _ c.from_residual-in_err-units.ensures.1, c.in_ok-headers.ensures, tables.1)
+    (step-fault _ _ ((rw c.as_slice-headers.ensures.value at c.in_err-units.ensures.units) tables.0
+    (in_section-ok names.DebugAbbrev _ tables.0 tables.1)))
 
 pub returns-in_err-bases-clause-units : goal.returns-in_err-bases-clause-units
+unfolding units_read
 returns-in_err-bases-clause-units c =
-    let p = err_from_is_err_and c.from_residual-in_err-bases.result
-    c.from_residual-in_err-bases.ensures.1 in
     let tables = rw c.as_slice.ensures.value at c.in_ok-tables.ensures.ok in
     let units = (rw c.as_slice-headers.ensures.value at c.in_ok-units.ensures.units) tables.0
     (in_section-ok names.DebugAbbrev _ tables.0 tables.1) in
-    rw (p.1, p.2) (bases-fault (sections_of c.args.sections.now) _ c.in_ok-headers.ensures tables.0
-    tables.1 units.0 units.1 _ ((rw c.as_slice-2.ensures.value at c.in_err-bases.ensures) units.0
-    units.2.0))
+    rw (
+      exit _ c.from_residual-in_err-bases.ensures.1,
+      c.in_ok-headers.ensures,
+      tables.1,
+      units.1,
+    ) ((rw c.as_slice-2.ensures.value at c.in_err-bases.ensures) units.0 units.2.0)
 
 pub invariant_of-result : goal.invariant_of-result
+unfolding units_read
 invariant_of-result c =
     let s = sections_of c.args.sections.now in
     let tables = rw c.as_slice.ensures.value at c.in_ok-tables.ensures.ok in
     let units = (rw c.as_slice-headers.ensures.value at c.in_ok-units.ensures.units) tables.0
     (in_section-ok names.DebugAbbrev _ tables.0 tables.1) in
     let all = (rw c.as_slice-2.ensures.value at c.in_ok-bases.ensures) units.0 units.2.0 in
-    let object : ObjectUnits = record { sections = s; units = all.0 } in
-    let read = units-are s _ c.in_ok-headers.ensures tables.0 tables.1 units.0 units.1 all.0 all.1
-    in
-    seen {v = object} (record {
+    rw (c.in_ok-headers.ensures, tables.1, units.1, all.1) (record {
       stored_are = units.2.0 ∙ sym (bases-stay stored_unit s _ units.0 all.0 all.1);
       bitmap_is = all-marked c.in_ok-bitmap.bitmap c.all_entries.new.bitmap units.0 all.0
           c.in_ok-bitmap.ensures units.2.1
@@ -64,16 +60,13 @@ invariant_of-result c =
       strings_are = c.of.ensures;
       reader_is = c.new-2.ensures;
       cache_is = cache-none s all.0 c.new-3.result c.new-3.ensures;
-    }) (ap (λ (r : _).
-    (let v : ObjectUnits = record { sections = s; units = units_or_none r } in v)) (sym read))
+    })
 
 pub returns-clause-units : goal.returns-clause-units
+unfolding units_read
 returns-clause-units c =
-    let s = sections_of c.args.sections.now in
     let tables = rw c.as_slice.ensures.value at c.in_ok-tables.ensures.ok in
     let units = (rw c.as_slice-headers.ensures.value at c.in_ok-units.ensures.units) tables.0
     (in_section-ok names.DebugAbbrev _ tables.0 tables.1) in
     let all = (rw c.as_slice-2.ensures.value at c.in_ok-bases.ensures) units.0 units.2.0 in
-    let read = units-are s _ c.in_ok-headers.ensures tables.0 tables.1 units.0 units.1 all.0 all.1
-    in
-    read ∙ ap (λ (r : _). Ok (units_or_none r)) (sym read)
+    rw (c.in_ok-headers.ensures, tables.1, units.1, all.1) refl

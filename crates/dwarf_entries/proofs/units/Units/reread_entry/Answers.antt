@@ -1,11 +1,10 @@
 use Rattle.std.proofs.Common.{refl, sym, ◌∙◌, arith}
 use Rattle.std.proofs.lemmas.Option.{slice_get_within}
-use Rattle.std.proofs.lemmas.Result.{err_from_is_err_and}
 use Rattle.dwarf_bytes.proofs.Numbers.Moves.{same-ok}
 use Rattle.dwarf_walk.specs.Stored.{named_entry}
 use Rattle.dwarf_walk.proofs.RereadLaws.{again-memory}
 use Rattle.dwarf_entries.proofs.UnitPasses.ObjectLaws.{seen, seen-units, with-reader}
-use Rattle.dwarf_entries.proofs.UnitPasses.PassLaws.{found-at}
+use Rattle.dwarf_entries.proofs.UnitPasses.PassLaws.{found-at, exit}
 use Rattle.dwarf_entries.proofs.UnitPasses.RereadLaws.{reread}
 use Rattle.dwarf_entries.proofs.UnitPasses.StoredUnits.{stored-length}
 use Rattle.dwarf_entries.proofs.UnitPasses.UnitLaws.{object-units}
@@ -25,13 +24,12 @@ invariant_of-self c = with-reader _ c.self.invariant c.in_err-entry.ensures.read
 
 pub returns-in_err-entry-clause-member : goal.returns-in_err-entry-clause-member
 returns-in_err-entry-clause-member c m at =
-    let q = err_from_is_err_and c.from_residual.result c.from_residual.ensures.1 in
     let object = c.args.self.now in
     let r = reread object.sections object.units c.deref.result.now c.args.place m
     c.in-Some.stored.now (object-units _ _ c.self.view_is)
     (seen-units c.self.invariant c.self.view_is c.deref.ensures.value)
     (found-at _ _ c.args.place.unit _ refl c.in-Some.ensures.lookup.3) at in
-    rw (q.1, q.2) (again-memory c.in_err-entry.field-0.0 _ (named_entry m.die) r.there
+    rw (exit _ c.from_residual.ensures.1) (again-memory c.in_err-entry.field-0.0 _ (named_entry m.die) r.there
     (c.in_err-entry.ensures.names_at object.sections r.table
     (seen c.self.invariant c.self.view_is).reader_is r.table_is))
 

@@ -1,5 +1,4 @@
 use Rattle.std.proofs.Common.{ap, ◌∙◌}
-use Rattle.std.proofs.lemmas.Result.{err_from_is_err_and}
 use Rattle.dwarf_walk.specs.Sections.{sections_of}
 use Rattle.dwarf_entries.specs.Private.ObjectUnits.{ObjectUnits}
 use Rattle.dwarf_entries.proofs.ScopePasses.ScopeLaws.{site-member, names-fault, covers-fault}
@@ -7,22 +6,20 @@ use Rattle.dwarf_entries.proofs.ScopePasses.ScopeLaws.{scope-is, bases-there}
 use Rattle.dwarf_ranges.proofs.ScopeBudget.{budget-left}
 use Rattle.dwarf_entries.proofs.UnitPasses.ObjectLaws.{seen}
 use Rattle.dwarf_entries.proofs.units.Units.scope.Goals as goal
+use Rattle.dwarf_entries.proofs.UnitPasses.PassLaws.{exit}
 
 pub returns-in_err-names-clause-parsed : goal.returns-in_err-names-clause-parsed
 returns-in_err-names-clause-parsed c before p place =
-    let q = err_from_is_err_and c.from_residual.result c.from_residual.ensures.1 in
-    rw (q.1, q.2)
+    rw (exit _ c.from_residual.ensures.1)
     (names-fault c.args.self.now.sections place c.in_err-names.field-0.0
     (c.in_err-names.ensures.names p.member (site-member c.args.self.now.sections place)))
 
 pub returns-in_err-items-clause-parsed : goal.returns-in_err-items-clause-parsed
 returns-in_err-items-clause-parsed c before p place =
-    let q = err_from_is_err_and c.from_residual-in_err-items.result
-    c.from_residual-in_err-items.ensures.1 in
     let same = c.self.view_is ∙ c.in_ok-names.ensures.same in
     let are = seen c.self.invariant same in
     let us = c.args.self.now.units in
-    rw (q.1, q.2)
+    rw (exit _ c.from_residual-in_err-items.ensures.1)
     (covers-fault c.args.self.now.sections place c.in_ok-names.names
     (c.in_ok-names.ensures.names p.member (site-member c.args.self.now.sections place)) _
     (c.index-bases.ensures ∙ bases-there c.self.inside.bases.items us are.bases_are

@@ -1,8 +1,7 @@
 use Rattle.std.proofs.Common.{[], refl, arith, ◌∙◌}
-use Rattle.std.proofs.lemmas.Result.{err_from_is_err_and}
 use Rattle.dwarf_entries.proofs.ScopePasses.ScopesPass.{scopes-end}
 use Rattle.dwarf_entries.proofs.ScopePasses.SiteLaws.{first-all}
-use Rattle.dwarf_entries.proofs.UnitPasses.PassLaws.{pass-none}
+use Rattle.dwarf_entries.proofs.UnitPasses.PassLaws.{pass-none, exit}
 use Rattle.dwarf_entries.proofs.units.Units.scopes.Goals as goal
 
 pub loop-unit-init : goal.loop-unit-init
@@ -19,9 +18,7 @@ loop-unit-init c = record {
 
 pub returns-in_err-unit_scopes-clause-scopes : goal.returns-in_err-unit_scopes-clause-scopes
 returns-in_err-unit_scopes-clause-scopes c =
-    let p = err_from_is_err_and c.from_residual-in_err-unit_scopes.result
-    c.from_residual-in_err-unit_scopes.ensures.1 in
-    rw (p.1, p.2) ((rw c.loop-unit.invariant.same at c.in_err-unit_scopes.ensures.scopes)
+    rw (exit _ c.from_residual-in_err-unit_scopes.ensures.1) ((rw c.loop-unit.invariant.same at c.in_err-unit_scopes.ensures.scopes)
     c.loop-unit.invariant.so_far)
 
 pub loop-unit-preserved : goal.loop-unit-preserved

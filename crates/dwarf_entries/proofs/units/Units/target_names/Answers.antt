@@ -1,8 +1,8 @@
 use Rattle.std.proofs.Common.{inl, inr, sym, ◌∙◌}
-use Rattle.std.proofs.lemmas.Result.{err_from_is_err_and}
 use Rattle.dwarf_entries.proofs.OriginChains.ChainStrings.{cache-more, packed-cache, packed-nowhere}
 use Rattle.dwarf_entries.proofs.UnitPasses.ObjectLaws.{seen, with-cache}
 use Rattle.dwarf_entries.proofs.units.Units.target_names.Goals as goal
+use Rattle.dwarf_entries.proofs.UnitPasses.PassLaws.{exit}
 
 pub returns-in-Some-get-clause-names : goal.returns-in-Some-get-clause-names
 returns-in-Some-get-clause-names c u is =
@@ -20,9 +20,8 @@ returns-then-not-has_entry-clause-names c u is =
 
 pub returns-in_err-next-clause-names : goal.returns-in_err-next-clause-names
 returns-in_err-next-clause-names c u is =
-    let p = err_from_is_err_and c.from_residual.result c.from_residual.ensures.1 in
     let there = rw c.if-not-has_entry.false at c.has_entry.ensures c.in-Some.ensures.within in
-    rw (p.1, p.2) (inl (c.in_err-next.ensures.member there.0 there.2))
+    rw (exit _ c.from_residual.ensures.1) (inl (c.in_err-next.ensures.member there.0 there.2))
 
 pub invariant_of-self : goal.invariant_of-self
 invariant_of-self c =

@@ -1,11 +1,10 @@
 use Rattle.std.proofs.Common.{ℕ, inl, refl, arith, ap, ◌∙◌, subst}
-use Rattle.std.proofs.lemmas.Result.{err_from_is_err_and}
 use Rattle.dwarf_walk.specs.declared.unit_entries.ScopeEntry.{ScopeEntry}
 use Rattle.dwarf_entries.specs.Scopes.{sites_in}
 use Rattle.dwarf_entries.specs.Private.Passes.{AreParsedTo}
 use Rattle.dwarf_entries.proofs.ScopePasses.ScopesPass.{is-site, scopes-next, scopes-fault}
 use Rattle.dwarf_entries.proofs.ScopePasses.SiteLaws.{sites-count, first-next, all-sites-at}
-use Rattle.dwarf_entries.proofs.UnitPasses.PassLaws.{element}
+use Rattle.dwarf_entries.proofs.UnitPasses.PassLaws.{element, exit}
 use Rattle.dwarf_entries.proofs.units.Units.unit_scopes.Goals as goal
 
 pub loop-index-init : goal.loop-index-init
@@ -17,9 +16,8 @@ loop-index-init c = record {
 
 pub returns-in_err-entry-clause-scopes : goal.returns-in_err-entry-clause-scopes
 returns-in_err-entry-clause-scopes c parsed =
-    let p = err_from_is_err_and c.from_residual.result c.from_residual.ensures.1 in
     let u = element c.args.self.now.units c.args.unit c.requires.unit in
-    rw (p.1, p.2) (inl ((rw c.loop-index.invariant.same at c.in_err-entry.ensures.site) u.0 u.1))
+    rw (exit _ c.from_residual.ensures.1) (inl ((rw c.loop-index.invariant.same at c.in_err-entry.ensures.site) u.0 u.1))
 
 pub returns-in-Err-clause-scopes : goal.returns-in-Err-clause-scopes
 returns-in-Err-clause-scopes c parsed =
