@@ -20,6 +20,7 @@ use Rattle.dwarf_entries.specs.Private.Passes.{number_of_scopes, first_number}
 use Rattle.dwarf_entries.proofs.ScopePasses.SiteLaws.{sites-count, first-next}
 use Rattle.dwarf_entries.proofs.ScopePasses.SiteReads.{sites-stored}
 use Rattle.dwarf_entries.proofs.UnitPasses.StoredUnits.{StoredFor}
+use Rattle.dwarf_entries.specs.TreeLaws.{ArePartsFrom}
 
 -- The root of a unit, if there is one.
 abbrev pub root_list : ℕ → ℕ → Option RootEntry → List Root
@@ -92,34 +93,43 @@ rising-cons root roots after rise zero (suc j) d le lt = after j d (omega (arith
 rising-cons root roots after rise (suc i) (suc j) d le lt =
     rise i j d (omega (arith, le)) (omega (arith, lt))
 
-roots-in-order : (number : ℕ) (us : List CompilationUnit)
-    → All (λ r. number ≤ r.past) (roots_from number us)
-    × IsNonDecreasingBy (λ r. r.past) (roots_from number us)
-roots-in-order number [] = (All-nil _, λ i j d le lt. absurd (omega (arith, lt)))
-roots-in-order number (u ∷ us) =
-    let past : ℕ = number + count_by is_scope u.dies in
-    by_root u.dies past (omega arith) (roots-in-order past us)
-  where
-    lower : (past : ℕ) → number ≤ past → All (λ r. past ≤ r.past) (roots_from past us)
-        → All (λ r. number ≤ r.past) (roots_from past us)
-    lower past le = All-weaker (λ (r : Root). past ≤ r.past) (λ (r : Root). number ≤ r.past)
-        (λ r after. omega (arith, after, le)) (roots_from past us)
-
-    by_root : (dies : List Die) (past : ℕ) → number ≤ past
-        → All (λ r. past ≤ r.past) (roots_from past us)
-        × IsNonDecreasingBy (λ r. r.past) (roots_from past us)
-        → All (λ r. number ≤ r.past) (root_of number past dies (roots_from past us))
-        × IsNonDecreasingBy (λ r. r.past) (root_of number past dies (roots_from past us))
-    by_root [] past le rest = (lower past le rest.0, rest.1)
-    by_root (die ∷ dies) past le rest = (
-      All-cons (λ (r : Root). number ≤ r.past) _ (roots_from past us) le (lower past le rest.0),
-      rising-cons _ (roots_from past us) rest.0 rest.1,
+parts-rise : (number end : ℕ) (roots : List Root) → ArePartsFrom number end roots
+    → All (λ r. number ≤ r.past) roots × IsNonDecreasingBy (λ r. r.past) roots
+parts-rise number end [] parts = (All-nil _, λ i j d le lt. absurd (omega (arith, lt)))
+parts-rise number end (root ∷ roots) parts =
+    let rest = parts-rise root.past end roots parts.2 in
+    let le = parts.1 in (
+      All-cons (λ (r : Root). number ≤ r.past) root roots le (All-weaker
+          (λ (r : Root). root.past ≤ r.past) (λ (r : Root). number ≤ r.past)
+          (λ r after. omega (arith, after, le)) roots rest.0),
+      rising-cons root roots rest.0 rest.1,
     )
+
+-- The roots partition the numbers of the scopes.
+pub roots-part : (number : ℕ) (units : List CompilationUnit)
+    → ArePartsFrom number (number + number_of_scopes units) (roots_from number units)
+roots-part number [] = omega arith
+roots-part number (unit ∷ units) =
+    let past : ℕ = number + count_by is_scope unit.dies in
+    let sum = sum_by-cons (λ (u : CompilationUnit). count_by is_scope u.dies) unit units in
+    let end : past + number_of_scopes units ≡ number + number_of_scopes (unit ∷ units) =
+    omega (arith, sum) in
+    by_root past unit.dies refl (subst (λ (n : ℕ). ArePartsFrom past n (roots_from past units)) end
+    (roots-part past units))
+  where
+    by_root : (past : ℕ) (dies : List Die) → number + count_by is_scope dies ≡ past
+        → ArePartsFrom past (number + number_of_scopes (unit ∷ units)) (roots_from past units)
+        → ArePartsFrom number (number + number_of_scopes (unit ∷ units))
+        (root_of number past dies (roots_from past units))
+    by_root past [] is rest = let none : past ≡ number = omega (arith, is) in
+        subst (λ (n : ℕ). ArePartsFrom n (number + number_of_scopes (unit ∷ units))
+        (roots_from past units)) none rest
+    by_root past (root ∷ dies) is rest = (refl, omega (arith, is), rest)
 
 pub ends-rise : (us : List CompilationUnit) (roots : List Root) → roots ≡ roots_from 0 us
     → IsNonDecreasingBy (λ r. r.past) roots
-ends-rise us roots are = subst (λ (rs : List Root). IsNonDecreasingBy (λ (r : Root). r.past) rs)
-    (sym are) (roots-in-order 0 us).1
+ends-rise us roots are =
+    rw are (parts-rise 0 (0 + number_of_scopes us) (roots_from 0 us) (roots-part 0 us)).1
 
 -- The sum of the numbers of scopes up to the next index.
 pub count-within : (units : List UnitEntries) (index : ℕ) (unit : UnitEntries) (first : ℕ)

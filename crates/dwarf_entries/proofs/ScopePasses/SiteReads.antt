@@ -1,12 +1,8 @@
 -- The scope sites of a unit, from the data stored for it.
-use Rattle.std.proofs.Common.{◌≡◌, ℕ, List, [], ◌∷◌, length, get_or, map, refl, ap, ◌∙◌}
+use Rattle.std.proofs.Common.{◌≡◌, ℕ, List, [], ◌∷◌, length, get_or, map, refl, ap, ◌∙◌, subst, sym}
 use Rattle.std.specs.Prelude.{Option, Some, None, Ok, count_by, slice_get}
 use Rattle.std.proofs.lemmas.List.{get_or-map, length-map}
 use Rattle.std.proofs.lemmas.Option.{slice_get_within, get_or_from_slice_get}
-use Rattle.dwarf_forms.specs.Declarations.{Declaration}
-use Rattle.dwarf_forms.specs.Tables.{declarations_of}
-use Rattle.dwarf_units.specs.declared.unit_headers.UnitHeader.{UnitHeader}
-use Rattle.dwarf_units.specs.Units.{declarations_limit}
 use Rattle.dwarf_units.specs.Entries.{Die, below}
 use Rattle.dwarf_walk.specs.declared.scope_kind.ScopeKind.{ScopeKind}
 use Rattle.dwarf_walk.specs.declared.unit_entries.ScopePlace.{ScopePlace}
@@ -14,8 +10,7 @@ use Rattle.dwarf_walk.specs.declared.unit_entries.UnitEntries.{UnitEntries}
 use Rattle.dwarf_walk.specs.ScopeEntries.{kind_of, is_scope}
 use Rattle.dwarf_walk.specs.Sections.{Sections}
 use Rattle.dwarf_walk.specs.Private.Rereading.{scope_entry_at}
-use Rattle.dwarf_walk.specs.Stored.{StoredUnit, scope_entry, scope_place, scope_places}
-use Rattle.dwarf_walk.specs.Stored.{stored_of}
+use Rattle.dwarf_walk.specs.Stored.{StoredUnit, scope_entry, scope_place, scope_places, stored_of}
 use Rattle.dwarf_entries.specs.Units.{CompilationUnit}
 use Rattle.dwarf_entries.specs.Scopes.{ScopeSite, site_of, sites_in}
 use Rattle.dwarf_entries.specs.Private.EntryOffsets.{stored_unit_of}
@@ -50,35 +45,23 @@ sites-stored k u same = ap (λ (x : StoredUnit). length x.scopes) same
     ∙ length-map (sites_in u u.dies) place_in)
 
 -- The site at an index of the stored data of a unit, which can be re-read.
-pub record SiteRead (s : Sections) (p : ScopeSite) (header : UnitHeader) (stored : ScopePlace)
-    : Type 0 where
-  pub descendants_are : stored.inside ≡ p.inside
-  pub table : List Declaration
-  pub table_is : declarations_of declarations_limit s.debug_abbrev header.abbreviations ≡ Ok table
-  pub there : scope_entry_at header.format table (bytes_in s header) stored.offset
-      ≡ Ok (scope_entry p.member.die p.kind)
-
 pub site-read : (s : Sections) (u : CompilationUnit) (i : ℕ) (p : ScopeSite) (k : UnitEntries)
-    (stored : ScopePlace) → IsUnitIn s u → stored_of k ≡ stored_unit_of u
+    (stored : ScopePlace) (read : IsUnitIn s k.header u.dies) → stored_of k ≡ stored_unit_of u
     → slice_get (sites_in u u.dies) i ≡ Some p → stored ≡ get_or k.scopes.items i stored
-    → SiteRead s p k.header stored
+    → (stored.inside ≡ p.inside)
+    × (scope_entry_at k.header.format read.table (bytes_in s k.header) stored.offset
+    ≡ Ok (scope_entry p.member.die p.kind))
 site-read s u i p k stored read same found here =
     let sites = sites_in u u.dies in
     let at = site-in u u.dies i p found in
-    let header : k.header ≡ u.header = ap (λ (x : StoredUnit). x.header) same in
     let is : stored ≡ place_in p =
     here ∙ (ap (λ (ps : List ScopePlace). get_or ps i stored)
     (ap (λ (x : StoredUnit). x.scopes) same ∙ places-are u u.dies)
     ∙ (get_or-map place_in sites i p stored (slice_get_within sites i p found)
     ∙ ap place_in (get_or_from_slice_get sites i p p found))) in
-    record {
-      descendants_are = ap (λ (q : ScopePlace). q.inside) is;
-      table = read.table;
-      table_is = ap (λ (h : UnitHeader). declarations_of declarations_limit s.debug_abbrev
-          h.abbreviations) header ∙ read.table_is;
-      there = ap (λ (h : UnitHeader). scope_entry_at h.format read.table (bytes_in s h)
-          stored.offset) header
-          ∙ (ap (λ (q : ScopePlace). scope_entry_at u.header.format read.table
-          (bytes_in s u.header) q.offset) is
-          ∙ scope-there s u at.index p.member.die p.kind read at.there at.kind_is);
-    }
+    subst (λ (q : ScopePlace). (q.inside ≡ p.inside)
+    × (scope_entry_at k.header.format read.table (bytes_in s k.header) q.offset
+    ≡ Ok (scope_entry p.member.die p.kind))) (sym is) (
+      refl,
+      scope-there s k.header u.dies at.index p.member.die read at.there p.kind at.kind_is,
+    )

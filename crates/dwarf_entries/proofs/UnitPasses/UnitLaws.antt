@@ -1,6 +1,6 @@
 -- The units of an object, as they were read from its sections, and the faults of reading them.
 use Rattle.std.proofs.Common.{◌≡◌, ℕ, zero, suc, ◌<◌, ◌≤◌, List, [], ◌∷◌, length, map, false, Bool}
-use Rattle.std.proofs.Common.{◌==◌, ◌||◌, refl, ap, sym, ◌∙◌, subst, arith}
+use Rattle.std.proofs.Common.{◌==◌, ◌||◌, refl, ap, sym, ◌∙◌, subst, arith, subst₂}
 use Rattle.std.specs.Prelude.{Some, Result, Ok, Err, zip, slice_get, flat_map}
 use Rattle.std.specs.List.{list_any}
 use Rattle.std.proofs.lemmas.Option.{same_Some, slice_get_within, get_or_from_slice_get}
@@ -32,19 +32,20 @@ use Rattle.dwarf_entries.proofs.UnitPasses.PassLaws.{each-at}
 -- ---- the units that were read
 
 -- The header of a unit is within the section, and its entries are read with its table.
-pub record IsUnitIn (s : Sections) (u : CompilationUnit) : Type 0 where
-  pub bounds : HasBounds (length s.debug_info) u.header
+pub record IsUnitIn (s : Sections) (header : UnitHeader) (dies : List Die) : Type 0 where
+  pub bounds : HasBounds (length s.debug_info) header
   pub table : List Declaration
-  pub table_is : declarations_of declarations_limit s.debug_abbrev u.header.abbreviations ≡ Ok table
-  pub dies_are : entries_of s.debug_info u.header table ≡ Ok u.dies
+  pub table_is : declarations_of declarations_limit s.debug_abbrev header.abbreviations ≡ Ok table
+  pub dies_are : entries_of s.debug_info header table ≡ Ok dies
 
-pub dies-rise : {s : Sections} {u : CompilationUnit} → IsUnitIn s u
-    → RiseWithin u.header.start u.header.end u.dies
-dies-rise {s = s} {u = u} is = entries-rise s.debug_info u.header is.table u.dies is.dies_are
-    is.bounds.first is.bounds.last
+pub dies-rise : {s : Sections} {header : UnitHeader} {dies : List Die} → IsUnitIn s header dies
+    → RiseWithin header.start header.end dies
+dies-rise {s} {header} {dies} is =
+    entries-rise s.debug_info header is.table dies is.dies_are is.bounds.first is.bounds.last
 
 pub record AreUnitsIn (s : Sections) (us : List CompilationUnit) : Type 0 where
-  pub each_is : (i : ℕ) (u : CompilationUnit) → slice_get us i ≡ Some u → IsUnitIn s u
+  pub each_is : (i : ℕ) (u : CompilationUnit) → slice_get us i ≡ Some u
+      → IsUnitIn s u.header u.dies
   pub apart :
       (i j : ℕ) (u v : CompilationUnit) → slice_get us i ≡ Some u → slice_get us j ≡ Some v → i < j
       → u.header.end ≤ v.header.start
@@ -73,7 +74,7 @@ module _ (s : Sections) (headers : List UnitHeader) (tables : List (List Declara
     (us_are : all_entries s.debug_info headers tables ≡ Ok us) (vs_are : all_bases s us ≡ Ok vs)
   where
     unit-in : (i : ℕ) (v : CompilationUnit) → slice_get vs i ≡ Some v
-        → (slice_get headers i ≡ Some v.header) × IsUnitIn s v
+        → (slice_get headers i ≡ Some v.header) × IsUnitIn s v.header v.dies
     unit-in i v found =
         let of = each-at (λ _ u. with_bases s u) [] us vs vs_are i v found in
         let stay = with_bases-parts s of.0 v of.2 in
@@ -91,22 +92,15 @@ module _ (s : Sections) (headers : List UnitHeader) (tables : List (List Declara
         ∙ ap (λ (t : List Declaration). Ok t) (get_or_from_slice_get tables i table [] at.1)) in
         let bounds = subst (HasBounds (length s.debug_info)) header_at
         ((headers-in s.debug_info headers headers_are).bounded i header within) in
-        after-bind (entries_of s.debug_info header table) _ of.0 from.2
-        ((slice_get headers i ≡ Some v.header) × IsUnitIn s v) (λ dies dies_are last.
-        let same = same-ok (record { header = header; dies = dies; bases = no_bases }) of.0 last in
-        let header_is : header ≡ v.header =
-        ap (λ (u : CompilationUnit). u.header) same ∙ sym stay.0 in
-        let dies_is : dies ≡ v.dies = ap (λ (u : CompilationUnit). u.dies) same ∙ sym stay.1 in (
-          at.0 ∙ ap (λ (h : UnitHeader). Some h) header_is,
-          record {
-            bounds = subst (HasBounds (length s.debug_info)) header_is bounds;
-            table = table;
-            table_is = subst (λ (h : UnitHeader). declarations_of declarations_limit s.debug_abbrev
-                h.abbreviations ≡ Ok table) header_is read;
-            dies_are = subst (λ (h : UnitHeader). entries_of s.debug_info h table ≡ Ok v.dies)
-                header_is (dies_are ∙ ap (λ (ds : List Die). Ok ds) dies_is);
-          },
-        ))
+        let P : UnitHeader → List Die → Type 0 =
+        λ h ds. (slice_get headers i ≡ Some h) × IsUnitIn s h ds in
+        subst₂ P (sym stay.0) (sym stay.1)
+        (after-bind (entries_of s.debug_info header table) _ of.0 from.2 (P of.0.header of.0.dies)
+        (λ dies dies_are last. subst (λ (u : CompilationUnit). P u.header u.dies)
+        (same-ok (record { header = header; dies = dies; bases = no_bases }) of.0 last) (
+          at.0,
+          record { bounds = bounds; table = table; table_is = read; dies_are = dies_are },
+        )))
 
     units-are-in : AreUnitsIn s vs
     units-are-in = record {

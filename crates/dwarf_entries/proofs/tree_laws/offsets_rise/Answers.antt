@@ -92,7 +92,7 @@ roots-from-rise s from number (u ∷ us) are starts =
     by_root u.dies past (dies-rise is) (roots-from-rise s u.header.end past us
     (units-after u us are) (λ i v found. are.apart 0 (suc i) u v refl found (omega arith)))
   where
-    is : IsUnitIn s u
+    is : IsUnitIn s u.header u.dies
     is = are.each_is 0 u refl
 
     lower : from ≤ u.header.end → (past : ℕ)

@@ -1,5 +1,5 @@
 use Rattle.std.proofs.Common.{◌≡◌, ◌⊎◌, inl, inr, ℕ, zero, suc, ◌+◌, ◌<◌, ◌≤◌, List, [], ◌∷◌}
-use Rattle.std.proofs.Common.{length, take, refl, ap, sym, ◌∙◌, subst, arith, length-append}
+use Rattle.std.proofs.Common.{length, take, refl, ap, sym, ◌∙◌, subst, arith}
 use Rattle.std.specs.Prelude.{Some, All, Contains, slice_get, count_by}
 use Rattle.std.proofs.lemmas.Bool.{cases_order}
 use Rattle.std.proofs.lemmas.List.{length-map}
@@ -12,38 +12,17 @@ use Rattle.dwarf_walk.specs.ScopeEntries.{is_scope}
 use Rattle.dwarf_walk.specs.Sections.{Sections}
 use Rattle.dwarf_entries.specs.declared.scope.Root.{Root}
 use Rattle.dwarf_entries.specs.Units.{CompilationUnit}
-use Rattle.dwarf_entries.specs.Scopes.{Scope, ParsedScope, sites_in, stmt_list_of, root_of}
-use Rattle.dwarf_entries.specs.Scopes.{roots_from}
+use Rattle.dwarf_entries.specs.Scopes.{Scope, ParsedScope, stmt_list_of, root_of, roots_from}
 use Rattle.dwarf_entries.specs.Private.Passes.{first_number, parse_scope, all_sites}
+use Rattle.dwarf_entries.specs.Private.Passes.{number_of_scopes}
 use Rattle.dwarf_entries.specs.TreeLaws.{ArePartsFrom, IsOfUnit}
 use Rattle.dwarf_entries.proofs.Results.SiteOrder.{first-rises, before-later, rise-order}
 use Rattle.dwarf_entries.proofs.Results.TreeParts.{IsScopeAt, after-tree, scope-at, contained}
 use Rattle.dwarf_entries.proofs.Results.TreeParts.{scopes_in}
-use Rattle.dwarf_entries.proofs.ScopePasses.SiteLaws.{sites-count, first-next}
+use Rattle.dwarf_entries.proofs.ScopePasses.SiteLaws.{first-next, all-sites-count}
 use Rattle.dwarf_entries.proofs.UnitPasses.UnitLaws.{AreUnitsIn, dies-rise, units-in}
 use Rattle.dwarf_entries.proofs.tree_laws.roots_partition_scopes.Goals as goal
-
--- The roots partition the numbers of the scopes.
-parted : (number : ℕ) (units : List CompilationUnit)
-    → ArePartsFrom number (number + length (all_sites units)) (roots_from number units)
-parted number [] = omega arith
-parted number (unit ∷ units) =
-    let past : ℕ = number + count_by is_scope unit.dies in
-    let sites = sites-count unit unit.dies in
-    let size = length-append (sites_in unit unit.dies) (all_sites units) in
-    let end : past + length (all_sites units) ≡ number + length (all_sites (unit ∷ units)) =
-    omega (arith, sites, size) in
-    by_root past unit.dies refl (subst (λ (n : ℕ). ArePartsFrom past n (roots_from past units)) end
-    (parted past units))
-  where
-    by_root : (past : ℕ) (dies : List Die) → number + count_by is_scope dies ≡ past
-        → ArePartsFrom past (number + length (all_sites (unit ∷ units))) (roots_from past units)
-        → ArePartsFrom number (number + length (all_sites (unit ∷ units)))
-        (root_of number past dies (roots_from past units))
-    by_root past [] is rest = let none : past ≡ number = omega (arith, is) in
-        subst (λ (n : ℕ). ArePartsFrom n (number + length (all_sites (unit ∷ units)))
-        (roots_from past units)) none rest
-    by_root past (root ∷ dies) is rest = (refl, omega (arith, is), rest)
+use Rattle.dwarf_entries.proofs.RootPasses.RootsPass.{roots-part}
 
 -- Each root belongs to a unit with entries.
 record IsRootOf (us : List CompilationUnit) (number : ℕ) (root : Root) : Type 0 where
@@ -103,9 +82,9 @@ pub returns-clause-parts : goal.returns-clause-parts
 returns-clause-parts c s tree h = after-tree s tree h (λ tree. ArePartsFrom 0 (length tree.scopes) tree.roots)
     (λ us parsed us_are parsed_are.
     let made = each-length (parse_scope s us) [] (all_sites us) parsed parsed_are in
-    let size : 0 + length (all_sites us) ≡ length (scopes_in parsed) =
-    omega (arith, made, length-map parsed (λ (j : ParsedScope). j.scope)) in
-    subst (λ (n : ℕ). ArePartsFrom 0 n (roots_from 0 us)) size (parted 0 us))
+    let size : 0 + number_of_scopes us ≡ length (scopes_in parsed) =
+    omega (arith, made, length-map parsed (λ (j : ParsedScope). j.scope), all-sites-count us) in
+    subst (λ (n : ℕ). ArePartsFrom 0 n (roots_from 0 us)) size (roots-part 0 us))
 
 of-unit : (s : Sections) (us : List CompilationUnit) (parsed : List ParsedScope) (n : ℕ)
     (j : ParsedScope) (root : Root) → AreUnitsIn s us → IsScopeAt s us parsed n j

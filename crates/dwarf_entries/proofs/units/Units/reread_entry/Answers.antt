@@ -29,9 +29,9 @@ returns-in_err-entry-clause-member c m at =
     c.in-Some.stored.now (object-units _ _ c.self.view_is)
     (seen-units c.self.invariant c.self.view_is c.deref.ensures.value)
     (found-at _ _ c.args.place.unit _ refl c.in-Some.ensures.lookup.3) at in
-    rw (exit _ c.from_residual.ensures.1) (again-memory c.in_err-entry.field-0.0 _ (named_entry m.die) r.there
-    (c.in_err-entry.ensures.names_at object.sections r.table
-    (seen c.self.invariant c.self.view_is).reader_is r.table_is))
+    rw (exit _ c.from_residual.ensures.1) (again-memory c.in_err-entry.field-0.0 _ (named_entry m.die) r.1
+    (c.in_err-entry.ensures.names_at object.sections r.0.table
+    (seen c.self.invariant c.self.view_is).reader_is r.0.table_is))
 
 pub invariant_of-self-2 : goal.invariant_of-self-2
 invariant_of-self-2 c = with-reader _ c.self.invariant c.in_ok-entry.ensures.reader
@@ -46,6 +46,6 @@ returns-clause-member c m at =
     record {
       unit_is = at.unit_is;
       entry_is = same-ok c.in_ok-entry.entry (named_entry m.die)
-          (sym (c.in_ok-entry.ensures.names_at object.sections r.table
-          (seen c.self.invariant c.self.view_is).reader_is r.table_is) ∙ r.there);
+          (sym (c.in_ok-entry.ensures.names_at object.sections r.0.table
+          (seen c.self.invariant c.self.view_is).reader_is r.0.table_is) ∙ r.1);
     }

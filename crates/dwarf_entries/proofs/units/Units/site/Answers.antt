@@ -12,6 +12,7 @@ use Rattle.dwarf_entries.proofs.UnitPasses.PassLaws.{element}
 use Rattle.dwarf_entries.proofs.UnitPasses.StoredUnits.{stored-here, stored-index}
 use Rattle.dwarf_entries.proofs.UnitPasses.UnitLaws.{object-units}
 use Rattle.dwarf_entries.proofs.units.Units.site.Goals as goal
+use Rattle.dwarf_entries.proofs.UnitPasses.RereadLaws.{stored-in}
 
 pub index-place-requires : goal.index-place-requires
 index-place-requires c =
@@ -36,12 +37,13 @@ returns-in-Err-clause-site c u found =
     let same = stored-index _ object.units c.args.unit k are.stored_are (stored-here _ object.units
     c.args.unit k are.stored_are c.requires.unit c.index-stored.ensures) u found in
     let p = element (sites_in u u.dies) c.args.index (c.requires.index u found) in
-    let r = site-read object.sections u c.args.index p.0 k c.index-place.result.now
-    ((object-units _ _ c.self.view_is).each_is c.args.unit u found) same p.1
+    let read = stored-in object.sections u k same
+    ((object-units _ _ c.self.view_is).each_is c.args.unit u found) in
+    let r = site-read object.sections u c.args.index p.0 k c.index-place.result.now read same p.1
     c.index-place.ensures in
     c.at_item.ensures ∙ ap (λ (e : Cause). at_item names.DebugInfo e c.from-at.result)
-    (again-memory c.in-Err.cause _ _ r.there
-    (c.in-Err.ensures.scope object.sections r.table are.reader_is r.table_is))
+    (again-memory c.in-Err.cause _ _ r.1
+    (c.in-Err.ensures.scope object.sections read.table are.reader_is read.table_is))
 
 pub invariant_of-self-2 : goal.invariant_of-self-2
 invariant_of-self-2 c = with-reader _ c.self.invariant c.in-Ok.ensures.reader
@@ -54,12 +56,13 @@ returns-clause-site c u found =
     let same = stored-index _ object.units c.args.unit k are.stored_are (stored-here _ object.units
     c.args.unit k are.stored_are c.requires.unit c.index-stored.ensures) u found in
     let p = element (sites_in u u.dies) c.args.index (c.requires.index u found) in
-    let r = site-read object.sections u c.args.index p.0 k c.index-place.result.now
-    ((object-units _ _ c.self.view_is).each_is c.args.unit u found) same p.1
+    let read = stored-in object.sections u k same
+    ((object-units _ _ c.self.view_is).each_is c.args.unit u found) in
+    let r = site-read object.sections u c.args.index p.0 k c.index-place.result.now read same p.1
     c.index-place.ensures in
     rw p.1 (
       same-ok c.in-Ok.entry (scope_entry p.0.member.die p.0.kind)
-          (sym (c.in-Ok.ensures.scope object.sections r.table are.reader_is r.table_is)
-          ∙ r.there),
-      r.descendants_are,
+          (sym (c.in-Ok.ensures.scope object.sections read.table are.reader_is read.table_is)
+          ∙ r.1),
+      r.0,
     )
