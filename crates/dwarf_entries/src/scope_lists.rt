@@ -1,10 +1,10 @@
 //! The scopes of an object, with the lists that they share.
 
 ghost use Rattle.std.specs.Prelude.{◌≡◌, ◌≤◌, ◌-◌, ℕ, [], List, length, take, drop, vec_capacity};
-ghost use Rattle.std.specs.Prelude.{IfOk};
+ghost use Rattle.std.specs.Prelude.{None, Some, IfOk, MatchOption, slice_get};
 ghost use Rattle.dwarf_entries.specs.declared.scope.Root.{Root};
 ghost use Rattle.dwarf_entries.specs.Scopes.{scopes_of, ranges_at};
-ghost use Rattle.dwarf_entries.specs.Private.Shared.{ranges_start, IsPushed};
+ghost use Rattle.dwarf_entries.specs.Private.Shared.{ranges_start, scope_at_index, IsPushed};
 
 use crate::calls::CallSite;
 use crate::scope::{Scope, ScopeFacts};
@@ -45,12 +45,23 @@ impl ScopeLists {
         Ok(())
     }
 
+    /// Returns the scope at an index.
+    pub(crate) fn get(&self, number: usize) -> Option<&Scope>
+        ensures { (roots : List Root) → MatchOption result
+            (slice_get (scopes_of roots self.now) number ≡ None)
+            (λ s. slice_get (scopes_of roots self.now) number
+            ≡ Some (scope_at_index roots self.now number s.now)) }
+    {
+        let scope = self.scopes.get(number)?;
+        Some(scope)
+    }
+
     /// Returns the ranges of the scope at an index.
     pub(crate) fn ranges_of(&self, number: usize) -> &[Range]
         ensures { (roots : List Root)
             → result.now ≡ ranges_at (scopes_of roots self.now) number }
     {
-        match self.scopes.get(number) {
+        match self.get(number) {
             Some(scope) => {
                 let start = ranges_start(self.scopes.as_slice(), number);
                 stretch(self.ranges.as_slice(), start, scope.ranges_end as usize)

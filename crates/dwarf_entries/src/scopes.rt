@@ -6,7 +6,7 @@ ghost use Rattle.std.specs.List.Sorted.{IsNonDecreasingBy};
 ghost use Rattle.dwarf_bytes.specs.Refusals.{Decodes};
 ghost use Rattle.dwarf_walk.specs.Sections.{sections_of};
 ghost use Rattle.dwarf_entries.specs.Scopes.{own, own_of, ranges_at, stmt_list_at, call_file_at};
-ghost use Rattle.dwarf_entries.specs.Scopes.{call_line_at, tree_of};
+ghost use Rattle.dwarf_entries.specs.Scopes.{call_line_at, stmt_list_by_number, tree_of};
 
 use crate::calls::CallSite;
 use crate::scope::{Root, Scope};
@@ -76,9 +76,8 @@ impl Scopes {
     pub(crate) fn stmt_list_of(&self, number: usize) -> Option<u64>
         ensures { result ≡ stmt_list_at self.now.scopes number }
     {
-        let scope = self.lists.scopes.get(number)?;
-        let roots: &[Root] = &self.roots;
-        roots.get(root_by_number(roots, scope.number()))?.stmt_list
+        let scope = self.lists.get(number)?;
+        stmt_list_by_number(&self.roots, scope.number())
     }
 
     /// Returns the call site of the scope at an index.
@@ -87,7 +86,7 @@ impl Scopes {
         ensures line { result.line ≡ call_line_at self.now.scopes number }
     {
         let wide = self.lists.wide.as_slice();
-        match self.lists.scopes.get(number) {
+        match self.lists.get(number) {
             Some(scope) => CallSite::unpack(scope.calls, scope.call_file, scope.call_line, wide),
             None => CallSite {
                 file: None,
@@ -95,6 +94,14 @@ impl Scopes {
             },
         }
     }
+}
+
+/// Returns the stmt_list of the unit that contains the scope with a number.
+fn stmt_list_by_number(roots: &[Root], number: usize) -> Option<u64>
+    ensures { IsNonDecreasingBy (λ root. root.past) roots.now
+        → result ≡ stmt_list_by_number roots.now number }
+{
+    roots.get(root_by_number(roots, number))?.stmt_list
 }
 
 /// Returns the index of the first root whose scopes end after a number, by binary search.

@@ -1,9 +1,9 @@
 -- The stmt_list of a unit, found by the number of one of its scopes.
 use Rattle.std.proofs.Common.{◌≡◌, ℕ, zero, suc, ◌+◌, ◌<◌, ◌≤◌, List, [], ◌∷◌, length, take, get_or}
 use Rattle.std.proofs.Common.{refl, ap, ◌∙◌, arith}
-use Rattle.std.specs.Prelude.{Option, Some, None, slice_get, option_and_then, count_by, nat_lt}
+use Rattle.std.specs.Prelude.{Some, None, slice_get, count_by, nat_lt}
 use Rattle.std.specs.List.{find}
-use Rattle.std.specs.List.Sorted.{IsNonDecreasingBy, IsPartitionPoint}
+use Rattle.std.specs.List.Sorted.{IsPartitionPoint}
 use Rattle.std.proofs.lemmas.Bool.{lt-ltb, le-ltb}
 use Rattle.std.proofs.lemmas.List.Folds.{find_at}
 use Rattle.std.proofs.lemmas.List.Sums.{position_or_len_is, sum_by-cons}
@@ -28,18 +28,6 @@ by_partition roots number index within parts =
     (position_or_len_is (λ (r : Root). nat_lt number r.past) roots index d within
     (λ k before. le-ltb number (get_or roots k d).past (parts.0 k d (omega arith) before))
     (λ inside. lt-ltb number (get_or roots index d).past (parts.1 index d (omega arith) inside)))
-
--- The root at the index that the search returned, if there is one, has the stmt_list.
-pub by_search : (list roots : List Root) (number index : ℕ) (found : Option Root) → list ≡ roots
-    → IsNonDecreasingBy (λ r. r.past) roots
-    → (IsNonDecreasingBy (λ r. r.past) list
-    → find (λ r. nat_lt number r.past) list ≡ slice_get list index)
-    → slice_get roots index ≡ found
-    → stmt_list_by_number roots number ≡ option_and_then (λ r. r.stmt_list) found
-by_search list roots number index found same rise search there =
-    let at : find (λ (r : Root). nat_lt number r.past) roots ≡ slice_get roots index =
-    (rw same at search) rise in
-    ap (λ (o : Option Root). option_and_then (λ (r : Root). r.stmt_list) o) (at ∙ there)
 
 -- The root of a unit before the scope is passed over.
 by_later_unit : (first past : ℕ) (dies : List Die) (roots : List Root) (number : ℕ) → past ≤ number

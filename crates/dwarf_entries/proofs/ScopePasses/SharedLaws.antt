@@ -1,7 +1,7 @@
 -- The data of scopes in the lists that they share.
 use Rattle.std.proofs.Common.{◌≡◌, ℕ, zero, suc, ◌-◌, List, [], ◌∷◌, length, take, drop, Bool}
 use Rattle.std.proofs.Common.{false, cond, refl, ap, sym, ◌∙◌, arith}
-use Rattle.std.specs.Prelude.{Some, None, slice_get, option_map, ◌==◌}
+use Rattle.std.specs.Prelude.{slice_get, option_map, ◌==◌}
 use Rattle.std.specs.Option.{option_map_or}
 use Rattle.std.proofs.Math.Dec.{eqb-suc-zero}
 use Rattle.dwarf_entries.specs.declared.calls.CallSite.{CallSite}
@@ -51,19 +51,3 @@ pub scopes-length : (roots : List Root) (wide : List CallSite) (ranges : List Ra
 scopes-length roots wide ranges first [] = refl
 scopes-length roots wide ranges first (s ∷ ss) =
     ap suc (scopes-length roots wide ranges s.ranges_end ss)
-
--- The scope at an index, if there is one.
-pub scope-there : (roots : List Root) (wide : List CallSite) (ranges : List Range)
-    (ss : List StoredScope) (n : ℕ) (s : StoredScope) → slice_get ss n ≡ Some s
-    → slice_get (scopes_from roots wide ranges 0 ss) n ≡ Some (scope_of roots wide
-    (take (s.ranges_end - ranges_start 0 ss n) (drop (ranges_start 0 ss n) ranges)) s)
-scope-there roots wide ranges ss n s found =
-    scopes-at roots wide ranges 0 ss n ∙ ap (option_map (λ t. scope_of roots wide
-    (take (t.ranges_end - ranges_start 0 ss n) (drop (ranges_start 0 ss n) ranges)) t)) found
-
-pub scope-nowhere : (roots : List Root) (wide : List CallSite) (ranges : List Range)
-    (ss : List StoredScope) (n : ℕ) → slice_get ss n ≡ None
-    → slice_get (scopes_from roots wide ranges 0 ss) n ≡ None
-scope-nowhere roots wide ranges ss n none =
-    scopes-at roots wide ranges 0 ss n ∙ ap (option_map (λ t. scope_of roots wide
-    (take (t.ranges_end - ranges_start 0 ss n) (drop (ranges_start 0 ss n) ranges)) t)) none

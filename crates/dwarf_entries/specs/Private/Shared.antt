@@ -1,6 +1,6 @@
 -- The lists that scopes share, for the contracts of the pass over scopes.
 use Rattle.std.specs.Prelude.{◌≡◌, ℕ, ◌-◌, ◌≤◌, ◌<◌, List, [], ◌∷◌, ◌++◌, length, Result, Ok, Err}
-use Rattle.std.specs.Prelude.{◌==◌, if◌then◌else◌, slice_get, ◌^◌, Option, IfSome}
+use Rattle.std.specs.Prelude.{◌==◌, if◌then◌else◌, slice_get, ◌^◌, Option, IfSome, take, drop}
 use Rattle.std.specs.Option.{option_map_or}
 use Rattle.dwarf_bytes.specs.declared.fault.Cause.{Cause}
 use Rattle.dwarf_bytes.specs.Refusals.{Fails}
@@ -64,6 +64,12 @@ abbrev pub ranges_start : ℕ → List StoredScope → ℕ → ℕ
 ranges_start first scopes number =
     if number == 0 then first
     else option_map_or (λ s. s.ranges_end) (slice_get scopes (number - 1)) 0
+
+-- The scope that is stored at an index, with its ranges.
+abbrev pub scope_at_index : List Root → ScopeLists → ℕ → StoredScope → Scope
+scope_at_index roots lists number s =
+    let start = ranges_start 0 lists.scopes.items number in
+    scope_of roots lists.wide.items (take (s.ranges_end - start) (drop start lists.ranges.items)) s
 
 -- A packed scope has the data of the facts, given the roots, its ranges and the wide call sites.
 -- Its own call site is appended to them if it is wide.

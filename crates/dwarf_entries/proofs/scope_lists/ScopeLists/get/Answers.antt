@@ -1,0 +1,21 @@
+use Rattle.std.proofs.Common.{refl}
+use Rattle.dwarf_entries.proofs.ScopePasses.SharedLaws.{scopes-at}
+use Rattle.dwarf_entries.proofs.UnitPasses.PassLaws.{found-at, not-at}
+use Rattle.dwarf_entries.proofs.scope_lists.ScopeLists.get.Goals as goal
+
+pub returns-in_err-scope : goal.returns-in_err-scope
+returns-in_err-scope c roots =
+    let lists = c.args.self.now in
+    rw (
+      c.from_residual.ensures,
+      scopes-at roots lists.wide.items lists.ranges.items 0 lists.scopes.items c.args.number,
+      not-at _ _ c.args.number c.deref.ensures.value c.in_err-scope.ensures.lookup.3,
+    ) refl
+
+pub returns : goal.returns
+returns c roots =
+    let lists = c.args.self.now in
+    rw (
+      scopes-at roots lists.wide.items lists.ranges.items 0 lists.scopes.items c.args.number,
+      found-at _ _ c.args.number _ c.deref.ensures.value c.in_ok-scope.ensures.lookup.3,
+    ) refl
