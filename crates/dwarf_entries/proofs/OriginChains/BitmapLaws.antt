@@ -1,12 +1,11 @@
 -- An entry is at an offset of a unit if its bit is set.
 use Rattle.std.proofs.Common.{◌≡◌, ℕ, suc, List, [], ◌∷◌, Bool, true, false, cond, ◌==◌, ◌||◌, refl}
-use Rattle.std.proofs.Common.{sym, ap, ◌∙◌, subst}
+use Rattle.std.proofs.Common.{sym, ap, ◌∙◌, arith}
 use Rattle.std.specs.Prelude.{Option, Some, None, is_some, find, slice_get, option_map, ok_or}
 use Rattle.std.specs.Option.{option_or}
 use Rattle.std.specs.List.{list_any}
 use Rattle.std.proofs.lemmas.Bool.{eqb-true}
 use Rattle.std.proofs.lemmas.List.Folds.{list_any-append}
-use Rattle.std.proofs.lemmas.Option.{same_Some}
 use Rattle.dwarf_bytes.specs.declared.fault.Cause.TheVariants as causes
 use Rattle.dwarf_units.specs.Entries.{Die}
 use Rattle.dwarf_walk.specs.declared.entry_bitmap.EntryBitmap.{EntryBitmap}
@@ -25,21 +24,10 @@ any-dies : (u : CompilationUnit) (offset : ℕ) (dies : List Die)
     → list_any (λ place. place == offset) (offsets_of dies)
     ≡ is_some (option_map (member_of u) (find (λ die. die.offset == offset) dies))
 any-dies u offset [] = refl
-any-dies u offset (die ∷ dies) = by_test (die.offset == offset) (any-dies u offset dies)
-  where
-    found : Option Die
-    found = find (λ die. die.offset == offset) dies
-
-    by_test : (b : Bool) → list_any (λ place. place == offset) (offsets_of dies)
-        ≡ is_some (option_map (member_of u) found)
-        → (b || list_any (λ place. place == offset) (offsets_of dies))
-        ≡ is_some (option_map (member_of u) (cond b (Some die) found))
-    by_test true h = refl
-    by_test false h = h
+any-dies u offset (die ∷ dies) = let rest = any-dies u offset dies in grind arith
 
 is_some-or : {X : Type 0} (a b : Option X) → (is_some a || is_some b) ≡ is_some (option_or a b)
-is_some-or None b = refl
-is_some-or (Some x) b = refl
+is_some-or a b = grind arith
 
 any-members : (offset : ℕ) (us : List CompilationUnit)
     → list_any (λ place. place == offset) (all_offsets us)
@@ -56,13 +44,13 @@ any-members offset (u ∷ us) =
 find-index : (p : Die → Bool) (dies : List Die) (die : Die) → find p dies ≡ Some die
     → (i : ℕ) × (slice_get dies i ≡ Some die) × (p die ≡ true)
 find-index p [] die h = cc
-find-index p (d ∷ dies) die h = by_test (p d) refl h (λ later. find-index p dies die later)
+find-index p (d ∷ dies) die h = by_test (p d) refl h (find-index p dies die)
   where
     by_test : (b : Bool) → p d ≡ b → cond b (Some d) (find p dies) ≡ Some die
         → (find p dies ≡ Some die → (i : ℕ) × (slice_get dies i ≡ Some die) × (p die ≡ true))
         → (i : ℕ) × (slice_get (d ∷ dies) i ≡ Some die) × (p die ≡ true)
-    by_test true passes h later = (0, h, subst (λ (e : Die). p e ≡ true) (same_Some d die h) passes)
-    by_test false passes h later = let behind = later h in (suc behind.0, behind.1, behind.2)
+    by_test true passes h later = (0, h, grind arith)
+    by_test false passes h later = let rest = later h in (suc rest.0, rest.1, rest.2)
 
 pub finds-inside : {s : Sections} {us : List CompilationUnit} → AreUnitsIn s us
     → (bitmap : EntryBitmap) → IsBitmapOf bitmap us → (place : UnitPlace) → IsWithin us place

@@ -1,7 +1,7 @@
 -- The iterations of the loop that follows an origin chain, and the strings of the names that it
 -- finds.
 use Rattle.std.proofs.Common.{◌≡◌, ℕ, zero, suc, ◌+◌, List, [], ◌∷◌, ◌++◌, refl, sym, ap, ◌∙◌}
-use Rattle.std.proofs.Common.{subst, arith, append_assoc}
+use Rattle.std.proofs.Common.{arith, append_assoc}
 use Rattle.std.specs.Prelude.{Option, Some, None, Result, Ok, Err, slice_get, option_map, ◌-◌}
 use Rattle.std.specs.Option.{option_or}
 use Rattle.dwarf_bytes.specs.declared.fault.Cause.{Cause}
@@ -23,20 +23,14 @@ use Rattle.dwarf_entries.specs.Private.Members.{FindsFirst}
 -- ---- the first attribute with a name
 
 or_else-assoc : {X : Type 0} (a b c : Option X) → or_else a (or_else b c) ≡ or_else (or_else a b) c
-or_else-assoc (Some x) b c = refl
-or_else-assoc None b c = refl
+or_else-assoc a b c = grind arith
 
 first_on-push : (name : ℕ) (path : List Member) (m : Member) → first_on name (path ++ m ∷ [])
     ≡ or_else (first_on name path) (of_member name m)
-first_on-push name [] m = alone (of_member name m)
-  where
-    alone : (o : Option (CompilationUnit × AttributeValue)) → or_else o None ≡ o
-    alone (Some x) = refl
-    alone None = refl
+first_on-push name [] m = grind arith
 first_on-push name (p ∷ path) m =
-    ap (λ (o : Option (CompilationUnit × AttributeValue)). or_else (of_member name p) o)
-    (first_on-push name path m) ∙ or_else-assoc (of_member name p) (first_on name path)
-    (of_member name m)
+    let rest = first_on-push name path m in rw rest (or_else-assoc (of_member name p)
+    (first_on name path) (of_member name m))
 
 is-first-more : (units : List CompilationUnit) (unit : CompilationUnit) (number : ℕ)
     → slice_get units number ≡ Some unit
@@ -44,11 +38,7 @@ is-first-more : (units : List CompilationUnit) (unit : CompilationUnit) (number 
     (value : Option AttributeValue) → IsFirst units known first
     → IsFirst units (option_or known (option_map (λ v. record { unit = number; value = v }) value))
     (or_else first (option_map (λ v. (unit, v)) value))
-is-first-more units unit number is None None None h = tt
-is-first-more units unit number is None None (Some v) h = (is, refl)
-is-first-more units unit number is None (Some f) value h = absurd h
-is-first-more units unit number is (Some k) None value h = absurd h
-is-first-more units unit number is (Some k) (Some f) value h = h
+is-first-more units unit number is known first value h = grind arith
 
 -- The first attribute, after one more entry is appended.
 pub first-more : (units : List CompilationUnit) (name number : ℕ) (path : List Member) (m : Member)
@@ -58,14 +48,8 @@ pub first-more : (units : List CompilationUnit) (name number : ℕ) (path : List
     → result ≡ option_or known (option_map (λ v. record { unit = number; value = v }) value)
     → IsFirst units result (first_on name (path ++ m ∷ []))
 first-more units name number path m known value is value_is h result result_is =
-    let more = is-first-more units m.unit number is known (first_on name path) value h in
-    let pushed : or_else (first_on name path) (option_map (λ v. (m.unit, v)) value)
-    ≡ first_on name (path ++ m ∷ []) =
-    ap (λ (o : Option AttributeValue). or_else (first_on name path)
-    (option_map (λ v. (m.unit, v)) o)) value_is ∙ sym (first_on-push name path m) in
-    subst (λ (o : Option (CompilationUnit × AttributeValue)). IsFirst units result o) pushed
-    (subst (λ (r : Option UnitAttribute). IsFirst units r
-    (or_else (first_on name path) (option_map (λ v. (m.unit, v)) value))) (sym result_is) more)
+    rw (result_is, first_on-push name path m, ← value_is)
+    (is-first-more units m.unit number is known (first_on name path) value h)
 
 -- ---- the loop
 
@@ -88,8 +72,7 @@ in_front m r = r >>= λ rest. Ok (m ∷ rest)
 
 prepend-append : (before : List Member) (last : Member) (r : Result (List Member) Cause)
     → prepend before (in_front last r) ≡ prepend (before ++ last ∷ []) r
-prepend-append before last (Ok rest) = ap (λ (path : List Member). Ok path)
-    (sym (append_assoc before (last ∷ []) rest))
+prepend-append before last (Ok rest) = rw (append_assoc before (last ∷ []) rest) refl
 prepend-append before last (Err e) = refl
 
 -- The origin chain of an entry with a reference, if one more reference may be followed.
@@ -115,17 +98,8 @@ stopped units last reference is = rw (is, chain_within) refl
 pub followed-none : {units : List CompilationUnit} {remaining : ℕ} {m : Member}
     {found : UnitEntry} {firsts : FirstNames} → IsMember units found.unit found.entry m
     → AreFirst units firsts (m ∷ []) → Followed units remaining m remaining found firsts
-followed-none {units} {remaining} {m} at stored = record {
-  before = [];
-  last = m;
-  at = at;
-  rest = whole (chain_within remaining units m);
-  stored = stored;
-}
-  where
-    whole : (r : Result (List Member) Cause) → r ≡ prepend [] r
-    whole (Ok path) = refl
-    whole (Err e) = refl
+followed-none {m = m} at stored =
+    record { before = []; last = m; at = at; rest = grind arith; stored = stored }
 
 module _ {units : List CompilationUnit} {remaining : ℕ} {m : Member} {left : ℕ} {found : UnitEntry}
     {firsts : FirstNames} (so_far : Followed units remaining m left found firsts) where

@@ -1,7 +1,7 @@
 -- The entry at an offset of .debug_info is found by its bit, in the unit that contains the offset.
 use Rattle.std.proofs.Common.{◌≡◌, ◌⊎◌, inl, inr, ℕ, zero, suc, ◌+◌, ◌<◌, ◌≤◌, List, [], ◌∷◌}
-use Rattle.std.proofs.Common.{length, map, get_or, Bool, true, false, cond, ◌==◌, refl, sym, ap}
-use Rattle.std.proofs.Common.{◌∙◌, subst, arith, eq-eqb}
+use Rattle.std.proofs.Common.{length, map, get_or, Bool, true, ◌==◌, refl, sym, ap, ◌∙◌, subst}
+use Rattle.std.proofs.Common.{arith, eq-eqb}
 use Rattle.std.specs.Prelude.{Option, Some, None, Err, find, slice_get, option_map, ok_or}
 use Rattle.std.specs.Prelude.{option_to_list}
 use Rattle.std.specs.Option.{option_or}
@@ -50,24 +50,14 @@ none-outside from end [] offset h out = refl
 none-outside from end (die ∷ dies) offset h out =
     let first = h.0 in
     let past = within-le (suc die.offset) end dies h.1 in
-    let differs : (die.offset == offset) ≡ false = ne_eqb die.offset offset (λ e. elim out [
-      | inl below ↦ absurd (omega (arith, below, first, e))
-      | inr above ↦ absurd (omega (arith, above, past, e))
-    ]) in
-    let further : (offset < suc die.offset) ⊎ (end ≤ offset) =
-    elim out [ inl below ↦ inl (omega (arith, below, first)) | inr above ↦ inr above ] in
-    rw differs (none-outside (suc die.offset) end dies offset h.1 further)
+    let further : (offset < suc die.offset) ⊎ (end ≤ offset) = grind arith in
+    rw (ne_eqb die.offset offset (λ e. grind arith))
+    (none-outside (suc die.offset) end dies offset h.1 further)
 
 find-map : {X Y : Type 0} (p : Y → Bool) (f : X → Y) (xs : List X)
     → find p (map f xs) ≡ option_map f (find (λ x. p (f x)) xs)
 find-map p f [] = refl
-find-map {X} {Y} p f (x ∷ xs) = by_test (p (f x)) (find-map p f xs)
-  where
-    by_test : (b : Bool) → find p (map f xs) ≡ option_map f (find (λ x. p (f x)) xs)
-        → cond b (Some (f x)) (find p (map f xs))
-        ≡ option_map f (cond b (Some x) (find (λ x. p (f x)) xs))
-    by_test true h = refl
-    by_test false h = h
+find-map p f (x ∷ xs) = let rest = find-map p f xs in grind arith
 
 -- The first entry at an offset in a unit or in the units after it.
 pub find-units : (u : CompilationUnit) (us : List CompilationUnit) (offset : ℕ)

@@ -1,14 +1,13 @@
 -- The entries below an entry, by indexes and by the number of scopes before them.
-use Rattle.std.proofs.Common.{◌≡◌, ◌⊎◌, ◌↔◌, ℕ, ◌+◌, ◌-◌, ◌<◌, ◌≤◌, List, Bool, true, false, Some}
-use Rattle.std.proofs.Common.{None, length, take, drop, get_or, ap, sym, ◌∙◌, subst, arith, inl}
-use Rattle.std.proofs.Common.{inr, length-drop, take-add, ltb-false, ltb-true}
+use Rattle.std.proofs.Common.{◌≡◌, ◌↔◌, ℕ, ◌+◌, ◌-◌, ◌<◌, ◌≤◌, List, Bool, true, Some, length, take}
+use Rattle.std.proofs.Common.{drop, get_or, ap, sym, ◌∙◌, subst, arith, length-drop, take-add}
+use Rattle.std.proofs.Common.{ltb-true}
 use Rattle.std.specs.Prelude.{nat_lt, count_by, slice_get}
 use Rattle.std.specs.List.{prefix_len}
-use Rattle.std.proofs.lemmas.Bool.{cases_lt}
 use Rattle.std.proofs.lemmas.List.{get_or-drop}
 use Rattle.std.proofs.lemmas.List.Sums.{sum_by-append, count_by_more_yes, prefix_len_passes}
 use Rattle.std.proofs.lemmas.List.Sums.{prefix_len_stops, prefix_len-le-length}
-use Rattle.std.proofs.lemmas.Option.{get_or_from_slice_get, slice_get_cases}
+use Rattle.std.proofs.lemmas.Option.{get_or_from_slice_get, slice_get_within}
 use Rattle.dwarf_units.specs.Entries.{Die, below, IsBelow}
 use Rattle.dwarf_walk.specs.ScopeEntries.{is_scope}
 
@@ -29,20 +28,11 @@ module _ {X : Type 0} (p : X → Bool) (xs : List X) where
       omega (arith, sum)
 
   -- An element that passes is counted after its index, and not before.
-  pub counted-before : (place : ℕ) (d : X) → place < length xs → p (get_or xs place d) ≡ true
+  counted-before : (place : ℕ) (d : X) → place < length xs → p (get_or xs place d) ≡ true
       → (end : ℕ) → (counted place < counted end) ↔ (place < end)
-  counted-before place d within passes end = (from_count, to_count)
-    where
-      from_count : counted place < counted end → place < end
-      from_count lt = elim (cases_lt place end) [
-        | inl before ↦ before
-        | inr past ↦ (let le = counted-rises end place past in absurd (omega (arith, lt, le)))
-      ]
-
-      to_count : place < end → counted place < counted end
-      to_count lt =
-          let more = count_by_more_yes p xs place d within passes in
-          let le = counted-rises (place + 1) end (omega (arith, lt)) in omega (arith, more, le)
+  counted-before place d within passes end =
+      let more = count_by_more_yes p xs place d within passes in
+      (λ lt. grind (arith, counted-rises end place), λ lt. grind (arith, counted-rises (place + 1) end))
 
 -- The index after the entries below an entry.
 abbrev past_below : List Die → ℕ → Die → ℕ
@@ -50,26 +40,16 @@ past_below dies i outer = i + 1 + prefix_len (λ d. nat_lt outer.depth d.depth) 
 
 from-below : (dies : List Die) (i j : ℕ) (outer : Die) → slice_get dies i ≡ Some outer
     → IsBelow dies j i → (i < j) × (j < past_below dies i outer)
-from-below dies i j outer is h = (h.0, by_order (cases_lt j (past_below dies i outer)))
-  where
-    by_order : (j < past_below dies i outer) ⊎ (past_below dies i outer ≤ j)
-        → j < past_below dies i outer
-    by_order (inl within) = within
-    by_order (inr past) =
-        let deeper : Die → Bool = λ d. nat_lt outer.depth d.depth in
-        let rest : List Die = drop (i + 1) dies in
-        let m : ℕ = prefix_len deeper rest in
-        let size = length-drop (i + 1) dies in
-        let stops = prefix_len_stops deeper rest outer (omega (arith, past, size, h.1)) in
-        let at_m : nat_lt outer.depth (get_or dies (i + 1 + m) outer).depth ≡ false =
-        ap (λ (d : Die). nat_lt outer.depth d.depth) (sym (get_or-drop (i + 1) dies m outer))
-        ∙ stops in
-        let le = ltb-false outer.depth (get_or dies (i + 1 + m) outer).depth at_m in
-        let here : (get_or dies i outer).depth ≡ outer.depth =
-        ap (λ (d : Die). d.depth) (get_or_from_slice_get dies i outer outer is) in
-        let lt : (get_or dies i outer).depth < (get_or dies (i + 1 + m) outer).depth =
-        h.2 (i + 1 + m) outer (omega arith) past in
-        absurd (omega (arith, le, lt, here))
+from-below dies i j outer is h =
+    let deeper : Die → Bool = λ d. nat_lt outer.depth d.depth in
+    let rest : List Die = drop (i + 1) dies in
+    let m : ℕ = prefix_len deeper rest in
+    let size = length-drop (i + 1) dies in
+    let stops = prefix_len_stops deeper rest outer in
+    let at_m = get_or-drop (i + 1) dies m outer in
+    let here = get_or_from_slice_get dies i outer outer is in
+    let lt = h.2 (i + 1 + m) outer (omega arith) in
+    (h.0, grind (arith, h.1))
 
 to-below : (dies : List Die) (i j : ℕ) (outer : Die) → slice_get dies i ≡ Some outer → i < j
     → j < past_below dies i outer → IsBelow dies j i
@@ -104,13 +84,8 @@ number dies place = count_by is_scope (take place dies)
 -- An index of an entry is within the list.
 place-of-entry : (dies : List Die) (i : ℕ) (die : Die) → slice_get dies i ≡ Some die
     → (i < length dies) × (get_or dies i die ≡ die)
-place-of-entry dies i die is = by_place (slice_get_cases dies i).1
-  where
-    by_place : ((x : Die) × (i < length dies) × (slice_get dies i ≡ Some x) × (get_or dies i x ≡ x))
-        ⊎ ((length dies ≤ i) × (slice_get dies i ≡ None))
-        → (i < length dies) × (get_or dies i die ≡ die)
-    by_place (inl found) = (found.1, get_or_from_slice_get dies i die die is)
-    by_place (inr past) = let none = past.1 in cc
+place-of-entry dies i die is =
+    (slice_get_within dies i die is, get_or_from_slice_get dies i die die is)
 
 -- The end of a scope, computed by counting the scopes below it, is the number of scopes before the
 -- index after those entries.
@@ -148,33 +123,19 @@ below-trans : (dies : List Die) (i j k : ℕ) → IsBelow dies j i → IsBelow d
 below-trans dies i j k outer inner = (
   omega (arith, outer.0, inner.0),
   inner.1,
-  λ m d lt le. by_order m d lt le (cases_lt j m),
+  λ m d lt le. grind (arith, outer.0, outer.2 j d, outer.2 m d, inner.2 m d),
 )
-  where
-    by_order : (m : ℕ) (d : Die) → i < m → m ≤ k → (j < m) ⊎ (m ≤ j)
-        → (get_or dies i d).depth < (get_or dies m d).depth
-    by_order m d lt le (inl past) =
-        let first = outer.2 j d outer.0 (omega arith) in
-        let second = inner.2 m d past le in
-        omega (arith, first, second)
-    by_order m d lt le (inr until) = outer.2 m d lt until
 
 past-within : (dies : List Die) (i j : ℕ) (outer inner : Die) → slice_get dies i ≡ Some outer
     → slice_get dies j ≡ Some inner → IsBelow dies j i
     → past_below dies j inner ≤ past_below dies i outer
 past-within dies i j outer inner outer_is inner_is under =
-    by_order (cases_lt (past_below dies i outer) (past_below dies j inner))
-  where
-    by_order : (past_below dies i outer < past_below dies j inner)
-        ⊎ (past_below dies j inner ≤ past_below dies i outer)
-        → past_below dies j inner ≤ past_below dies i outer
-    by_order (inr within) = within
-    by_order (inl past) =
-        let k : ℕ = past_below dies i outer in
-        let before = (from-below dies i j outer outer_is under).1 in
-        let further = to-below dies j k inner inner_is before past in
-        let never = (from-below dies i k outer outer_is (below-trans dies i j k under further)).1 in
-        absurd (omega (arith, never))
+    let k : ℕ = past_below dies i outer in
+    let before = (from-below dies i j outer outer_is under).1 in
+    let further = to-below dies j k inner inner_is before in
+    let never = λ (deep : IsBelow dies k j). (from-below dies i k outer outer_is
+    (below-trans dies i j k under deep)).1 in
+    grind arith
 
 pub ends-within : (dies : List Die) (i j : ℕ) (outer inner : Die) → slice_get dies i ≡ Some outer
     → slice_get dies j ≡ Some inner → is_scope outer ≡ true → is_scope inner ≡ true

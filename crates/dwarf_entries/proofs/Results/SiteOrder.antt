@@ -1,12 +1,12 @@
 -- The order of scope sites and of their entries.
 use Rattle.std.proofs.Common.{◌≡◌, ◌⊎◌, inl, inr, ℕ, zero, suc, ◌+◌, ◌<◌, ◌≤◌, true, cond, List, []}
-use Rattle.std.proofs.Common.{◌∷◌, take, drop, get_or, ap, sym, ◌∙◌, subst, arith, ◌↔◌, refl}
+use Rattle.std.proofs.Common.{◌∷◌, take, drop, get_or, ap, ◌∙◌, arith, ◌↔◌, refl}
 use Rattle.std.specs.Prelude.{Some, slice_get, is_some, count_by, nat_lt}
 use Rattle.std.specs.List.{prefix_len}
-use Rattle.std.proofs.lemmas.Bool.{cases_lt, cases_order}
+use Rattle.std.proofs.lemmas.Bool.{cases_order}
 use Rattle.std.proofs.lemmas.List.{take-take}
 use Rattle.std.proofs.lemmas.List.Sums.{sum_by-take-le, sum_by-take-drop, count_by_more_yes}
-use Rattle.std.proofs.lemmas.Option.{same_Some, get_or_from_slice_get, slice_get_within}
+use Rattle.std.proofs.lemmas.Option.{get_or_from_slice_get, slice_get_within}
 use Rattle.dwarf_units.specs.Entries.{Die, below, IsBelow}
 use Rattle.dwarf_units.specs.Private.Rising.{RiseWithin}
 use Rattle.dwarf_walk.specs.ScopeEntries.{is_scope}
@@ -18,6 +18,7 @@ use Rattle.dwarf_entries.proofs.OriginChains.ReferenceLaws.{within-le}
 use Rattle.dwarf_entries.proofs.Results.BelowLaws.{counted-rises, scopes-between}
 use Rattle.dwarf_entries.proofs.ScopePasses.SiteLaws.{IsSiteAt, first-next}
 use Rattle.dwarf_entries.proofs.UnitPasses.UnitLaws.{AreUnitsIn, dies-rise}
+use Rattle.std.proofs.lemmas.Grind.{common_steps}
 
 -- ---- the order of numbers
 
@@ -47,7 +48,7 @@ before-later {us} {n} {p} at j lt =
     let whole = sum_by-take-drop (λ (x : Die). cond (is_scope x) 1 0) dies (k + 1) in
     let one : suc k ≡ k + 1 = omega arith in
     let inside : p.inside ≡ count_by is_scope (below die (drop (k + 1) dies)) =
-    at.is.inside_is ∙ ap (λ (m : ℕ). count_by is_scope (below die (drop m dies))) one in
+    rw (← one) at.is.inside_is in
     let few = few-below die (drop (k + 1) dies) in
     let next = first-next us at.unit p.member.unit at.unit_is in
     let rises = first-rises us (at.unit + 1) j (omega (arith, lt)) in (
@@ -67,19 +68,12 @@ pub record IsInUnitOf {us : List CompilationUnit} {n m : ℕ} {p q : ScopeSite}
 pub in-unit-of : {us : List CompilationUnit} {n m : ℕ} {p q : ScopeSite} (a : IsSiteAt us n p)
     (b : IsSiteAt us m q) → a.unit ≡ b.unit → IsInUnitOf a b
 in-unit-of {us} {n} {m} {p} {q} a b e =
-    let k : ℕ = b.is.index in
-    let one : suc k ≡ k + 1 = omega arith in
-    let same : p.member.unit ≡ q.member.unit = same_Some p.member.unit q.member.unit
-    (sym a.unit_is ∙ (ap (slice_get us) e ∙ b.unit_is)) in
-    let count = ap (λ (u : CompilationUnit). count_by is_scope (take k u.dies)) same in
+    let one : suc b.is.index ≡ b.is.index + 1 = omega arith in
+    let same : p.member.unit ≡ q.member.unit = grind (arith, a.unit_is, b.unit_is) in
     record {
-      there = subst (λ (u : CompilationUnit). slice_get u.dies k ≡ Some q.member.die) (sym same)
-          b.is.there;
-      number_is = omega (arith, b.number_is, b.is.number_is, count, ap (first_number us) e);
-      inside_is = b.is.inside_is
-          ∙ (ap (λ (m : ℕ). count_by is_scope (below q.member.die (drop m q.member.unit.dies))) one
-          ∙ ap (λ (u : CompilationUnit). count_by is_scope (below q.member.die
-          (drop (k + 1) u.dies))) (sym same));
+      there = rw same b.is.there;
+      number_is = rw same (omega (arith, b.number_is, b.is.number_is, ap (first_number us) e));
+      inside_is = rw (same, ← one) b.is.inside_is;
     }
 
 -- ---- the sites below another
@@ -92,72 +86,48 @@ pub sites-below : {us : List CompilationUnit} {n m : ℕ} {p q : ScopeSite} (a :
     ↔ ((n < m) × (m < n + 1 + p.inside))
 sites-below {us} {n} {m} {p} {q} a b = by_order (cases_order a.unit b.unit)
   where
-    Between : Type 0
-    Between = ((a.unit ≡ b.unit) × IsBelow p.member.unit.dies b.is.index a.is.index)
+    by_order : (a.unit ≡ b.unit) ⊎ ((a.unit < b.unit) ⊎ (b.unit < a.unit))
+        → ((a.unit ≡ b.unit) × IsBelow p.member.unit.dies b.is.index a.is.index)
         ↔ ((n < m) × (m < n + 1 + p.inside))
-
-    by_order : (a.unit ≡ b.unit) ⊎ ((a.unit < b.unit) ⊎ (b.unit < a.unit)) → Between
     by_order (inl e) =
         let here = in-unit-of a a refl in
         let there = in-unit-of a b e in
         let between = scopes-between p.member.unit.dies a.is.index b.is.index p.member.die
         q.member.die here.there there.there (ap is_some a.is.kind_is) (ap is_some b.is.kind_is) in (
-          λ below. let counts = between.0 below.1 in (
-            omega (arith, counts.0, here.number_is, there.number_is),
-            omega (arith, counts.1, here.number_is, here.inside_is, there.number_is),
+          λ below. grind (
+            arith,
+            between.0 below.1,
+            here.number_is,
+            here.inside_is,
+            there.number_is,
           ),
           λ numbers. (
             e,
-            between.1 (
-              omega (arith, numbers.0, here.number_is, there.number_is),
-              omega (arith, numbers.1, here.number_is, here.inside_is, there.number_is),
-            ),
+            between.1 (grind (
+              arith,
+              here.number_is,
+              here.inside_is,
+              there.number_is,
+            )),
           ),
         )
     by_order (inr (inl lt)) =
-        let past = (before-later a b.unit lt).1 in (
-          λ below. absurd (let e = below.0 in omega (arith, e, lt)),
-          λ numbers. absurd (omega (arith, past, numbers.1, b.number_is)),
-        )
+        let past = (before-later a b.unit lt).1 in
+        (λ below. grind arith, λ numbers. grind (arith, b.number_is))
     by_order (inr (inr gt)) =
-        let past = (before-later b a.unit gt).0 in (
-          λ below. absurd (let e = below.0 in omega (arith, e, gt)),
-          λ numbers. absurd (omega (arith, past, numbers.0, a.number_is)),
-        )
+        let past = (before-later b a.unit gt).0 in
+        (λ below. grind arith, λ numbers. grind (arith, a.number_is))
 
 -- A scope with a lower number is in an earlier unit, or earlier in the same unit.
 pub site-order : {us : List CompilationUnit} {n m : ℕ} {p q : ScopeSite} (a : IsSiteAt us n p)
     (b : IsSiteAt us m q) → n < m
     → (a.unit < b.unit) ⊎ ((p.member.unit ≡ q.member.unit) × (a.is.index < b.is.index))
-site-order {us} {n} {m} {p} {q} a b less = by_unit (cases_order a.unit b.unit)
-  where
-    by_index : a.unit ≡ b.unit → p.member.unit ≡ q.member.unit
-        → (a.is.index < b.is.index) ⊎ (b.is.index ≤ a.is.index)
-        → (a.unit < b.unit) ⊎ ((p.member.unit ≡ q.member.unit) × (a.is.index < b.is.index))
-    by_index e same (inl lt) = inr (same, lt)
-    by_index e same (inr ge) =
-        let counts = counted-rises is_scope p.member.unit.dies b.is.index a.is.index ge in
-        let there = ap (λ (u : CompilationUnit). count_by is_scope (take b.is.index u.dies)) same in
-        absurd (omega (
-          arith,
-          less,
-          a.number_is,
-          b.number_is,
-          a.is.number_is,
-          b.is.number_is,
-          counts,
-          there,
-          ap (first_number us) e,
-        ))
-
-    by_unit : (a.unit ≡ b.unit) ⊎ ((a.unit < b.unit) ⊎ (b.unit < a.unit))
-        → (a.unit < b.unit) ⊎ ((p.member.unit ≡ q.member.unit) × (a.is.index < b.is.index))
-    by_unit (inl e) = by_index e (same_Some p.member.unit q.member.unit
-        (sym a.unit_is ∙ (ap (slice_get us) e ∙ b.unit_is))) (cases_lt a.is.index b.is.index)
-    by_unit (inr (inl lt)) = inl lt
-    by_unit (inr (inr gt)) =
-        let past = (before-later b a.unit gt).0 in
-        absurd (omega (arith, less, past, a.number_is))
+site-order {us} {n} {m} {p} {q} a b less =
+    let unit = a.unit_is in
+    let other = b.unit_is in
+    let counts = counted-rises is_scope p.member.unit.dies b.is.index a.is.index in
+    let past = before-later b a.unit in
+    grind (arith, a.number_is, a.is.number_is, b.number_is, b.is.number_is)
 
 -- ---- the order of offsets
 
@@ -165,22 +135,16 @@ pub rise-at : (from end : ℕ) (dies : List Die) (k : ℕ) (d : Die) → RiseWit
     → slice_get dies k ≡ Some d → (from ≤ d.offset) × (d.offset < end)
 rise-at from end [] k d rise h = cc
 rise-at from end (x ∷ dies) zero d rise h =
-    let first = rise.0 in
-    let past = within-le (suc x.offset) end dies rise.1 in
-    subst (λ (e : Die). (from ≤ e.offset) × (e.offset < end)) (same_Some x d h)
-    (first, omega (arith, past))
+    let past = within-le (suc x.offset) end dies rise.1 in grind (arith, common_steps)
 rise-at from end (x ∷ dies) (suc k) d rise h =
-    let first = rise.0 in
-    let at = rise-at (suc x.offset) end dies k d rise.1 h in
-    (omega (arith, first, at.0), at.1)
+    let at = rise-at (suc x.offset) end dies k d rise.1 h in grind arith
 
 pub rise-order : (from end : ℕ) (dies : List Die) (i j : ℕ) (d e : Die) → RiseWithin from end dies
     → slice_get dies i ≡ Some d → slice_get dies j ≡ Some e → i < j → d.offset < e.offset
 rise-order from end [] i j d e rise d_is e_is lt = cc
 rise-order from end (x ∷ dies) i zero d e rise d_is e_is lt = absurd (omega (arith, lt))
 rise-order from end (x ∷ dies) zero (suc j) d e rise d_is e_is lt =
-    let at = rise-at (suc x.offset) end dies j e rise.1 e_is in
-    subst (λ (y : Die). y.offset < e.offset) (same_Some x d d_is) (omega (arith, at.0))
+    let at = rise-at (suc x.offset) end dies j e rise.1 e_is in grind arith
 rise-order from end (x ∷ dies) (suc i) (suc j) d e rise d_is e_is lt =
     rise-order (suc x.offset) end dies i j d e rise.1 d_is e_is (omega (arith, lt))
 
@@ -196,18 +160,13 @@ within-unit {p = p} are a =
 pub sites-rise : {s : Sections} {us : List CompilationUnit} {n m : ℕ} {p q : ScopeSite}
     → AreUnitsIn s us → (a : IsSiteAt us n p) (b : IsSiteAt us m q) → n < m
     → p.member.die.offset < q.member.die.offset
-sites-rise {us = us} {p = p} {q = q} are a b less = by_order (site-order a b less)
-  where
-    by_order : (a.unit < b.unit) ⊎ ((p.member.unit ≡ q.member.unit) × (a.is.index < b.is.index))
-        → p.member.die.offset < q.member.die.offset
-    by_order (inl lt) =
-        let first = within-unit are a in
-        let second = within-unit are b in
-        let between = are.apart a.unit b.unit p.member.unit q.member.unit a.unit_is b.unit_is lt in
-        omega (arith, first.1, second.0, between)
-    by_order (inr (same, lt)) =
-        rise-order q.member.unit.header.start q.member.unit.header.end q.member.unit.dies
-        a.is.index b.is.index p.member.die q.member.die
-        (dies-rise (are.each_is b.unit q.member.unit b.unit_is))
-        (subst (λ (u : CompilationUnit). slice_get u.dies a.is.index ≡ Some p.member.die) same
-        a.is.there) b.is.there lt
+sites-rise {us = us} {p = p} {q = q} are a b less =
+    let order = site-order a b less in
+    let there = a.is.there in
+    let first = within-unit are a in
+    let second = within-unit are b in
+    let between = are.apart a.unit b.unit p.member.unit q.member.unit a.unit_is b.unit_is in
+    let rise = rise-order q.member.unit.header.start q.member.unit.header.end q.member.unit.dies
+    a.is.index b.is.index p.member.die q.member.die
+    (dies-rise (are.each_is b.unit q.member.unit b.unit_is)) in
+    grind (arith, b.is.there)

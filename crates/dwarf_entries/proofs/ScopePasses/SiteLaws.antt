@@ -1,9 +1,9 @@
 -- The scope sites of units, by their numbers.
-use Rattle.std.proofs.Common.{◌≡◌, ℕ, zero, suc, ◌+◌, ◌-◌, ◌<◌, ◌≤◌, ◌⊎◌, inl, inr, true, false}
-use Rattle.std.proofs.Common.{cond, List, [], ◌∷◌, ◌++◌, length, take, drop, refl, ap, sym, ◌∙◌}
-use Rattle.std.proofs.Common.{subst, arith, length-append}
+use Rattle.std.proofs.Common.{◌≡◌, ℕ, zero, suc, ◌+◌, ◌-◌, ◌<◌, ◌≤◌, ◌⊎◌, inl, inr, cond, List, []}
+use Rattle.std.proofs.Common.{◌∷◌, ◌++◌, length, take, drop, refl, ap, sym, ◌∙◌, subst, arith}
+use Rattle.std.proofs.Common.{length-append}
 use Rattle.std.proofs.lemmas.List.{take_all}
-use Rattle.std.specs.Prelude.{Option, Some, None, count_by, is_some, slice_get}
+use Rattle.std.specs.Prelude.{Option, Some, None, count_by, slice_get}
 use Rattle.std.proofs.lemmas.Bool.{cases_lt}
 use Rattle.std.proofs.lemmas.List.Sums.{sum_by-cons, sum_by_more}
 use Rattle.std.proofs.lemmas.Option.{same_Some, slice_get_within, get_or_from_slice_get}
@@ -19,26 +19,20 @@ use Rattle.dwarf_entries.proofs.UnitPasses.PassLaws.{element}
 
 pub count-none : (die : Die) (dies : List Die) → kind_of die.tag ≡ None
     → count_by is_scope (die ∷ dies) ≡ count_by is_scope dies
-count-none die dies is =
-    let scope : is_scope die ≡ false = ap is_some is in
-    sum_by-cons (λ x. cond (is_scope x) 1 0) die dies ∙ rw scope (omega arith)
+count-none die dies is = sum_by-cons (λ x. cond (is_scope x) 1 0) die dies ∙ rw is (omega arith)
 
 pub count-one : (die : Die) (dies : List Die) (kind : ScopeKind) → kind_of die.tag ≡ Some kind
     → count_by is_scope (die ∷ dies) ≡ suc (count_by is_scope dies)
 count-one die dies kind is =
-    let scope : is_scope die ≡ true = ap is_some is in
-    sum_by-cons (λ x. cond (is_scope x) 1 0) die dies ∙ rw scope (omega arith)
+    sum_by-cons (λ x. cond (is_scope x) 1 0) die dies ∙ rw is (omega arith)
 
 pub sites-count : (unit : CompilationUnit) (dies : List Die) → length (sites_in unit dies)
     ≡ count_by is_scope dies
 sites-count unit [] = refl
-sites-count unit (die ∷ dies) = by_kind (kind_of die.tag) refl (sites-count unit dies)
-  where
-    by_kind : (kind : Option ScopeKind) → kind_of die.tag ≡ kind → length (sites_in unit dies)
-        ≡ count_by is_scope dies → length (site_of unit die dies kind (sites_in unit dies))
-        ≡ count_by is_scope (die ∷ dies)
-    by_kind None is rest = rest ∙ sym (count-none die dies is)
-    by_kind (Some kind) is rest = ap suc rest ∙ sym (count-one die dies kind is)
+sites-count unit (die ∷ dies) =
+    let rest = sites-count unit dies in
+    let sum = sum_by-cons (λ x. cond (is_scope x) 1 0) die dies in
+    grind arith
 
 -- The site of an entry.
 abbrev pub site_at : CompilationUnit → Die → List Die → ScopeKind → ScopeSite

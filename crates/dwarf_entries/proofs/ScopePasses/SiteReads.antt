@@ -1,18 +1,17 @@
 -- The scope sites of a unit, from the data stored for it.
 use Rattle.std.proofs.Common.{◌≡◌, ℕ, List, [], ◌∷◌, length, get_or, map, refl, ap, ◌∙◌, subst, sym}
-use Rattle.std.specs.Prelude.{Option, Some, None, Ok, count_by, slice_get}
+use Rattle.std.proofs.Common.{arith}
+use Rattle.std.specs.Prelude.{Some, Ok, slice_get}
 use Rattle.std.proofs.lemmas.List.{get_or-map, length-map}
 use Rattle.std.proofs.lemmas.Option.{slice_get_within, get_or_from_slice_get}
-use Rattle.dwarf_units.specs.Entries.{Die, below}
-use Rattle.dwarf_walk.specs.declared.scope_kind.ScopeKind.{ScopeKind}
+use Rattle.dwarf_units.specs.Entries.{Die}
 use Rattle.dwarf_walk.specs.declared.unit_entries.ScopePlace.{ScopePlace}
 use Rattle.dwarf_walk.specs.declared.unit_entries.UnitEntries.{UnitEntries}
-use Rattle.dwarf_walk.specs.ScopeEntries.{kind_of, is_scope}
 use Rattle.dwarf_walk.specs.Sections.{Sections}
 use Rattle.dwarf_walk.specs.Private.Rereading.{scope_entry_at}
-use Rattle.dwarf_walk.specs.Stored.{StoredUnit, scope_entry, scope_place, scope_places, stored_of}
+use Rattle.dwarf_walk.specs.Stored.{StoredUnit, scope_entry, scope_places, stored_of}
 use Rattle.dwarf_entries.specs.Units.{CompilationUnit}
-use Rattle.dwarf_entries.specs.Scopes.{ScopeSite, site_of, sites_in}
+use Rattle.dwarf_entries.specs.Scopes.{ScopeSite, sites_in}
 use Rattle.dwarf_entries.specs.Private.EntryOffsets.{stored_unit_of}
 use Rattle.dwarf_entries.proofs.ScopePasses.SiteLaws.{site-in}
 use Rattle.dwarf_entries.proofs.UnitPasses.RereadLaws.{bytes_in, scope-there}
@@ -24,18 +23,7 @@ place_in p = record { offset = p.member.die.offset; inside = p.inside }
 places-are : (u : CompilationUnit) (dies : List Die)
     → scope_places dies ≡ map place_in (sites_in u dies)
 places-are u [] = refl
-places-are u (die ∷ rest) = by_kind (kind_of die.tag) (places-are u rest)
-  where
-    by_kind : (kind : Option ScopeKind) → scope_places rest ≡ map place_in (sites_in u rest)
-        → scope_place die rest kind (scope_places rest)
-        ≡ map place_in (site_of u die rest kind (sites_in u rest))
-    by_kind None later = later
-    by_kind (Some kind) later = ap (λ (ps : List ScopePlace).
-        (let p : ScopePlace = record {
-          offset = die.offset;
-          inside =
-              count_by is_scope (below die rest);
-        } in p) ∷ ps) later
+places-are u (die ∷ rest) = let later = places-are u rest in grind arith
 
 -- A unit has as many stored elements as sites.
 pub sites-stored : (k : UnitEntries) (u : CompilationUnit) → stored_of k ≡ stored_unit_of u

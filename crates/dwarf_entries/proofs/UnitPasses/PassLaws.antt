@@ -1,13 +1,12 @@
 -- A pass over a list, which stops at the first element that is refused.
-use Rattle.std.proofs.Common.{◌≡◌, ◌⊎◌, inl, inr, ℕ, zero, suc, ◌+◌, ◌<◌, ◌≤◌, List, [], ◌∷◌, ◌++◌}
-use Rattle.std.proofs.Common.{length, map, take, drop, get_or, refl, ap, sym, ◌∙◌, subst, arith}
+use Rattle.std.proofs.Common.{◌≡◌, ◌⊎◌, ℕ, zero, suc, ◌+◌, ◌<◌, ◌≤◌, List, [], ◌∷◌, ◌++◌, length}
+use Rattle.std.proofs.Common.{map, take, drop, get_or, refl, ap, sym, ◌∙◌, subst, arith}
 use Rattle.std.proofs.Common.{length-append}
 use Rattle.std.specs.Prelude.{Some, None, Result, Ok, Err, slice_get}
 use Rattle.std.proofs.lemmas.List.{take_more, take_all, take-append-drop}
-use Rattle.std.proofs.lemmas.Option.{same_Some, slice_get_within, get_or_from_slice_get}
-use Rattle.std.proofs.lemmas.Option.{slice_get_read, slice_get_past}
+use Rattle.std.proofs.lemmas.Option.{slice_get_within, get_or_from_slice_get, slice_get_read}
+use Rattle.std.proofs.lemmas.Option.{slice_get_past}
 use Rattle.dwarf_bytes.specs.declared.fault.Cause.{Cause}
-use Rattle.dwarf_bytes.specs.declared.fault.Cause.TheVariants as causes
 use Rattle.dwarf_bytes.specs.declared.fault.Section.{Section}
 use Rattle.dwarf_bytes.specs.declared.fault.Section.TheVariants as names
 use Rattle.dwarf_bytes.specs.declared.fault.LoadFault.{LoadFault}
@@ -29,7 +28,7 @@ element (x ∷ xs) (suc n) lt = element xs n (omega (arith, lt))
 pub drop-at : {X : Type 0} (xs : List X) (n : ℕ) (x : X) → slice_get xs n ≡ Some x
     → drop n xs ≡ x ∷ drop (suc n) xs
 drop-at [] n x h = cc
-drop-at {X} (y ∷ ys) zero x h = ap (λ (z : X). z ∷ ys) (same_Some y x h)
+drop-at (y ∷ ys) zero x h = grind arith
 drop-at (y ∷ ys) (suc n) x h = drop-at ys n x h
 
 -- An element of a mapped list.
@@ -37,7 +36,7 @@ pub from-map : {X Y : Type 0} (f : X → Y) (xs : List X) (i : ℕ) (y : Y)
     → slice_get (map f xs) i ≡ Some y
     → (x : X) × (slice_get xs i ≡ Some x) × (f x ≡ y)
 from-map f [] i y h = cc
-from-map f (x ∷ xs) zero y h = (x, refl, same_Some (f x) y h)
+from-map f (x ∷ xs) zero y h = (x, refl, grind arith)
 from-map f (x ∷ xs) (suc i) y h = from-map f xs i y h
 
 -- The element that a lookup returns.
@@ -55,17 +54,14 @@ not-at list items n same past = subst (λ (xs : List _). slice_get xs n ≡ None
 pub each-at : {X Y : Type 0} (make : List Y → X → Result Y At) (before : List Y) (xs : List X)
     (ys : List Y) → each_from make before xs ≡ Ok ys → (i : ℕ) (y : Y) → slice_get ys i ≡ Some y
     → (x : X) × (slice_get xs i ≡ Some x) × (make (before ++ take i ys) x ≡ Ok y)
-each-at {X = X} {Y = Y} make before xs ys h i y found =
+each-at make before xs ys h i y found =
     let within = slice_get_within ys i y found in
     let size = each-length make before xs ys h in
     let x = element xs i (omega (arith, within, size)) in
     let read = each-place make before xs ys h i x.0 y (omega (arith, within, size)) in (
       x.0,
       x.1,
-      subst (λ (z : X). make (before ++ take i ys) z ≡ Ok y)
-          (get_or_from_slice_get xs i x.0 x.0 x.1)
-          (subst (λ (z : Y). make (before ++ take i ys) (get_or xs i x.0) ≡ Ok z)
-          (get_or_from_slice_get ys i y y found) read),
+      grind (arith, get_or_from_slice_get xs i x.0 x.0 x.1, get_or_from_slice_get ys i y y found),
     )
 
 -- ---- faults
@@ -79,17 +75,13 @@ exit {T} {E} (Err y) h = ap (λ (z : E). let r : Result T E = Err z in r) h
 pub step-fault : {X Y : Type 0} {fault : LoadFault} (r : Result X LoadFault)
     (f : X → Result Y LoadFault) → (fault ≡ memory_fault) ⊎ (r ≡ Err fault)
     → (fault ≡ memory_fault) ⊎ ((r >>= f) ≡ Err fault)
-step-fault r f (inl memory) = inl memory
-step-fault r f (inr bad) = inr (rw bad refl)
+step-fault r f bad = grind arith
 
 -- The fault of an element, reported at its offset.
 pub item-fault : {X : Type 0} (r : Result X Cause) (cause : Cause) (at : ℕ) → Fails cause r
     → (at_item names.DebugInfo cause at ≡ memory_fault)
     ⊎ (in_section names.DebugInfo (with_offset at r) ≡ Err (at_item names.DebugInfo cause at))
-item-fault r cause at (inl memory) =
-    inl (ap (λ (c : Cause). at_item names.DebugInfo c at) memory)
-item-fault r causes.Memory at (inr bad) = inl refl
-item-fault r cause at (inr bad) = inr (rw bad refl)
+item-fault r cause at bad = grind arith
 
 -- The fault of a read in .debug_info, or memory ran out.
 abbrev pub Faults : {X : Type 0} → LoadFault → Result X At → Type 0
@@ -99,16 +91,12 @@ Faults fault r = (fault ≡ memory_fault) ⊎ (in_section names.DebugInfo r ≡ 
 pub only-memory : {X : Type 0} (section : Section) (r : Result X At) (x : X) (fault : LoadFault)
     → r ≡ Ok x → (fault ≡ memory_fault) ⊎ (in_section section r ≡ Err fault)
     → fault ≡ memory_fault
-only-memory section r x fault is (inl memory) = memory
-only-memory section (Ok y) x fault is (inr bad) = cc
-only-memory section (Err e) x fault is (inr bad) = cc
+only-memory section r x fault is bad = grind arith
 
 -- The fault of the first of two steps.
 pub first-fault : {X Y : Type 0} {fault : LoadFault} (r : Result X At) (f : X → Result Y At)
     → Faults fault r → Faults fault (r >>= f)
-first-fault r f (inl memory) = inl memory
-first-fault (Ok x) f (inr bad) = cc
-first-fault (Err e) f (inr bad) = inr cc
+first-fault r f bad = grind arith
 
 -- A step that succeeds has no fault.
 abbrev pub done : {Y : Type 0} → Y → Result Y At
@@ -116,9 +104,7 @@ done y = Ok y
 
 pub before-done : {X Y : Type 0} {fault : LoadFault} (r : Result X At) (f : X → Y)
     → Faults fault (r >>= λ x. done (f x)) → Faults fault r
-before-done r f (inl memory) = inl memory
-before-done (Ok x) f (inr bad) = cc
-before-done (Err e) f (inr bad) = inr cc
+before-done r f bad = grind arith
 
 pub after-done : {X Y : Type 0} (r : Result X At) (f : X → Y) (y : Y)
     → in_section names.DebugInfo (r >>= λ x. done (f x)) ≡ Ok y
@@ -129,9 +115,7 @@ after-done (Err e) f y h = cc
 -- The fault of the first of two steps without offsets.
 pub first-fails : {X Y : Type 0} {cause : Cause} (r : Result X Cause) (f : X → Result Y Cause)
     → Fails cause r → Fails cause (r >>= f)
-first-fails r f (inl memory) = inl memory
-first-fails (Ok x) f (inr bad) = cc
-first-fails (Err e) f (inr bad) = inr cc
+first-fails r f bad = grind arith
 
 -- ---- the iterations
 
@@ -167,16 +151,9 @@ module _ {X Y : Type 0} {make : List Y → X → Result Y At} {xs : List X} {ind
       → each make xs ≡ Err e
   unfolding each_from
   pass-refused x e found is =
-      ap (each make) (sym (take-append-drop index xs)
-      ∙ ap (λ (ys : List X). take index xs ++ ys) (drop-at xs index x found))
-      ∙ (then (x ∷ drop (suc index) xs) ∙ rw is refl)
+      ap (each make) (sym (take-append-drop index xs)) ∙ rw (drop-at xs index x found)
+      (then (x ∷ drop (suc index) xs) ∙ rw is refl)
 
   pub pass-fault : {fault : LoadFault} (x : X) → slice_get xs index ≡ Some x
       → Faults fault (make made x) → Faults fault (each make xs)
-  pass-fault x found (inl memory) = inl memory
-  pass-fault {fault} x found (inr bad) = inr (by_read (make made x) refl bad)
-    where
-      by_read : (r : Result Y At) → make made x ≡ r → in_section names.DebugInfo r ≡ Err fault
-          → in_section names.DebugInfo (each make xs) ≡ Err fault
-      by_read (Ok y) is h = cc
-      by_read (Err e) is h = rw (pass-refused x e found is) cc
+  pass-fault x found bad = grind (arith, pass-refused)

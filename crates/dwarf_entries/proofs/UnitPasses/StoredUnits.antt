@@ -2,7 +2,7 @@
 use Rattle.std.proofs.Common.{◌≡◌, ℕ, ◌<◌, List, length, get_or, refl, ap, sym, ◌∙◌, arith}
 use Rattle.std.specs.Prelude.{Option, Some, None, slice_get, option_map}
 use Rattle.std.proofs.lemmas.List.{length-map}
-use Rattle.std.proofs.lemmas.Option.{slice_get-map, slice_get_read, same_Some, none-some}
+use Rattle.std.proofs.lemmas.Option.{slice_get-map, slice_get_read, same_Some}
 use Rattle.dwarf_walk.specs.declared.unit_entries.UnitEntries.{UnitEntries}
 use Rattle.dwarf_walk.specs.Stored.{StoredUnit, stored_of}
 use Rattle.dwarf_entries.specs.Units.{CompilationUnit}
@@ -40,9 +40,8 @@ stored-at stored us n k same found =
   where
     by_unit : (u : Option CompilationUnit) → slice_get us n ≡ u
         → Some (stored_of k) ≡ option_map stored_unit_of u → StoredFor us n k
-    by_unit None is h = absurd (none-some (stored_of k) (sym h))
-    by_unit (Some u) is h =
-        record { unit = u; is = is; stored = same_Some (stored_of k) (stored_unit_of u) h }
+    by_unit None is h = cc
+    by_unit (Some u) is h = record { unit = u; is = is; stored = cc }
 
 pub stored-index : (stored : List UnitEntries) (us : List CompilationUnit) (n : ℕ) (k : UnitEntries)
     → AreStored stored us → slice_get stored n ≡ Some k → (u : CompilationUnit)

@@ -3,7 +3,7 @@ use Rattle.std.proofs.Common.{◌≡◌, ℕ, zero, suc, ◌<◌, ◌≤◌, Lis
 use Rattle.std.proofs.Common.{◌==◌, ◌||◌, refl, ap, sym, ◌∙◌, subst, arith, subst₂}
 use Rattle.std.specs.Prelude.{Some, Result, Ok, Err, zip, slice_get, flat_map}
 use Rattle.std.specs.List.{list_any}
-use Rattle.std.proofs.lemmas.Option.{same_Some, slice_get_within, get_or_from_slice_get}
+use Rattle.std.proofs.lemmas.Option.{slice_get_within, get_or_from_slice_get}
 use Rattle.dwarf_bytes.specs.declared.fault.Section.TheVariants as names
 use Rattle.dwarf_bytes.specs.declared.fault.LoadFault.{LoadFault}
 use Rattle.dwarf_bytes.specs.Refusals.{in_section}
@@ -63,9 +63,7 @@ zip-at : {X Y : Type 0} (xs : List X) (ys : List Y) (i : ℕ) (p : X × Y)
     → slice_get (zip xs ys) i ≡ Some p → (slice_get xs i ≡ Some p.0) × (slice_get ys i ≡ Some p.1)
 zip-at [] ys i p h = cc
 zip-at (x ∷ xs) [] i p h = cc
-zip-at {X} {Y} (x ∷ xs) (y ∷ ys) zero p h =
-    let same = same_Some (x, y) p h in
-    (ap (λ (q : X × Y). Some q.0) same, ap (λ (q : X × Y). Some q.1) same)
+zip-at (x ∷ xs) (y ∷ ys) zero p h = grind arith
 zip-at (x ∷ xs) (y ∷ ys) (suc i) p h = zip-at xs ys i p h
 
 module _ (s : Sections) (headers : List UnitHeader) (tables : List (List Declaration))
@@ -132,8 +130,7 @@ units-in s us h =
 
 pub object-units : (s : Sections) (object : ObjectUnits) → units_of_object s ≡ object
     → AreUnitsIn object.sections object.units
-object-units s object same = subst (λ (v : ObjectUnits). AreUnitsIn v.sections v.units) same
-    (by_read (units_read s) refl)
+object-units s object same = rw (← same) (by_read (units_read s) refl)
   where
     by_read : (r : Result (List CompilationUnit) LoadFault) → units_read s ≡ r
         → AreUnitsIn s (units_or_none r)

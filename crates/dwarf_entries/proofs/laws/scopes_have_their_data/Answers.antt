@@ -10,10 +10,9 @@ use Rattle.dwarf_entries.proofs.laws.scopes_have_their_data.Goals as goal
 number-at : (first total i : ℕ) (ss : List Scope) (s : Scope) → AreNumbered first total ss
     → slice_get ss i ≡ Some s → s.number ≡ first + i
 number-at first total i [] s are found = cc
-number-at first total zero (t ∷ ss) s are found =
-    ap (λ (x : Scope). x.number) (sym (same_Some t s found)) ∙ (are.0 ∙ omega arith)
-number-at first total (suc i) (t ∷ ss) s are found = number-at (suc first) total i ss s are.3 found
-    ∙ omega arith
+number-at first total zero (t ∷ ss) s are found = let e = are.0 in grind arith
+number-at first total (suc i) (t ∷ ss) s are found =
+    let e = number-at (suc first) total i ss s are.3 found in omega (arith, e)
 
 -- The scope that has the same data in itself as the stored one.
 own-found : (o : Option Scope) (k : StoredScope) → option_map own o ≡ Some (own_of k)
