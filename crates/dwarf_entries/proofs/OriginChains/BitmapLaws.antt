@@ -1,6 +1,6 @@
 -- An entry is at an offset of a unit if its bit is set.
 use Rattle.std.proofs.Common.{◌≡◌, ℕ, suc, List, [], ◌∷◌, Bool, true, false, cond, ◌==◌, ◌||◌, refl}
-use Rattle.std.proofs.Common.{sym, ap, ◌∙◌, arith}
+use Rattle.std.proofs.Common.{ap, ◌∙◌, arith}
 use Rattle.std.specs.Prelude.{Option, Some, None, is_some, find, slice_get, option_map, ok_or}
 use Rattle.std.specs.Option.{option_or}
 use Rattle.std.specs.List.{list_any}
@@ -33,12 +33,13 @@ any-members : (offset : ℕ) (us : List CompilationUnit)
     → list_any (λ place. place == offset) (all_offsets us)
     ≡ is_some (find (is_at_offset offset) (members_of us))
 any-members offset [] = refl
-any-members offset (u ∷ us) =
-    list_any-append (λ (place : ℕ). place == offset) (offsets_of u.dies) (all_offsets us)
-    ∙ (rw (any-dies u offset u.dies, any-members offset us)
-    (is_some-or (option_map (member_of u) (die_at u offset))
+any-members offset (u ∷ us) = rw (
+  list_any-append (λ (place : ℕ). place == offset) (offsets_of u.dies) (all_offsets us),
+  any-dies u offset u.dies,
+  any-members offset us,
+  find-units u us offset,
+) (is_some-or (option_map (member_of u) (die_at u offset))
     (find (is_at_offset offset) (members_of us)))
-    ∙ ap (λ (o : Option Member). is_some o) (sym (find-units u us offset)))
 
 -- The element that is found is in the list and passes the test.
 find-index : (p : Die → Bool) (dies : List Die) (die : Die) → find p dies ≡ Some die

@@ -1,7 +1,7 @@
 -- The names of an entry: the strings of the first names of its origin chain, and the cache of the
 -- names of reference targets.
 use Rattle.std.proofs.Common.{◌≡◌, ℕ, List, refl, ap, sym, suc, ◌∷◌, Bool, true, false, ◌==◌, ◌&&◌}
-use Rattle.std.proofs.Common.{◌∙◌, subst, arith}
+use Rattle.std.proofs.Common.{◌∙◌, arith}
 use Rattle.std.specs.Prelude.{Option, Result, Ok, Err, Some, None, option_map, if◌then◌else◌}
 use Rattle.dwarf_bytes.specs.declared.constants.TheConstants.{DW_AT_LINKAGE_NAME, DW_AT_NAME}
 use Rattle.dwarf_bytes.specs.declared.fault.Cause.{Cause}
@@ -16,7 +16,6 @@ use Rattle.dwarf_entries.specs.Names.{names_of, references_limit}
 use Rattle.dwarf_entries.specs.Private.NameCache.{CachedNames, slot_of, slot_at, second_names}
 use Rattle.dwarf_entries.specs.Private.NameCache.{target_names, IsCacheOf}
 use Rattle.dwarf_entries.specs.Private.Members.{IsMember, LeadsTo, member_in}
-use Rattle.std.proofs.lemmas.Option.{same_Some}
 use Rattle.dwarf_units.specs.declared.attributes.AttributeValue.{AttributeValue}
 use Rattle.dwarf_units.specs.Entries.{attribute}
 use Rattle.dwarf_walk.specs.declared.unit_entries.NamedEntry.{NamedEntry}
@@ -41,10 +40,7 @@ cached_names place names = record { place = place; names = names }
 
 pub cache-none : (s : Sections) (units : List CompilationUnit) (cache : NameCache)
     → ((slot : ℕ) → slot_at cache slot ≡ None) → IsCacheOf s units cache
-cache-none s units cache none slot packed is = absurd (never (sym is ∙ none slot))
-  where
-    never : (let f : CachedNames → Option CachedNames = λ z. Some z in f packed) ≡ None → ⊥
-    never h = cc
+cache-none s units cache none slot packed is = let empty = none slot in cc
 
 -- The cache remains valid after the names of one more entry are added.
 pub cache-more : (s : Sections) (units : List CompilationUnit) (old new : NameCache)
@@ -62,11 +58,8 @@ cache-more s units old new place names knew put m there led_is slot packed is =
         → (m : Member) × (member_in units packed.place.unit packed.place.offset ≡ Ok m)
         × (second_names s units m ≡ Ok packed.names)
     by_test true h =
-        let same : cached_names place names ≡ packed =
-        same_Some (cached_names place names) packed h in
-        subst (λ (l : CachedNames). (m : Member) × (member_in units l.place.unit l.place.offset
-        ≡ Ok m)
-        × (second_names s units m ≡ Ok l.names)) same (m, there, led_is)
+        let same : cached_names place names ≡ packed = grind arith in
+        rw (← same) (m, there, led_is)
     by_test false h = knew slot packed h
 
 -- ---- the names of an entry that has no name of its own

@@ -6,10 +6,9 @@ use Rattle.std.specs.Prelude.{Option, Some, None, Err, find, slice_get, option_m
 use Rattle.std.specs.Prelude.{option_to_list}
 use Rattle.std.specs.Option.{option_or}
 use Rattle.std.specs.List.Sorted.{IsNonDecreasingBy, IsPartitionPoint}
-use Rattle.std.proofs.lemmas.Bool.{ne_eqb, cases_lt, cases_order}
+use Rattle.std.proofs.lemmas.Bool.{ne_eqb, cases_lt}
 use Rattle.std.proofs.lemmas.List.Folds.{find-append}
-use Rattle.std.proofs.lemmas.Option.{same_Some, slice_get-get_or, slice_get_within}
-use Rattle.std.proofs.lemmas.Option.{get_or_from_slice_get}
+use Rattle.std.proofs.lemmas.Option.{slice_get-get_or, slice_get_within, get_or_from_slice_get}
 use Rattle.dwarf_bytes.specs.declared.constants.TheConstants.{DW_FORM_REF_ADDR}
 use Rattle.dwarf_bytes.specs.declared.fault.Cause.TheVariants as causes
 use Rattle.dwarf_units.specs.declared.attributes.AttributeValue.{AttributeValue}
@@ -23,8 +22,7 @@ use Rattle.dwarf_entries.specs.Names.{Member, members_of, member_at, target_of}
 use Rattle.dwarf_entries.specs.Private.EntryOffsets.{AreStored}
 use Rattle.dwarf_entries.specs.Private.Members.{IsWithin, member_in}
 use Rattle.dwarf_entries.proofs.UnitPasses.PassLaws.{element}
-use Rattle.dwarf_entries.proofs.UnitPasses.StoredUnits.{StoredFor, stored-at, stored-index}
-use Rattle.dwarf_entries.proofs.UnitPasses.StoredUnits.{stored-length}
+use Rattle.dwarf_entries.proofs.UnitPasses.StoredUnits.{stored-at, stored-index, stored-length}
 use Rattle.dwarf_entries.proofs.UnitPasses.UnitLaws.{AreUnitsIn, dies-rise}
 
 -- ---- the entry at an offset of a unit
@@ -70,17 +68,13 @@ find-units u us offset =
     (find-map (is_at_offset offset) (member_of u) u.dies)
 
 or-none : {X : Type 0} (o : Option X) → option_or o None ≡ o
-or-none None = refl
-or-none (Some x) = refl
+or-none o = grind arith
 
 -- The entry at an offset, in the unit at an index.
 pub member-is : (us : List CompilationUnit) (n offset : ℕ) (u : CompilationUnit)
     → slice_get us n ≡ Some u → member_in us n offset
     ≡ ok_or (option_map (member_of u) (die_at u offset)) causes.Reference
-member-is us n offset u is =
-    ap (λ (o : Option CompilationUnit). member_at (members_of (option_to_list o)) offset) is
-    ∙ ap (λ (o : Option Member). ok_or o causes.Reference) (find-units u [] offset
-    ∙ or-none (option_map (member_of u) (die_at u offset)))
+member-is us n offset u is = rw (is, find-units u [] offset, or-none) refl
 
 -- ---- the unit that contains an offset
 
@@ -114,37 +108,20 @@ module _ {s : Sections} {us : List CompilationUnit} (are : AreUnitsIn s us) wher
       ≡ find (is_at_offset offset) (members_of (option_to_list (slice_get us n)))
   first-past n offset before from = only-in us n offset (λ i u found differs.
       none-outside u.header.start u.header.end u.dies offset (dies-rise (are.each_is i u found))
-      (by_order i u found (cases_order i n) differs))
-    where
-      by_order : (i : ℕ) (u : CompilationUnit) → slice_get us i ≡ Some u
-          → (i ≡ n) ⊎ ((i < n) ⊎ (n < i)) → (i ≡ n → ⊥)
-          → (offset < u.header.start) ⊎ (u.header.end ≤ offset)
-      by_order i u found (inl e) differs = absurd (differs e)
-      by_order i u found (inr (inl lt)) differs = inr (before i u found lt)
-      by_order i u found (inr (inr lt)) differs =
-          let within = slice_get_within us i u found in
-          let v = element us n (omega (arith, lt, within)) in
-          inl (omega (arith, from n v.0 v.1 (omega arith), are.apart n i v.0 u v.1 found lt))
+      (elim (cases_lt i n) [
+        | inl lt ↦ inr (before i u found lt)
+        | inr ge ↦ (let v = element us n (omega (arith, ge, slice_get_within us i u found)) in
+            inl (grind (arith, from n v.0 v.1, are.apart n i v.0 u v.1 found)))
+      ]))
 
   -- An entry at an offset within a unit is an entry of that unit.
   pub in-own : (n offset : ℕ) (u : CompilationUnit) → slice_get us n ≡ Some u
       → u.header.start ≤ offset → offset < u.header.end
       → find (is_at_offset offset) (members_of us) ≡ option_map (member_of u) (die_at u offset)
-  in-own n offset u is low high =
-      first-past n offset (λ i v found lt. omega (arith, are.apart i n v u found is lt, low))
-      (λ i v found le. later i v found (cases_lt n i) le)
-      ∙ (ap (λ (o : Option CompilationUnit). find (is_at_offset offset)
-      (members_of (option_to_list o))) is ∙ (find-units u [] offset ∙ or-none _))
-    where
-      later : (i : ℕ) (v : CompilationUnit) → slice_get us i ≡ Some v → (n < i) ⊎ (i ≤ n) → n ≤ i
-          → offset < v.header.end
-      later i v found (inl lt) le =
-          let bounds = (are.each_is i v found).bounds in
-          omega (arith, high, are.apart n i u v is found lt, bounds.first, bounds.last)
-      later i v found (inr ge) le =
-          let at : i ≡ n = omega (arith, ge, le) in
-          let same = same_Some u v (sym is ∙ (ap (slice_get us) (sym at) ∙ found)) in
-          subst (λ (w : CompilationUnit). offset < w.header.end) same high
+  in-own n offset u is low high = only-in us n offset (λ i v found differs.
+      none-outside v.header.start v.header.end v.dies offset (dies-rise (are.each_is i v found))
+      (grind (arith, are.apart i n v u found is, are.apart n i u v is found)))
+      ∙ rw (is, find-units u [] offset, or-none) refl
 
   -- ---- the stored units
 
@@ -165,27 +142,13 @@ module _ {s : Sections} {us : List CompilationUnit} (are : AreUnitsIn s us) wher
 
     ends-rise : IsNonDecreasingBy (λ (k : UnitEntries). k.header.end) stored
     ends-rise i j d le lt =
-        let within : i < length stored = omega (arith, le, lt) in
-        by_order (cases_lt i j) (stored-at stored us i (get_or stored i d) same
-        (slice_get-get_or stored i d within)) (stored-at stored us j (get_or stored j d) same
-        (slice_get-get_or stored j d lt))
-      where
-        by_order : (i < j) ⊎ (j ≤ i) → StoredFor us i (get_or stored i d)
-            → StoredFor us j (get_or stored j d)
-            → (get_or stored i d).header.end ≤ (get_or stored j d).header.end
-        by_order (inl less) a b =
-            let bounds = (are.each_is j b.unit b.is).bounds in
-            omega (
-              arith,
-              are.apart i j a.unit b.unit a.is b.is less,
-              bounds.first,
-              bounds.last,
-              ap (λ (x : StoredUnit). x.header.end) a.stored,
-              ap (λ (x : StoredUnit). x.header.end) b.stored,
-            )
-        by_order (inr ge) a b =
-            let at : i ≡ j = omega (arith, le, ge) in
-            let ends = ap (λ (k : ℕ). (get_or stored k d).header.end) at in omega (arith, ends)
+        let a = stored-at stored us i (get_or stored i d) same
+        (slice_get-get_or stored i d (omega (arith, le, lt))) in
+        let b = stored-at stored us j (get_or stored j d) same (slice_get-get_or stored j d lt) in
+        let bounds = (are.each_is j b.unit b.is).bounds in
+        let first = ap (λ (x : StoredUnit). x.header.end) a.stored in
+        let second = ap (λ (x : StoredUnit). x.header.end) b.stored in
+        grind (arith, are.apart i j a.unit b.unit a.is b.is, bounds.first, bounds.last)
 
     pub anywhere : (n offset : ℕ) → (IsNonDecreasingBy (λ (k : UnitEntries). k.header.end) stored
         → IsPartitionPoint (λ (k : UnitEntries). k.header.end ≤ offset)
@@ -209,11 +172,11 @@ module _ {s : Sections} {us : List CompilationUnit} (are : AreUnitsIn s us) wher
     outside n offset k found out =
         let at = stored-at stored us n k same found in
         let u = at.unit in
-        member-is us n offset u at.is
-        ∙ ap (λ (o : Option Die). ok_or (option_map (member_of u) o) causes.Reference)
-        (none-outside u.header.start u.header.end u.dies offset (dies-rise (are.each_is n u at.is))
-        (subst (λ (x : StoredUnit). (offset < x.header.start) ⊎ (x.header.end ≤ offset)) at.stored
-        out))
+        rw (
+          member-is us n offset u at.is,
+          none-outside u.header.start u.header.end u.dies offset (dies-rise (are.each_is n u at.is))
+              (rw (ap (λ (x : StoredUnit). x.header) at.stored) at out),
+        ) refl
 
     pub within-stored : (n offset : ℕ) (k : UnitEntries) → slice_get stored n ≡ Some k
         → k.header.start ≤ offset → offset < k.header.end

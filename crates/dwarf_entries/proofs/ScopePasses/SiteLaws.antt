@@ -1,12 +1,12 @@
 -- The scope sites of units, by their numbers.
 use Rattle.std.proofs.Common.{◌≡◌, ℕ, zero, suc, ◌+◌, ◌-◌, ◌<◌, ◌≤◌, ◌⊎◌, inl, inr, cond, List, []}
-use Rattle.std.proofs.Common.{◌∷◌, ◌++◌, length, take, drop, refl, ap, sym, ◌∙◌, subst, arith}
+use Rattle.std.proofs.Common.{◌∷◌, ◌++◌, length, take, drop, refl, ap, sym, ◌∙◌, arith}
 use Rattle.std.proofs.Common.{length-append}
 use Rattle.std.proofs.lemmas.List.{take_all}
 use Rattle.std.specs.Prelude.{Option, Some, None, count_by, slice_get}
 use Rattle.std.proofs.lemmas.Bool.{cases_lt}
 use Rattle.std.proofs.lemmas.List.Sums.{sum_by-cons, sum_by_more}
-use Rattle.std.proofs.lemmas.Option.{same_Some, slice_get_within, get_or_from_slice_get}
+use Rattle.std.proofs.lemmas.Option.{slice_get_within, get_or_from_slice_get}
 use Rattle.dwarf_units.specs.Entries.{Die, below}
 use Rattle.dwarf_walk.specs.declared.scope_kind.ScopeKind.{ScopeKind}
 use Rattle.dwarf_walk.specs.ScopeEntries.{kind_of, is_scope}
@@ -57,20 +57,26 @@ site-in u [] n p h = cc
 site-in u (die ∷ rest) n p h = by_kind (kind_of die.tag) refl n h (λ m found.
     site-in u rest m p found)
   where
-    by_kind : (kind : Option ScopeKind) → kind_of die.tag ≡ kind → (n : ℕ)
-        → slice_get (site_of u die rest kind (sites_in u rest)) n ≡ Some p
-        → ((m : ℕ) → slice_get (sites_in u rest) m ≡ Some p → IsSiteIn u rest m p)
+    next : (m n : ℕ) (at : IsSiteIn u rest m p) → n ≡ count_by is_scope (die ∷ take at.index rest)
         → IsSiteIn u (die ∷ rest) n p
-    by_kind None is n h later = let at = later n h in record {
+    next m n at number_is = record {
       unit_is = at.unit_is;
       kind_is = at.kind_is;
       index = suc at.index;
       there = at.there;
-      number_is = at.number_is ∙ sym (count-none die (take at.index rest) is);
+      number_is = number_is;
       inside_is = at.inside_is;
     }
+
+    by_kind : (kind : Option ScopeKind) → kind_of die.tag ≡ kind → (n : ℕ)
+        → slice_get (site_of u die rest kind (sites_in u rest)) n ≡ Some p
+        → ((m : ℕ) → slice_get (sites_in u rest) m ≡ Some p → IsSiteIn u rest m p)
+        → IsSiteIn u (die ∷ rest) n p
+    by_kind None is n h later = let at = later n h in
+        next n n at (at.number_is ∙ sym (count-none die (take at.index rest) is))
     by_kind (Some kind) is zero h later =
-        subst (IsSiteIn u (die ∷ rest) zero) (same_Some (site_at u die rest kind) p h) (record {
+        let same : site_at u die rest kind ≡ p = grind arith in
+        rw (← same) (record {
           unit_is = refl;
           kind_is = is;
           index = zero;
@@ -78,14 +84,8 @@ site-in u (die ∷ rest) n p h = by_kind (kind_of die.tag) refl n h (λ m found.
           number_is = refl;
           inside_is = refl;
         })
-    by_kind (Some kind) is (suc n) h later = let at = later n h in record {
-      unit_is = at.unit_is;
-      kind_is = at.kind_is;
-      index = suc at.index;
-      there = at.there;
-      number_is = ap suc at.number_is ∙ sym (count-one die (take at.index rest) kind is);
-      inside_is = at.inside_is;
-    }
+    by_kind (Some kind) is (suc n) h later = let at = later n h in
+        next n (suc n) at (ap suc at.number_is ∙ sym (count-one die (take at.index rest) kind is))
 
 -- An entry that is a scope has the site with the number of scopes before it.
 site-of : (u : CompilationUnit) (dies : List Die) (k : ℕ) (die : Die) (kind : ScopeKind)
@@ -93,12 +93,7 @@ site-of : (u : CompilationUnit) (dies : List Die) (k : ℕ) (die : Die) (kind : 
     → slice_get (sites_in u dies) (count_by is_scope (take k dies))
     ≡ Some (site_at u die (drop (suc k) dies) kind)
 site-of u [] k die kind h is = cc
-site-of u (d ∷ rest) zero die kind h is =
-    let same : d ≡ die = same_Some d die h in
-    subst (λ (e : Die). slice_get (site_of u d rest (kind_of d.tag) (sites_in u rest)) zero
-    ≡ Some (site_at u e rest kind)) same
-    (ap (λ (o : Option ScopeKind). slice_get (site_of u d rest o (sites_in u rest)) zero)
-    (ap (λ (e : Die). kind_of e.tag) same ∙ is))
+site-of u (d ∷ rest) zero die kind h is = grind arith
 site-of u (d ∷ rest) (suc k) die kind h is =
     by_kind (kind_of d.tag) refl (site-of u rest k die kind h is)
   where
@@ -107,11 +102,8 @@ site-of u (d ∷ rest) (suc k) die kind h is =
         ≡ Some (site_at u die (drop (suc k) rest) kind)
         → slice_get (site_of u d rest found (sites_in u rest)) (count_by is_scope (d ∷ take k rest))
         ≡ Some (site_at u die (drop (suc k) rest) kind)
-    by_kind None at later =
-        ap (slice_get (sites_in u rest)) (count-none d (take k rest) at) ∙ later
-    by_kind (Some found) at later =
-        ap (slice_get (site_at u d rest found ∷ sites_in u rest))
-        (count-one d (take k rest) found at) ∙ later
+    by_kind None at later = rw (count-none d (take k rest) at) later
+    by_kind (Some found) at later = rw (count-one d (take k rest) found at) later
 
 -- ---- the sites of all units
 
@@ -136,9 +128,7 @@ pub first-next : (us : List CompilationUnit) (i : ℕ) (u : CompilationUnit) →
     → first_number us (i + 1) ≡ first_number us i + count_by is_scope u.dies
 first-next us i u found =
     sum_by_more (λ (v : CompilationUnit). count_by is_scope v.dies) us i u
-    (slice_get_within us i u found)
-    ∙ ap (λ (v : CompilationUnit). first_number us i + count_by is_scope v.dies)
-    (get_or_from_slice_get us i u u found)
+    (slice_get_within us i u found) ∙ rw (get_or_from_slice_get us i u u found) refl
 
 at-left : {X : Type 0} (xs ys : List X) (n : ℕ) (x : X) → slice_get xs n ≡ Some x
     → slice_get (xs ++ ys) n ≡ Some x
@@ -148,8 +138,8 @@ at-left (y ∷ xs) ys (suc n) x h = at-left xs ys n x h
 
 at-right : {X : Type 0} (xs ys : List X) (n m : ℕ) → n ≡ length xs + m
     → slice_get (xs ++ ys) n ≡ slice_get ys m
-at-right [] ys n m is = ap (slice_get ys) (omega (arith, is))
-at-right (x ∷ xs) ys zero m is = absurd (omega (arith, is))
+at-right [] ys n m is = grind arith
+at-right (x ∷ xs) ys zero m is = grind arith
 at-right (x ∷ xs) ys (suc n) m is = at-right xs ys n m (omega (arith, is))
 
 pub all-sites-at : (us : List CompilationUnit) (i m n : ℕ) (u : CompilationUnit) (p : ScopeSite)
@@ -158,9 +148,7 @@ pub all-sites-at : (us : List CompilationUnit) (i m n : ℕ) (u : CompilationUni
 all-sites-at [] i m n u p found here is = cc
 all-sites-at (v ∷ us) zero m n u p found here is =
     let none : first_number (v ∷ us) zero ≡ 0 = refl in
-    let same : n ≡ m = omega (arith, is, none) in
-    at-left (sites_in v v.dies) (all_sites us) n p (ap (slice_get (sites_in v v.dies)) same
-    ∙ (ap (λ (w : CompilationUnit). slice_get (sites_in w w.dies) m) (same_Some v u found) ∙ here))
+    at-left (sites_in v v.dies) (all_sites us) n p (grind arith)
 all-sites-at (v ∷ us) (suc i) m n u p found here is =
     let sum = sum_by-cons (λ (w : CompilationUnit). count_by is_scope w.dies) v (take i us) in
     at-right (sites_in v v.dies) (all_sites us) n (first_number us i + m)
@@ -185,14 +173,15 @@ site-at (u ∷ us) n p h = by_order (cases_lt n (length (sites_in u u.dies)))
         → ((m : ℕ) → slice_get (all_sites us) m ≡ Some p → IsSiteAt us m p) → IsSiteAt (u ∷ us) n p
     by_order (inl lt) later =
         let q = element (sites_in u u.dies) n lt in
-        let same = sym (at-left (sites_in u u.dies) (all_sites us) n q.0 q.1) ∙ h in
-        let is = site-in u u.dies n p (q.1 ∙ same) in
+        let is = site-in u u.dies n p (q.1
+        ∙ (sym (at-left (sites_in u u.dies) (all_sites us) n q.0 q.1) ∙ h)) in
+        let none : first_number (u ∷ us) zero ≡ 0 = refl in
         record {
           unit = zero;
-          unit_is = ap (λ (v : CompilationUnit). Some v) (sym is.unit_is);
+          unit_is = rw is.unit_is refl;
           number = n;
-          number_is = let none : first_number (u ∷ us) zero ≡ 0 = refl in omega (arith, none);
-          is = subst (λ (v : CompilationUnit). IsSiteIn v v.dies n p) (sym is.unit_is) is;
+          number_is = omega (arith, none);
+          is = rw (← is.unit_is) at is;
         }
     by_order (inr ge) later =
         let m : ℕ = n - length (sites_in u u.dies) in

@@ -126,13 +126,8 @@ pub record AreHeadersIn (size : ℕ) (headers : List UnitHeader) : Type 0 where
 contiguous-headers : (info : List ℕ) (at : ℕ) (headers : List UnitHeader)
     → AreContiguous info at headers
     → All (λ header. at ≤ header.start) headers × AreHeadersIn (length info) headers
-contiguous-headers info at [] h = (
-  All-nil _,
-  record {
-    apart = λ i j d lt within. absurd (omega (arith, within));
-    bounded = All-nil _;
-  },
-)
+contiguous-headers info at [] h =
+    (All-nil _, record { apart = λ i j d lt within. grind arith; bounded = All-nil _ })
 contiguous-headers info at (header ∷ headers) h =
     let start : header.start ≡ at = h.1 in
     let moves : at < header.end = h.2 in

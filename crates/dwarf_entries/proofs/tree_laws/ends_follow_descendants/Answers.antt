@@ -1,18 +1,16 @@
-use Rattle.std.proofs.Common.{◌≡◌, ◌⊎◌, ◌↔◌, inl, inr, ℕ, suc, ◌+◌, ◌<◌, List, take, drop, refl, ap}
-use Rattle.std.proofs.Common.{sym, ◌∙◌, arith}
-use Rattle.std.specs.Prelude.{Some, Ok, Contains, slice_get, count_by}
-use Rattle.std.proofs.lemmas.Bool.{cases_order}
+use Rattle.std.proofs.Common.{◌≡◌, ◌↔◌, ℕ, suc, ◌+◌, ◌<◌, List, take, drop, refl, ap, sym, ◌∙◌}
+use Rattle.std.proofs.Common.{arith}
+use Rattle.std.specs.Prelude.{Ok, Contains, count_by}
 use Rattle.std.proofs.lemmas.Option.{same_Some}
 use Rattle.dwarf_units.specs.Entries.{IsBelow}
 use Rattle.dwarf_walk.specs.ScopeEntries.{is_scope}
 use Rattle.dwarf_walk.specs.Sections.{Sections}
 use Rattle.dwarf_entries.specs.Units.{CompilationUnit}
 use Rattle.dwarf_entries.specs.Scopes.{Scope, ScopeSite, ParsedScope}
-use Rattle.dwarf_entries.specs.Private.Passes.{first_number, all_scopes, all_sites}
+use Rattle.dwarf_entries.specs.Private.Passes.{first_number, all_scopes}
 use Rattle.dwarf_entries.specs.TreeLaws.{IsEntry}
 use Rattle.dwarf_entries.proofs.Results.SiteOrder.{sites-rise, sites-below}
-use Rattle.dwarf_entries.proofs.Results.TreeParts.{IsScopeAt, with-units, scope-at, contained}
-use Rattle.dwarf_entries.proofs.Results.TreeParts.{scopes_in}
+use Rattle.dwarf_entries.proofs.Results.TreeParts.{with-units, scope-at, contained, scopes_in}
 use Rattle.dwarf_entries.proofs.ScopePasses.SiteLaws.{IsSiteAt, site_at, site-of-entry}
 use Rattle.dwarf_entries.proofs.UnitPasses.UnitLaws.{AreUnitsIn, units-in}
 use Rattle.dwarf_entries.proofs.tree_laws.ends_follow_descendants.Goals as goal
@@ -50,38 +48,21 @@ numbers-are : (s : Sections) (us : List CompilationUnit) (parsed : List ParsedSc
     → (scope.number ≡ entry_number us i k scope at)
     × (scope.«end» ≡ entry_number us i k scope at + 1 + (entry_site us i k scope at).inside)
 numbers-are s us parsed are parsed_are i k scope inside at =
-    by_order (cases_order j.0 (entry_number us i k scope at))
-  where
-    j : (n : ℕ) × (j : ParsedScope) × (slice_get parsed n ≡ Some j) × (j.scope ≡ scope)
-    j = contained parsed scope inside
-
-    x : IsScopeAt s us parsed j.0 j.1
-    x = scope-at s us parsed parsed_are j.0 j.1 j.2
-
-    offset : x.site.member.die.offset ≡ at.die.offset
-    offset = ap (λ (y : ParsedScope). y.scope.offset) x.is
-        ∙ (ap (λ (y : Scope). y.offset) j.3 ∙ at.offset_is)
-
-    by_order : (j.0 ≡ entry_number us i k scope at) ⊎ ((j.0 < entry_number us i k scope at)
-        ⊎ (entry_number us i k scope at < j.0))
-        → (scope.number ≡ entry_number us i k scope at)
-        × (scope.«end» ≡ entry_number us i k scope at + 1 + (entry_site us i k scope at).inside)
-    by_order (inl e) =
-        let same = same_Some x.site (entry_site us i k scope at)
-        (sym x.there ∙ (ap (slice_get (all_sites us)) e
-        ∙ site-of-entry us i k at.of at.die scope.kind at.of_is at.die_is at.kind_is)) in
-        let insides = ap (λ (p : ScopeSite). p.inside) same in
-        let number = ap (λ (y : Scope). y.number) j.3 in
-        let end = ap (λ (y : Scope). y.«end») j.3 in (
-          omega (arith, number, x.number_is, e),
-          omega (arith, end, x.end_is, e, insides),
-        )
-    by_order (inr (inl lt)) =
-        let less = sites-rise are x.place (site-of us i k scope at) lt in
-        absurd (omega (arith, less, offset))
-    by_order (inr (inr gt)) =
-        let less = sites-rise are (site-of us i k scope at) x.place gt in
-        absurd (omega (arith, less, offset))
+    let j = contained parsed scope inside in
+    let x = scope-at s us parsed parsed_are j.0 j.1 j.2 in
+    let n : ℕ = entry_number us i k scope at in
+    let offset : x.site.member.die.offset ≡ at.die.offset =
+    ap (λ (y : ParsedScope). y.scope.offset) x.is
+    ∙ (ap (λ (y : Scope). y.offset) j.3 ∙ at.offset_is) in
+    let before = sites-rise are x.place (site-of us i k scope at) in
+    let after = sites-rise are (site-of us i k scope at) x.place in
+    let e : j.0 ≡ n = grind arith in
+    let same = same_Some x.site (entry_site us i k scope at) (sym x.there ∙ rw e
+    (site-of-entry us i k at.of at.die scope.kind at.of_is at.die_is at.kind_is)) in
+    let insides = ap (λ (p : ScopeSite). p.inside) same in
+    let number = ap (λ (y : Scope). y.number) j.3 in
+    let end = ap (λ (y : Scope). y.«end») j.3 in
+    (omega (arith, number, x.number_is, e), omega (arith, end, x.end_is, e, insides))
 
 pub returns : goal.returns
 unfolding site-of

@@ -6,11 +6,10 @@ use Rattle.std.specs.List.Sorted.{IsStrictlyIncreasing}
 use Rattle.std.proofs.lemmas.List.Elements.{All-nil, All-cons, All-weaker, All-map}
 use Rattle.std.proofs.lemmas.List.Kept.{AllPairs-cons}
 use Rattle.std.proofs.lemmas.Option.{slice_get-get_or, get_or_from_slice_get, slice_get_within}
-use Rattle.dwarf_bytes.specs.declared.constants.TheConstants.{DW_AT_STMT_LIST}
 use Rattle.dwarf_units.specs.Entries.{Die}
 use Rattle.dwarf_units.specs.Private.Rising.{RiseWithin}
 use Rattle.dwarf_entries.specs.declared.scope.Root.{Root}
-use Rattle.dwarf_walk.specs.ScopeEntries.{is_scope, number_of}
+use Rattle.dwarf_walk.specs.ScopeEntries.{is_scope}
 use Rattle.dwarf_walk.specs.Sections.{Sections}
 use Rattle.dwarf_entries.specs.Units.{CompilationUnit}
 use Rattle.dwarf_entries.specs.Scopes.{Scope, ParsedScope, root_of, roots_from}
@@ -30,8 +29,7 @@ increasing key xs rise k lt =
     let keys : List ℕ = map key xs in
     let a = from-map key xs k _ (slice_get-get_or keys k 0 (omega (arith, lt))) in
     let b = from-map key xs (k + 1) _ (slice_get-get_or keys (k + 1) 0 lt) in
-    let less = rise k (k + 1) a.0 b.0 a.1 b.1 (omega arith) in
-    omega (arith, less, a.2, b.2)
+    grind (arith, rise k (k + 1) a.0 b.0 a.1 b.1, a.2, b.2)
 
 -- ---- scopes
 
@@ -82,52 +80,42 @@ RootsRise s from roots =
 roots-from-rise : (s : Sections) (from number : ℕ) (us : List CompilationUnit) → AreUnitsIn s us
     → ((i : ℕ) (u : CompilationUnit) → slice_get us i ≡ Some u → from ≤ u.header.start)
     → RootsRise s from (roots_from number us)
-roots-from-rise s from number [] are starts = (
-  All-nil _,
-  λ i j d lt within.
-      absurd (omega (arith, within)),
-)
+roots-from-rise s from number [] are starts = (All-nil _, λ i j d lt within. grind arith)
 roots-from-rise s from number (u ∷ us) are starts =
-    let past : ℕ = number + count_by is_scope u.dies in
-    by_root u.dies past (dies-rise is) (roots-from-rise s u.header.end past us
-    (units-after u us are) (λ i v found. are.apart 0 (suc i) u v refl found (omega arith)))
+    by_root u.dies (number + count_by is_scope u.dies) (dies-rise is) (roots-from-rise s
+    u.header.end _ us (units-after u us are) (λ i v found. are.apart 0 (suc i) u v refl found
+    (omega arith)))
   where
     is : IsUnitIn s u.header u.dies
     is = are.each_is 0 u refl
 
-    lower : from ≤ u.header.end → (past : ℕ)
-        → All (Within u.header.end (length s.debug_info)) (roots_from past us)
-        → All (Within from (length s.debug_info)) (roots_from past us)
-    lower le past = All-weaker (Within u.header.end (length s.debug_info))
-        (Within from (length s.debug_info)) (λ root at. (omega (arith, le, at.0), at.1))
-        (roots_from past us)
-
     by_root : (dies : List Die) (past : ℕ) → RiseWithin u.header.start u.header.end dies
         → RootsRise s u.header.end (roots_from past us)
         → RootsRise s from (root_of number past dies (roots_from past us))
-    by_root [] past rise rest =
+    by_root dies past rise rest =
         let start = starts 0 u refl in
-        let fits = within-le u.header.start u.header.end [] rise in
-        (lower (omega (arith, start, fits)) past rest.0, rest.1)
-    by_root (die ∷ dies) past rise rest =
-        let start = starts 0 u refl in
-        let first = rise.0 in
-        let fits = within-le (suc die.offset) u.header.end dies rise.1 in
-        let within = is.bounds.within in
-        let root : Root = record {
-          offset = die.offset;
-          stmt_list = number_of DW_AT_STMT_LIST die;
-          first = number;
-          past = past;
-        } in (
-          All-cons (Within from (length s.debug_info)) root (roots_from past us)
-              (omega (arith, start, first), omega (arith, fits, within))
-              (lower (omega (arith, start, first, fits)) past rest.0),
-          AllPairs-cons (λ (a b : Root). a.offset < b.offset) root (roots_from past us)
-              (All-weaker (Within u.header.end (length s.debug_info))
-              (λ (root : Root). die.offset < root.offset)
-              (λ root at. omega (arith, fits, at.0)) (roots_from past us) rest.0) rest.1,
-        )
+        let fits = within-le u.header.start u.header.end dies rise in
+        let lower = All-weaker (Within u.header.end (length s.debug_info))
+        (Within from (length s.debug_info)) (λ root at. (omega (arith, start, fits, at.0), at.1))
+        (roots_from past us) rest.0 in
+        by_dies dies rise lower
+      where
+        by_dies : (dies : List Die) → RiseWithin u.header.start u.header.end dies
+            → All (Within from (length s.debug_info)) (roots_from past us)
+            → RootsRise s from (root_of number past dies (roots_from past us))
+        by_dies [] rise lower = (lower, rest.1)
+        by_dies (die ∷ dies) rise lower =
+            let start = starts 0 u refl in
+            let first = rise.0 in
+            let fits = within-le (suc die.offset) u.header.end dies rise.1 in
+            let within = is.bounds.within in (
+              All-cons (Within from (length s.debug_info)) _ (roots_from past us)
+                  (omega (arith, start, first), omega (arith, fits, within)) lower,
+              AllPairs-cons (λ (a b : Root). a.offset < b.offset) _ (roots_from past us)
+                  (All-weaker (Within u.header.end (length s.debug_info))
+                  (λ (root : Root). die.offset < root.offset)
+                  (λ root at. omega (arith, fits, at.0)) (roots_from past us) rest.0) rest.1,
+            )
 
 pub returns-clause-roots : goal.returns-clause-roots
 returns-clause-roots c s tree h = after-tree s tree h (λ tree. RiseBelow (length s.debug_info)

@@ -1,5 +1,5 @@
 use Rattle.std.proofs.Common.{◌≡◌, ℕ, zero, suc, ◌+◌, ◌-◌, ◌≤◌, List, length, take, ap, subst}
-use Rattle.std.proofs.Common.{arith}
+use Rattle.std.proofs.Common.{arith, ◌<◌}
 use Rattle.std.specs.Prelude.{Some, Ok, All, sum_by, slice_get}
 use Rattle.std.proofs.lemmas.List.{take_all}
 use Rattle.std.proofs.lemmas.List.Folds.{fold-map}
@@ -43,7 +43,7 @@ limited : (s : Sections) (us : List CompilationUnit) (parsed : List ParsedScope)
     × (sum_by (λ j. j.items) (take n parsed) ≤ items_limit)
 limited s us parsed parsed_are zero le = (omega arith, omega arith)
 limited s us parsed parsed_are (suc n) le =
-    let within : suc n ≤ length parsed = le in
+    let within : n < length parsed = omega (arith, le) in
     let j = element parsed n within in
     let fits = fits-at s us parsed parsed_are n j.0 j.1 in
     let rest = limited s us parsed parsed_are n (omega (arith, le)) in
@@ -51,24 +51,7 @@ limited s us parsed parsed_are (suc n) le =
     let same = get_or_from_slice_get parsed n j.0 j.0 j.1 in
     let ranges = sum_by_more (λ (j : ParsedScope). length j.scope.ranges) parsed n j.0 within in
     let items = sum_by_more (λ (j : ParsedScope). j.items) parsed n j.0 within in
-    let more = ap (λ (k : ℕ). sum_by (λ (j : ParsedScope). length j.scope.ranges) (take k parsed))
-    one in
-    let count = ap (λ (k : ℕ). sum_by (λ (j : ParsedScope). j.items) (take k parsed)) one in
-    let first = ap (λ (x : ParsedScope). length x.scope.ranges) same in
-    let second = ap (λ (x : ParsedScope). x.items) same in (
-      omega (
-        arith,
-        rest.0,
-        fits.counted,
-        ranges,
-        items,
-        more,
-        count,
-        first,
-        second,
-      ),
-      omega (arith, rest.1, fits.within, items, count, second),
-    )
+    rw one (grind (arith, fits.counted), grind (arith, fits.within))
 
 pub returns-clause-count : goal.returns-clause-count
 returns-clause-count c s tree h = after-tree s tree h (λ tree.

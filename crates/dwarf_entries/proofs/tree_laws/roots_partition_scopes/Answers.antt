@@ -1,11 +1,9 @@
-use Rattle.std.proofs.Common.{◌≡◌, ◌⊎◌, inl, inr, ℕ, zero, suc, ◌+◌, ◌<◌, ◌≤◌, List, [], ◌∷◌}
-use Rattle.std.proofs.Common.{length, take, refl, ap, sym, ◌∙◌, subst, arith}
+use Rattle.std.proofs.Common.{◌≡◌, ℕ, zero, suc, ◌+◌, ◌<◌, ◌≤◌, List, [], ◌∷◌, length, take, refl}
+use Rattle.std.proofs.Common.{ap, sym, ◌∙◌, subst, arith}
 use Rattle.std.specs.Prelude.{Some, All, Contains, slice_get, count_by}
-use Rattle.std.proofs.lemmas.Bool.{cases_order}
 use Rattle.std.proofs.lemmas.List.{length-map}
 use Rattle.std.proofs.lemmas.List.Elements.{All-nil, All-cons, All-contains, All-weaker}
 use Rattle.std.proofs.lemmas.List.Sums.{sum_by-cons}
-use Rattle.std.proofs.lemmas.Option.{same_Some}
 use Rattle.dwarf_bytes.proofs.Items.EachPlaces.{each-length}
 use Rattle.dwarf_units.specs.Entries.{Die}
 use Rattle.dwarf_walk.specs.ScopeEntries.{is_scope}
@@ -90,53 +88,26 @@ of-unit : (s : Sections) (us : List CompilationUnit) (parsed : List ParsedScope)
     (j : ParsedScope) (root : Root) → AreUnitsIn s us → IsScopeAt s us parsed n j
     → IsRootOf us 0 root → root.first ≤ j.scope.number → j.scope.number < root.past
     → IsOfUnit root j.scope
-of-unit s us parsed n j root are x r from until = by_unit (cases_order x.place.unit r.unit)
-  where
-    next : first_number us (r.unit + 1) ≡ first_number us r.unit + count_by is_scope r.of.dies
-    next = first-next us r.unit r.of r.of_is
-
-    by_unit : (x.place.unit ≡ r.unit) ⊎ ((x.place.unit < r.unit) ⊎ (r.unit < x.place.unit))
-        → IsOfUnit root j.scope
-    by_unit (inl e) =
-        let same : x.site.member.unit ≡ r.of = same_Some x.site.member.unit r.of
-        (sym x.place.unit_is ∙ (ap (slice_get us) e ∙ r.of_is)) in
-        let die = x.site.member.die in
-        let last = (before-later x.place (r.unit + 1) (omega (arith, e))).1 in
-        let there = subst (λ (u : CompilationUnit). slice_get u.dies x.place.is.index ≡ Some die)
-        same x.place.is.there in
-        let offset = ap (λ (y : ParsedScope). y.scope.offset) x.is in
-        record {
-          stmt_list_is = sym (ap (λ (y : ParsedScope). y.scope.stmt_list) x.is)
-              ∙ (ap (λ (u : CompilationUnit). stmt_list_of u.dies) same ∙ sym r.stmt_list_is);
-          ends = omega (arith, x.end_is, last, next, r.first_is, r.past_is);
-          starts = let first = from-first x.place.is.index die there in
-              omega (arith, first, offset, r.offset_is);
-        }
-      where
-        from-first : (k : ℕ) (die : Die) → slice_get r.of.dies k ≡ Some die
-            → r.die.offset ≤ die.offset
-        from-first zero die there =
-            let e = ap (λ (d : Die). d.offset) (same_Some r.die die (sym r.die_is ∙ there)) in
-            omega (arith, e)
-        from-first (suc k) die there =
-            let less = rise-order r.of.header.start r.of.header.end r.of.dies 0 (suc k) r.die die
-            (dies-rise (are.each_is r.unit r.of r.of_is)) r.die_is there (omega arith) in
-            omega (arith, less)
-    by_unit (inr (inl lt)) =
-        let past = (before-later x.place r.unit lt).0 in
-        absurd (omega (arith, past, from, x.number_is, r.first_is))
-    by_unit (inr (inr gt)) =
-        let rises = first-rises us (r.unit + 1) x.place.unit (omega (arith, gt)) in
-        absurd (omega (
-          arith,
-          until,
-          x.number_is,
-          x.place.number_is,
-          rises,
-          next,
-          r.first_is,
-          r.past_is,
-        ))
+of-unit s us parsed n j root are x r from until =
+    let die = x.site.member.die in
+    let k : ℕ = x.place.is.index in
+    let next = first-next us r.unit r.of r.of_is in
+    let rises = first-rises us (r.unit + 1) x.place.unit in
+    let before = before-later x.place r.unit in
+    let e : x.place.unit ≡ r.unit =
+    grind (arith, x.number_is, x.place.number_is, r.first_is, r.past_is) in
+    let same : x.site.member.unit ≡ r.of = grind (arith, x.place.unit_is, r.of_is) in
+    let last = (before-later x.place (r.unit + 1) (omega (arith, e))).1 in
+    let there = rw same at x.place.is.there in
+    let rise = rise-order r.of.header.start r.of.header.end r.of.dies 0 k r.die die
+    (dies-rise (are.each_is r.unit r.of r.of_is)) r.die_is there in
+    let offset = ap (λ (y : ParsedScope). y.scope.offset) x.is in
+    record {
+      stmt_list_is = sym (ap (λ (y : ParsedScope). y.scope.stmt_list) x.is)
+          ∙ (ap (λ (u : CompilationUnit). stmt_list_of u.dies) same ∙ sym r.stmt_list_is);
+      ends = omega (arith, x.end_is, last, next, r.first_is, r.past_is);
+      starts = grind (arith, r.offset_is, r.die_is);
+    }
 
 pub returns-clause-scopes : goal.returns-clause-scopes
 returns-clause-scopes c s tree root scope h = after-tree s tree h (λ tree. Contains tree.roots root
