@@ -5,6 +5,7 @@ use Rattle.std.specs.List.Sorted.{IsStrictlyIncreasing}
 use Rattle.dwarf_bytes.specs.declared.fault.Section.{Section}
 use Rattle.dwarf_bytes.specs.declared.fault.Section.TheVariants as names
 use Rattle.dwarf_bytes.specs.Items.{Lists}
+use Rattle.dwarf_bytes.specs.Numbers.{IsEncodedAt, IsText}
 use Rattle.dwarf_forms.specs.Declarations.{Declaration}
 use Rattle.dwarf_units.specs.declared.unit_headers.UnitHeader.{UnitHeader}
 use Rattle.dwarf_units.specs.Units.{unit_at}
@@ -55,14 +56,10 @@ section_bytes s names.DebugStrOffsets = s.debug_str_offsets
 section_bytes s names.DebugAddr = s.debug_addr
 section_bytes s names.DebugRnglists = s.debug_rnglists
 
--- A NUL-terminated string is at an offset. It ends before the first NUL from there on.
-abbrev pub IsTextAt : List ℕ → ℕ → Type 0
-IsTextAt bytes offset =
-    (len : ℕ) × (slice_get bytes (offset + len) ≡ Some 0)
-    × All (λ byte. byte ≢ 0) (take len (drop offset bytes))
-
+-- A NUL-terminated string is at an offset of a section.
 abbrev pub IsTextOf : Sections → TextOffset → Type 0
-IsTextOf s text = IsTextAt (section_bytes s text.section) text.offset
+IsTextOf s text = (string : List ℕ) × (next : ℕ)
+    × IsEncodedAt IsText (section_bytes s text.section) text.offset string next
 
 -- Units are contiguous in .debug_info, from an offset up to its end, as their headers describe.
 abbrev pub AreContiguous : List ℕ → ℕ → List UnitHeader → Type 0

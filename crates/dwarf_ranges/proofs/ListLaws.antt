@@ -14,8 +14,7 @@ use Rattle.dwarf_ranges.specs.declared.range.Range.{Range}
 use Rattle.dwarf_ranges.specs.declared.bases.Bases.{Bases}
 use Rattle.dwarf_ranges.specs.declared.range_entries.RangeListEntry.{RangeListEntry}
 use Rattle.dwarf_walk.specs.Sections.{Sections}
-use Rattle.dwarf_ranges.specs.Ranges.{AddsRanges}
-use Rattle.dwarf_ranges.specs.Ranges.{next_base, base_after, ranges_in, list_entry_of}
+use Rattle.dwarf_ranges.specs.Ranges.{AddsRanges, next_base, base_after, ranges_in, list_entry_of}
 use Rattle.dwarf_ranges.specs.Ranges.{list_entry_at, list_at}
 use Rattle.dwarf_ranges.proofs.BaseLaws.{fixed-outside}
 use Rattle.dwarf_ranges.proofs.EntryLaws.{list_entry_at-advances}

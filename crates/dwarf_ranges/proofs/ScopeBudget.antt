@@ -21,10 +21,9 @@ use Rattle.dwarf_walk.specs.Sections.{Sections}
 use Rattle.dwarf_ranges.specs.Bases.{address_of}
 use Rattle.dwarf_ranges.specs.Ranges.{Covering, ranges_in, base_after, list_entry_at, list_place}
 use Rattle.dwarf_ranges.specs.Ranges.{list_at, high_of, pair_range, pair_at, covers_by, covers_of}
-use Rattle.dwarf_ranges.specs.Ranges.{IsValidRange}
+use Rattle.dwarf_ranges.specs.Ranges.{IsValidRange, AddsRanges}
 use Rattle.dwarf_ranges.proofs.EntryLaws.{AllHold, MayHold, none-holds, live-holds}
 use Rattle.dwarf_ranges.proofs.EntryLaws.{list_entry-facts}
-use Rattle.dwarf_ranges.specs.Ranges.{AddsRanges}
 
 pub record Fits (budget : ℕ) (covering : Covering) : Type 0 where
   pub hold : AllHold covering.ranges

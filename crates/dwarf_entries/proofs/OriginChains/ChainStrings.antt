@@ -2,7 +2,7 @@
 -- names of reference targets.
 use Rattle.std.proofs.Common.{◌≡◌, ℕ, List, refl, ap, sym, suc, ◌∷◌, Bool, true, false, ◌==◌, ◌&&◌}
 use Rattle.std.proofs.Common.{◌∙◌, arith}
-use Rattle.std.specs.Prelude.{Option, Result, Ok, Err, Some, None, option_map, if◌then◌else◌}
+use Rattle.std.specs.Prelude.{Option, Result, Ok, Err, Some, None, if◌then◌else◌}
 use Rattle.dwarf_bytes.specs.declared.constants.TheConstants.{DW_AT_LINKAGE_NAME, DW_AT_NAME}
 use Rattle.dwarf_bytes.specs.declared.fault.Cause.{Cause}
 use Rattle.dwarf_bytes.specs.Bind.{◌>>=◌}
@@ -10,9 +10,8 @@ use Rattle.dwarf_entries.specs.declared.text_offset.TextOffset.{TextOffset}
 use Rattle.dwarf_entries.specs.declared.origin_chains.EntryNames.{EntryNames}
 use Rattle.dwarf_walk.specs.Sections.{Sections}
 use Rattle.dwarf_entries.specs.Units.{CompilationUnit}
-use Rattle.dwarf_ranges.specs.Bases.{optional}
-use Rattle.dwarf_entries.specs.Names.{Member, chain_within, name_on, target_of, first_on, text_of}
-use Rattle.dwarf_entries.specs.Names.{names_of, references_limit}
+use Rattle.dwarf_entries.specs.Names.{Member, chain_within, name_on, target_of, names_of}
+use Rattle.dwarf_entries.specs.Names.{references_limit}
 use Rattle.dwarf_entries.specs.Private.NameCache.{CachedNames, slot_of, slot_at, second_names}
 use Rattle.dwarf_entries.specs.Private.NameCache.{target_names, IsCacheOf}
 use Rattle.dwarf_entries.specs.Private.Members.{IsMember, LeadsTo, member_in}
@@ -21,7 +20,7 @@ use Rattle.dwarf_units.specs.Entries.{attribute}
 use Rattle.dwarf_walk.specs.declared.unit_entries.NamedEntry.{NamedEntry}
 use Rattle.dwarf_entries.specs.declared.name_cache.NameCache.{NameCache}
 use Rattle.dwarf_entries.specs.declared.references.UnitPlace.{UnitPlace}
-use Rattle.dwarf_walk.specs.References.{or_else, next_of}
+use Rattle.dwarf_walk.specs.References.{next_of}
 use Rattle.dwarf_entries.specs.Private.Narrow.{are_narrow}
 use Rattle.dwarf_entries.proofs.OriginChains.ChainLaws.{in_front, stepped}
 use Rattle.dwarf_bytes.specs.declared.fault.Cause.TheVariants as causes
@@ -69,10 +68,7 @@ on_path s path = both_names (name_on DW_AT_NAME s path) (name_on DW_AT_LINKAGE_N
 
 less : (s : Sections) (m : Member) (name : ℕ) → attribute m.die name ≡ None → (path : List Member)
     → name_on name s (m ∷ path) ≡ name_on name s path
-less s m name none path =
-    ap (λ (o : Option AttributeValue). optional
-    (λ (at : CompilationUnit × AttributeValue). text_of s at.0.bases.str_offsets at.1)
-    (or_else (option_map (λ value. (m.unit, value)) o) (first_on name path))) none
+less s m name none path = rw none refl
 
 pub names-packed : (s : Sections) (units : List CompilationUnit) (m : Member)
     (reference : AttributeValue) → next_of m.die ≡ Some reference
@@ -80,21 +76,13 @@ pub names-packed : (s : Sections) (units : List CompilationUnit) (m : Member)
     → names_of s units m ≡ target_names s units m.unit reference
 names-packed s units m reference next no_name no_linkage_name =
     let remaining : references_limit ≡ suc 15 = omega arith in
-    ap (λ (p : Result (List Member) Cause). p >>= λ path. on_path s path)
-    (ap (λ (k : ℕ). chain_within k units m) remaining ∙ stepped units 15 m reference next)
-    ∙ by_target (target_of units m.unit reference)
+    rw (remaining, stepped units 15 m reference next) (by_target (target_of units m.unit reference))
   where
-    behind : (path : List Member) → on_path s (m ∷ path) ≡ on_path s path
-    behind path =
-        ap (λ (r : Result _ Cause). both_names r (name_on DW_AT_LINKAGE_NAME s (m ∷ path)))
-        (less s m DW_AT_NAME no_name path)
-        ∙ ap (λ (r : Result _ Cause). both_names (name_on DW_AT_NAME s path) r)
-        (less s m DW_AT_LINKAGE_NAME no_linkage_name path)
-
     by_path : (p : Result (List Member) Cause) → (in_front m p >>= λ path. on_path s path)
         ≡ (p >>= λ path. on_path s path)
     by_path (Err e) = refl
-    by_path (Ok path) = behind path
+    by_path (Ok path) =
+        rw (less s m DW_AT_NAME no_name path, less s m DW_AT_LINKAGE_NAME no_linkage_name path) refl
 
     by_target : (t : Result Member Cause)
         → ((t >>= λ n. in_front m (chain_within 15 units n)) >>= λ path. on_path s path)
@@ -124,11 +112,9 @@ pub packed-cache : (s : Sections) (units : List CompilationUnit) (u : Compilatio
     → LeadsTo units (Some place) (target_of units u reference) → target_names s units u reference
     ≡ Ok names
 packed-cache s units u reference place names cache knew is leads =
-    let at = knew (slot_of place) (cached_names place names) is in ap (names_from s units)
-    (leads ∙ at.1)
-    ∙ at.2
+    let at = knew (slot_of place) (cached_names place names) is in rw (leads, at.1) at.2
 
 pub packed-nowhere : (s : Sections) (units : List CompilationUnit) (u : CompilationUnit)
     (reference : AttributeValue) → target_of units u reference ≡ Err causes.Reference
     → target_names s units u reference ≡ Err causes.Reference
-packed-nowhere s units u reference lost = ap (names_from s units) lost
+packed-nowhere s units u reference lost = rw lost refl

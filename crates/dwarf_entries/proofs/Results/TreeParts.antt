@@ -1,10 +1,9 @@
 -- The units and scopes that a result was read from.
-use Rattle.std.proofs.Common.{◌≡◌, ℕ, ◌+◌, ◌<◌, List, [], length, take, map, get_or, ap, sym, ◌∙◌}
-use Rattle.std.proofs.Common.{subst, arith, length-take}
+use Rattle.std.proofs.Common.{◌≡◌, ℕ, ◌+◌, List, [], length, take, map, get_or, ap, sym, ◌∙◌, subst}
+use Rattle.std.proofs.Common.{arith, length-take, refl}
 use Rattle.std.specs.Prelude.{Result, Ok, Err, Some, All, Contains, slice_get}
-use Rattle.std.proofs.lemmas.List.{get_or-map, length-map}
 use Rattle.std.proofs.lemmas.List.Elements.{All-map}
-use Rattle.std.proofs.lemmas.Option.{slice_get-get_or, slice_get_within, get_or_from_slice_get}
+use Rattle.std.proofs.lemmas.Option.{slice_get-get_or, slice_get_within}
 use Rattle.dwarf_bytes.specs.declared.fault.Cause.{Cause}
 use Rattle.dwarf_bytes.specs.declared.fault.Section.TheVariants as names
 use Rattle.dwarf_bytes.specs.Bind.{◌>>=◌}
@@ -19,10 +18,10 @@ use Rattle.dwarf_entries.specs.Units.{CompilationUnit, units_read}
 use Rattle.dwarf_entries.specs.Names.{names_of}
 use Rattle.dwarf_ranges.specs.Ranges.{Covering}
 use Rattle.dwarf_entries.specs.Scopes.{Tree, Scope, ScopeSite, ParsedScope, scope_at, tree_of}
-use Rattle.dwarf_entries.specs.Scopes.{scope_of_site, covers_there, roots_from}
+use Rattle.dwarf_entries.specs.Scopes.{scope_of_site, covers_there, roots_from, stmt_list_of}
 use Rattle.dwarf_entries.specs.Private.Passes.{parse_scope, all_sites, all_scopes}
 use Rattle.dwarf_entries.proofs.ScopePasses.SiteLaws.{IsSiteAt, site-at}
-use Rattle.dwarf_entries.proofs.UnitPasses.PassLaws.{element, each-at}
+use Rattle.dwarf_entries.proofs.UnitPasses.PassLaws.{each-at, from-map}
 
 -- ---- the passes of a read
 
@@ -55,46 +54,38 @@ without-offset : {X : Type 0} (at : ℕ) (r : Result X Cause) (x : X) → with_o
 without-offset at (Ok y) x h = cc
 without-offset at (Err e) x h = cc
 
-pub record IsScopeAt (s : Sections) (us : List CompilationUnit) (parsed : List ParsedScope) (n : ℕ)
+-- What a scope was parsed from: its site, its names and its ranges.
+pub record IsParsedAt (s : Sections) (us : List CompilationUnit) (parsed : List ParsedScope) (n : ℕ)
     (j : ParsedScope) : Type 0 where
   pub site : ScopeSite
   pub there : slice_get (all_sites us) n ≡ Some site
-  pub place : IsSiteAt us n site
-  pub found : EntryNames
-  pub found_are : names_of s us site.member ≡ Ok found
+  pub names : EntryNames
+  pub names_are : names_of s us site.member ≡ Ok names
   pub covering : Covering
   pub covering_is : covers_there s (take n parsed) site ≡ Ok covering
-  pub is : scope_of_site (take n parsed) site found covering ≡ j
-  pub number_is : j.scope.number ≡ n
-  pub end_is : j.scope.«end» ≡ n + 1 + site.inside
+  pub is : scope_of_site (take n parsed) site names covering ≡ j
 
-pub scope-at : (s : Sections) (us : List CompilationUnit) (parsed : List ParsedScope)
+pub parsed-at : (s : Sections) (us : List CompilationUnit) (parsed : List ParsedScope)
     → all_scopes s us ≡ Ok parsed → (n : ℕ) (j : ParsedScope) → slice_get parsed n ≡ Some j
-    → IsScopeAt s us parsed n j
-scope-at s us parsed h n j there =
+    → IsParsedAt s us parsed n j
+parsed-at s us parsed h n j there =
     let of = each-at (parse_scope s us) [] (all_sites us) parsed h n j there in
     let p = of.0 in
     let before : List ParsedScope = take n parsed in
-    let P : Type 0 = IsScopeAt s us parsed n j in
-    let within = slice_get_within parsed n j there in
-    let size : length before ≡ n = omega (arith, length-take n parsed, within) in
+    let P : Type 0 = IsParsedAt s us parsed n j in
     after-bind (names_of s us p.member)
     (λ found. covers_there s before p >>= λ covering. Ok (scope_of_site before p found covering)) j
     (without-offset p.member.die.offset (scope_at s us before p) j of.2) P (λ found found_are h1.
     after-bind (covers_there s before p) (λ covering. Ok (scope_of_site before p found covering)) j
     h1 P (λ covering covering_is last.
-    let is = same-ok (scope_of_site before p found covering) j last in
     record {
       site = p;
       there = of.1;
-      place = site-at us n p of.1;
-      found = found;
-      found_are = found_are;
+      names = found;
+      names_are = found_are;
       covering = covering;
       covering_is = covering_is;
-      is = is;
-      number_is = sym (ap (λ (x : ParsedScope). x.scope.number) is) ∙ size;
-      end_is = let end = ap (λ (x : ParsedScope). x.scope.«end») is in omega (arith, end, size);
+      is = same-ok (scope_of_site before p found covering) j last;
     }))
 
 -- ---- the list of scopes
@@ -108,27 +99,38 @@ pub all-are : (P : Scope → Type 0) (parsed : List ParsedScope)
 all-are P parsed each_is = All-map P (λ (j : ParsedScope). j.scope) parsed
     (λ k d lt. each_is k (get_or parsed k d) (slice_get-get_or parsed k d lt))
 
--- A scope of the list has a number.
-pub contained : (parsed : List ParsedScope) (scope : Scope) → Contains (scopes_in parsed) scope
-    → (n : ℕ) × (j : ParsedScope) × (slice_get parsed n ≡ Some j) × (j.scope ≡ scope)
-contained parsed scope (k, lt, is) =
-    let size = length-map parsed (λ (j : ParsedScope). j.scope) in
-    let within : k < length parsed = omega (arith, size, lt) in
-    let j = element parsed k within in (
-      k,
-      j.0,
-      j.1,
-      ap (λ (x : ParsedScope). x.scope) (sym (get_or_from_slice_get parsed k j.0 j.0 j.1))
-          ∙ (sym (get_or-map (λ (x : ParsedScope). x.scope) parsed k j.0 scope within) ∙ is),
-    )
+-- The site of the scope with a number, and the data that the scope has from it.
+pub record IsScopeAt (us : List CompilationUnit) (n : ℕ) (scope : Scope) : Type 0 where
+  pub site : ScopeSite
+  pub there : slice_get (all_sites us) n ≡ Some site
+  pub place : IsSiteAt us n site
+  pub kind_is : scope.kind ≡ site.kind
+  pub offset_is : scope.offset ≡ site.member.die.offset
+  pub number_is : scope.number ≡ n
+  pub end_is : scope.«end» ≡ n + 1 + site.inside
+  pub stmt_list_is : scope.stmt_list ≡ stmt_list_of site.member.unit.dies
 
-pub contains : (parsed : List ParsedScope) (n : ℕ) (j : ParsedScope) → slice_get parsed n ≡ Some j
-    → Contains (scopes_in parsed) j.scope
-contains parsed n j there =
-    let size = length-map parsed (λ (j : ParsedScope). j.scope) in
-    let within = slice_get_within parsed n j there in (
-      n,
-      omega (arith, size, within),
-      get_or-map (λ (x : ParsedScope). x.scope) parsed n j j.scope within
-          ∙ ap (λ (x : ParsedScope). x.scope) (get_or_from_slice_get parsed n j j there),
-    )
+pub scope-at : (s : Sections) (us : List CompilationUnit) (parsed : List ParsedScope)
+    → all_scopes s us ≡ Ok parsed → (n : ℕ) (scope : Scope)
+    → slice_get (scopes_in parsed) n ≡ Some scope → IsScopeAt us n scope
+scope-at s us parsed h n scope there =
+    let j = from-map (λ (j : ParsedScope). j.scope) parsed n scope there in
+    let x = parsed-at s us parsed h n j.0 j.1 in
+    let within = slice_get_within parsed n j.0 j.1 in
+    let size : length (take n parsed) ≡ n = omega (arith, length-take n parsed, within) in
+    subst (IsScopeAt us n) (ap (λ (y : ParsedScope). y.scope) x.is ∙ j.2) (record {
+      site = x.site;
+      there = x.there;
+      place = site-at us n x.site x.there;
+      kind_is = refl;
+      offset_is = refl;
+      number_is = size;
+      end_is = omega (arith, size);
+      stmt_list_is = refl;
+    })
+
+-- A scope of the list has an index.
+pub contained : (scopes : List Scope) (scope : Scope) → Contains scopes scope
+    → (n : ℕ) × (slice_get scopes n ≡ Some scope)
+contained scopes scope (k, lt, is) =
+    (k, slice_get-get_or scopes k scope lt ∙ ap (λ (x : Scope). Some x) is)

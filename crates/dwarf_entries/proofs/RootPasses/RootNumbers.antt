@@ -7,7 +7,6 @@ use Rattle.std.specs.List.Sorted.{IsPartitionPoint}
 use Rattle.std.proofs.lemmas.Bool.{lt-ltb, le-ltb}
 use Rattle.std.proofs.lemmas.List.Folds.{find_at}
 use Rattle.std.proofs.lemmas.List.Sums.{position_or_len_is, sum_by-cons}
-use Rattle.std.proofs.lemmas.Option.{same_Some}
 use Rattle.dwarf_entries.specs.declared.scope.Root.{Root}
 use Rattle.dwarf_units.specs.Entries.{Die}
 use Rattle.dwarf_entries.specs.Units.{CompilationUnit}
@@ -33,17 +32,13 @@ by_partition roots number index within parts =
 by_later_unit : (first past : ℕ) (dies : List Die) (roots : List Root) (number : ℕ) → past ≤ number
     → stmt_list_by_number (root_of first past dies roots) number
     ≡ stmt_list_by_number roots number
-by_later_unit first past [] roots number before = refl
-by_later_unit first past (die ∷ dies) roots number before = rw (le-ltb number past before) refl
+by_later_unit first past dies roots number before = grind (arith, le-ltb number past)
 
 -- A unit with scopes has a root, which has its stmt_list.
 by_unit : (first past : ℕ) (dies : List Die) (roots : List Root) (number : ℕ) → first ≤ number
     → number < past → past ≡ first + count_by is_scope dies
     → stmt_list_by_number (root_of first past dies roots) number ≡ stmt_list_of dies
-by_unit first past [] roots number after inside past_is =
-    absurd (omega (arith, after, inside, past_is))
-by_unit first past (die ∷ dies) roots number after inside past_is =
-    rw (lt-ltb number past inside) refl
+by_unit first past dies roots number after inside past_is = grind (arith, lt-ltb number past)
 
 -- ---- the scopes of the units before
 
@@ -53,13 +48,11 @@ by_number_from : (first : ℕ) (us : List CompilationUnit) (u : CompilationUnit)
     → stmt_list_by_number (roots_from first us) number ≡ stmt_list_of u.dies
 by_number_from first [] u index number found after inside = cc
 by_number_from first (v ∷ vs) u zero number found after inside =
-    let same : v ≡ u = same_Some v u found in
+    let same : u ≡ v = grind arith in
     let past : ℕ = first + count_by is_scope v.dies in
-    let count : count_by is_scope v.dies ≡ count_by is_scope u.dies =
-    ap (λ (w : CompilationUnit). count_by is_scope w.dies) same in
-    by_unit first past v.dies (roots_from past vs) number (omega (arith, after))
-    (omega (arith, inside, count)) refl
-    ∙ ap (λ (w : CompilationUnit). stmt_list_of w.dies) same
+    let within = rw same at inside in
+    rw same (by_unit first past v.dies (roots_from past vs) number (omega (arith, after))
+    (omega (arith, within)) refl)
 by_number_from first (v ∷ vs) u (suc index) number found after inside =
     let past : ℕ = first + count_by is_scope v.dies in
     let count = sum_by-cons (λ (w : CompilationUnit). count_by is_scope w.dies) v (take index vs) in

@@ -1,11 +1,11 @@
 -- The iterations of the loop that returns the roots.
 use Rattle.std.proofs.Common.{◌≡◌, ℕ, zero, suc, ◌+◌, ◌<◌, ◌≤◌, List, [], ◌∷◌, ◌++◌, length, take}
-use Rattle.std.proofs.Common.{get_or, refl, ap, sym, ◌∙◌, subst, arith, append_assoc, append-nil}
-use Rattle.std.specs.Prelude.{Option, Some, None, All, count_by, sum_by}
+use Rattle.std.proofs.Common.{get_or, refl, ap, sym, ◌∙◌, arith, append_assoc, append-nil, subst}
+use Rattle.std.specs.Prelude.{Option, Some, None, All, count_by}
 use Rattle.std.specs.List.Sorted.{IsNonDecreasingBy}
 use Rattle.std.proofs.lemmas.List.Elements.{All-nil, All-cons, All-weaker}
 use Rattle.std.proofs.lemmas.List.{take_more}
-use Rattle.std.proofs.lemmas.List.Sums.{sum_by-cons, sum_by-append, sum_by-take-le}
+use Rattle.std.proofs.lemmas.List.Sums.{sum_by-cons, sum_by-take-le, sum_by_more}
 use Rattle.std.proofs.lemmas.Option.{slice_get_within, get_or_from_slice_get}
 use Rattle.dwarf_units.specs.Entries.{Die}
 use Rattle.dwarf_walk.specs.declared.unit_entries.RootEntry.{RootEntry}
@@ -47,12 +47,12 @@ roots-push number (v ∷ us) u first past first_is past_is =
     let next : ℕ = number + count_by is_scope v.dies in
     let root : List Root = root_list number next (root_in v.dies) in
     let sum = sum_by-cons (λ (w : CompilationUnit). count_by is_scope w.dies) v us in
-    root_of-is number next v.dies (roots_from next (us ++ u ∷ []))
-    ∙ (ap (λ (rs : List Root). root ++ rs) (roots-push next us u first past
-    (omega (arith, first_is, sum)) past_is)
-    ∙ (sym (append_assoc root (roots_from next us) (root_list first past (root_in u.dies)))
-    ∙ ap (λ (rs : List Root). rs ++ root_list first past (root_in u.dies))
-    (sym (root_of-is number next v.dies (roots_from next us)))))
+    rw (
+      root_of-is number next v.dies (roots_from next (us ++ u ∷ [])),
+      roots-push next us u first past (omega (arith, first_is, sum)) past_is,
+      root_of-is number next v.dies (roots_from next us),
+      append_assoc root (roots_from next us) (root_list first past (root_in u.dies)),
+    ) refl
 
 module _ {us : List CompilationUnit} {index : ℕ} {unit : UnitEntries}
     (here : StoredFor us index unit) (first past : ℕ) (first_is : first ≡ first_number us index)
@@ -75,20 +75,21 @@ module _ {us : List CompilationUnit} {index : ℕ} {unit : UnitEntries}
   roots-next found roots found_is so_far =
       let count = sites-stored unit here.unit here.stored in
       let sites = sites-count here.unit here.unit.dies in
-      let taken = take_more us index here.unit (slice_get_within us index here.unit here.is)
-      ∙ ap (λ (u : CompilationUnit). take index us ++ u ∷ [])
-      (get_or_from_slice_get us index here.unit here.unit here.is) in
       let root : found ≡ root_in here.unit.dies =
       sym found_is ∙ ap (λ (k : StoredUnit). k.root) here.stored in
-      rw (so_far, root) (sym (ap (roots_from 0) taken ∙ roots-push 0 (take index us) here.unit first
-      past (omega (arith, first_is)) (omega (arith, past_is, count, sites, unit.scopes.ok.0))))
+      rw (
+        so_far,
+        root,
+        take_more us index here.unit (slice_get_within us index here.unit here.is),
+        get_or_from_slice_get us index here.unit here.unit here.is,
+      ) (sym (roots-push 0 (take index us) here.unit first past (omega (arith, first_is))
+      (omega (arith, past_is, count, sites, unit.scopes.ok.0))))
 
 -- The scopes of the roots end in order.
 rising-cons : (root : Root) (roots : List Root) → All (λ r. root.past ≤ r.past) roots
     → IsNonDecreasingBy (λ r. r.past) roots → IsNonDecreasingBy (λ r. r.past) (root ∷ roots)
-rising-cons root roots after rise i zero d le lt =
-    let at : i ≡ zero = omega arith in
-    let same = ap (λ (k : ℕ). (get_or (root ∷ roots) k d).past) at in omega (arith, same)
+rising-cons root roots after rise zero zero d le lt = omega arith
+rising-cons root roots after rise (suc i) zero d le lt = absurd (omega (arith, le))
 rising-cons root roots after rise zero (suc j) d le lt = after j d (omega (arith, lt))
 rising-cons root roots after rise (suc i) (suc j) d le lt =
     rise i j d (omega (arith, le)) (omega (arith, lt))
@@ -114,17 +115,21 @@ roots-part number (unit ∷ units) =
     let sum = sum_by-cons (λ (u : CompilationUnit). count_by is_scope u.dies) unit units in
     let end : past + number_of_scopes units ≡ number + number_of_scopes (unit ∷ units) =
     omega (arith, sum) in
-    by_root past unit.dies refl (subst (λ (n : ℕ). ArePartsFrom past n (roots_from past units)) end
-    (roots-part past units))
+    let rest = roots-part past units in
+    by_root unit.dies refl (rw end at rest)
   where
-    by_root : (past : ℕ) (dies : List Die) → number + count_by is_scope dies ≡ past
-        → ArePartsFrom past (number + number_of_scopes (unit ∷ units)) (roots_from past units)
-        → ArePartsFrom number (number + number_of_scopes (unit ∷ units))
-        (root_of number past dies (roots_from past units))
-    by_root past [] is rest = let none : past ≡ number = omega (arith, is) in
+    by_root : (dies : List Die) → unit.dies ≡ dies
+        → ArePartsFrom (number + count_by is_scope unit.dies)
+        (number + number_of_scopes (unit ∷ units))
+        (roots_from (number + count_by is_scope unit.dies) units)
+        → ArePartsFrom number (number + number_of_scopes (unit ∷ units)) (root_of number
+        (number + count_by is_scope unit.dies) dies (roots_from (number + count_by is_scope
+        unit.dies) units))
+    by_root [] is rest = let none : number + count_by is_scope unit.dies ≡ number =
+        rw is (omega arith) in
         subst (λ (n : ℕ). ArePartsFrom n (number + number_of_scopes (unit ∷ units))
-        (roots_from past units)) none rest
-    by_root past (root ∷ dies) is rest = (refl, omega (arith, is), rest)
+        (roots_from (number + count_by is_scope unit.dies) units)) none rest
+    by_root (root ∷ dies) is rest = (refl, omega arith, rest)
 
 pub ends-rise : (us : List CompilationUnit) (roots : List Root) → roots ≡ roots_from 0 us
     → IsNonDecreasingBy (λ r. r.past) roots
@@ -136,10 +141,5 @@ pub count-within : (units : List UnitEntries) (index : ℕ) (unit : UnitEntries)
     → first ≡ scope_count (take index units) → index < length units → unit ≡ get_or units index unit
     → first + length unit.scopes.items ≡ scope_count (take (index + 1) units)
 count-within units index unit first first_is within is =
-    let f : UnitEntries → ℕ = λ unit. length unit.scopes.items in
-    let taken : take (index + 1) units ≡ take index units ++ unit ∷ [] =
-    take_more units index unit within ∙ ap (λ (u : UnitEntries). take index units ++ u ∷ [])
-    (sym is) in
-    let sum : sum_by f (take index units ++ unit ∷ []) ≡ sum_by f (take index units) + f unit =
-    sum_by-append f (take index units) (unit ∷ []) ∙ omega arith in
-    omega (arith, first_is, sum, ap (λ (us : List UnitEntries). sum_by f us) taken)
+    let sum = sum_by_more (λ (u : UnitEntries). length u.scopes.items) units index unit within in
+    rw (sum, ← is, first_is) refl

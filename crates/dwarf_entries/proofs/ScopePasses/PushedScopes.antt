@@ -1,20 +1,20 @@
 -- One more scope after those that share lists.
-use Rattle.std.proofs.Common.{◌≡◌, ℕ, ◌+◌, ◌-◌, ◌≤◌, List, [], ◌∷◌, ◌++◌, length, take, drop, refl}
-use Rattle.std.proofs.Common.{ap, sym, ◌∙◌, arith, append-nil, length-append}
+use Rattle.std.proofs.Common.{◌≡◌, ℕ, ◌+◌, ◌-◌, ◌≤◌, List, [], ◌∷◌, ◌++◌, length, take, drop, ap}
+use Rattle.std.proofs.Common.{sym, ◌∙◌, arith, length-append, refl}
 use Rattle.std.specs.Prelude.{None}
 use Rattle.std.proofs.lemmas.List.{take-append-le, drop-append-le, get_or_append_left, length-drop}
+use Rattle.std.proofs.lemmas.List.{take_all}
 use Rattle.std.proofs.lemmas.Option.{unwrap_or-slice_get}
-use Rattle.std.proofs.Math.Seq.{drop-append_seam, take-append_seam}
+use Rattle.std.proofs.Math.Seq.{drop-append_seam}
 use Rattle.dwarf_entries.specs.declared.calls.CallSite.{CallSite}
 use Rattle.dwarf_entries.specs.declared.calls.Calls.{Calls}
-use Rattle.dwarf_entries.specs.declared.calls.Calls.TheVariants as calls
 use Rattle.dwarf_ranges.specs.declared.range.Range.{Range}
 use Rattle.dwarf_entries.specs.declared.scope.Root.{Root}
 use Rattle.dwarf_entries.specs.declared.scope.Scope.{Scope as StoredScope}
 use Rattle.dwarf_entries.specs.declared.scope.ScopeFacts.{ScopeFacts}
 use Rattle.dwarf_entries.specs.declared.scope_lists.ScopeLists.{ScopeLists}
-use Rattle.dwarf_entries.specs.Scopes.{Scope, call_site, scope_by_parts, scope_of, scopes_from}
-use Rattle.dwarf_entries.specs.Scopes.{scopes_of, wide_index}
+use Rattle.dwarf_entries.specs.Scopes.{Scope, call_site, scope_of, scopes_from, scopes_of}
+use Rattle.dwarf_entries.specs.Scopes.{wide_index}
 use Rattle.dwarf_entries.specs.Private.Shared.{IsInList, AreConsecutive, facts_of, IsPushed}
 
 -- ---- one more scope
@@ -30,34 +30,28 @@ stretch-stays : (ranges new : List Range) (first end : ℕ) → first ≤ end �
     → take (end - first) (drop first (ranges ++ new)) ≡ take (end - first) (drop first ranges)
 stretch-stays ranges new first end rises within =
     let left : length (drop first ranges) ≡ length ranges - first = length-drop first ranges in
-    ap (λ (rs : List Range). take (end - first) rs)
-    (drop-append-le first ranges new (omega (arith, rises, within)))
-    ∙ take-append-le (end - first) (drop first ranges) new (omega (arith, left, rises, within))
+    let fits : end - first ≤ length (drop first ranges) = omega (arith, left, rises, within) in
+    rw (drop-append-le first ranges new (omega (arith, rises, within)))
+    (take-append-le (end - first) (drop first ranges) new fits)
 
 -- The appended elements are the slice after it.
 stretch-new : (ranges new : List Range) (first end : ℕ) → first ≡ length ranges
     → end ≡ length ranges + length new → take (end - first) (drop first (ranges ++ new)) ≡ new
 stretch-new ranges new first end first_is end_is =
     let size : end - first ≡ length new = omega (arith, first_is, end_is) in
-    ap (λ (k : ℕ). take k (drop first (ranges ++ new))) size
-    ∙ (ap (λ (k : ℕ). take (length new) (drop k (ranges ++ new))) first_is
-    ∙ (ap (λ (rs : List Range). take (length new) rs) (drop-append_seam ranges new)
-    ∙ (ap (λ (rs : List Range). take (length new) rs) (sym (append-nil new))
-    ∙ take-append_seam new [])))
+    rw (size, first_is, drop-append_seam ranges new) (take_all (length new) new (omega arith))
 
 -- A call site does not change when the list of wide ones grows.
 call-stays : (wide more : List CallSite) (c : Calls) (file line : ℕ)
     → IsInList (length wide) c file line
     → call_site (wide ++ more) c file line ≡ call_site wide c file line
-call-stays wide more calls.Missing file line in_list = refl
-call-stays wide more calls.File file line in_list = refl
-call-stays wide more calls.Line file line in_list = refl
-call-stays wide more calls.Both file line in_list = refl
-call-stays wide more calls.Wide file line in_list =
+call-stays wide more c file line in_list =
     let d : CallSite = record { file = None; line = None } in
     let index : ℕ = wide_index file line in
-    unwrap_or-slice_get (wide ++ more) index d
-    ∙ (get_or_append_left wide more d index in_list ∙ sym (unwrap_or-slice_get wide index d))
+    let stays = get_or_append_left wide more d index in
+    let one = unwrap_or-slice_get (wide ++ more) index d in
+    let two = unwrap_or-slice_get wide index d in
+    grind arith
 
 pub scopes-push : (roots : List Root) (wide more : List CallSite) (ranges new : List Range)
     (first : ℕ) (ss : List StoredScope) (s : StoredScope) → AreConsecutive (length wide) first
@@ -66,30 +60,18 @@ pub scopes-push : (roots : List Root) (wide more : List CallSite) (ranges new : 
     → scopes_from roots (wide ++ more) (ranges ++ new) first (ss ++ s ∷ [])
     ≡ scopes_from roots wide ranges first ss ++ scope_of roots (wide ++ more) new s ∷ []
 scopes-push roots wide more ranges new first [] s in_list ends =
-    ap (λ (rs : List Range). scope_of roots (wide ++ more) rs s ∷ [])
-    (stretch-new ranges new first s.ranges_end in_list ends)
+    rw (stretch-new ranges new first s.ranges_end in_list ends) refl
 scopes-push roots wide more ranges new first (t ∷ ts) s in_list ends =
     let past = in_list-within (length wide) t.ranges_end (length ranges) ts in_list.2 in
-    let cut : take (t.ranges_end - first) (drop first (ranges ++ new)) ≡ take (t.ranges_end - first)
-    (drop first ranges) = stretch-stays ranges new first t.ranges_end in_list.0 past in
-    let here : scope_of roots (wide ++ more)
-    (take (t.ranges_end - first) (drop first (ranges ++ new))) t
-    ≡ scope_of roots wide (take (t.ranges_end - first) (drop first ranges)) t =
-    ap (λ (rs : List Range). scope_of roots (wide ++ more) rs t) cut
-    ∙ ap (λ (c : CallSite). scope_by_parts roots c (take (t.ranges_end - first) (drop first ranges))
-    t) (call-stays wide more t.calls t.call_file t.call_line in_list.1) in
-    ap (λ (x : Scope). x ∷ scopes_from roots (wide ++ more) (ranges ++ new) t.ranges_end
-    (ts ++ s ∷ [])) here
-    ∙ ap (λ (xs : List Scope). scope_of roots wide (take (t.ranges_end - first) (drop first ranges))
-    t ∷ xs) (scopes-push roots wide more ranges new t.ranges_end ts s in_list.2 ends)
+    rw (
+      stretch-stays ranges new first t.ranges_end in_list.0 past,
+      call-stays wide more t.calls t.call_file t.call_line in_list.1,
+      scopes-push roots wide more ranges new t.ranges_end ts s in_list.2 ends,
+    ) refl
 
 more-in_list : (many more : ℕ) (c : Calls) (file line : ℕ) → IsInList many c file line
     → IsInList (many + more) c file line
-more-in_list many more calls.Missing file line in_list = tt
-more-in_list many more calls.File file line in_list = tt
-more-in_list many more calls.Line file line in_list = tt
-more-in_list many more calls.Both file line in_list = tt
-more-in_list many more calls.Wide file line in_list = omega (arith, in_list)
+more-in_list many more c file line in_list = grind arith
 
 pub in_list-push : (many more first past new : ℕ) (ss : List StoredScope) (s : StoredScope)
     → AreConsecutive many first past ss → s.ranges_end ≡ past + new

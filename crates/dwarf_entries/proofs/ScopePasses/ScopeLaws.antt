@@ -1,7 +1,6 @@
 -- The scope of an entry, from the data stored for its unit.
-use Rattle.std.proofs.Common.{◌≡◌, ℕ, ◌+◌, List, length, map, get_or, refl, ap, sym, ◌∙◌}
-use Rattle.std.proofs.Common.{subst, arith}
-use Rattle.std.specs.Prelude.{Result, Ok, Some, option_map, slice_get}
+use Rattle.std.proofs.Common.{◌≡◌, ℕ, ◌+◌, List, length, map, get_or, refl, ap, ◌∙◌, arith}
+use Rattle.std.specs.Prelude.{Ok, Some, slice_get}
 use Rattle.std.proofs.lemmas.Option.{get_or_from_slice_get, slice_get-map}
 use Rattle.dwarf_bytes.specs.declared.fault.Cause.{Cause}
 use Rattle.dwarf_bytes.specs.Bind.{◌>>=◌}
@@ -14,12 +13,10 @@ use Rattle.dwarf_ranges.specs.declared.range.Range.{Range}
 use Rattle.dwarf_entries.specs.declared.unit_scopes.ScopeNumbers.{ScopeNumbers}
 use Rattle.dwarf_entries.specs.Units.{CompilationUnit}
 use Rattle.dwarf_entries.specs.Names.{names_of}
-use Rattle.dwarf_ranges.specs.Ranges.{Covering, covers_by, covers_of}
-use Rattle.dwarf_entries.specs.Scopes.{ParsedScope, ScopeSite, scope_by, scope_at, scope_of_site}
-use Rattle.dwarf_entries.specs.Scopes.{covers_there, roots_from}
+use Rattle.dwarf_ranges.specs.Ranges.{covers_by, covers_of, AddsRanges}
+use Rattle.dwarf_entries.specs.Scopes.{ParsedScope, ScopeSite, scope_at, scope_of_site, roots_from}
 use Rattle.dwarf_entries.specs.Private.Members.{IsMember}
 use Rattle.dwarf_entries.specs.Private.Passes.{IsScopeSite, scope_facts, bases_of}
-use Rattle.dwarf_ranges.specs.Ranges.{AddsRanges}
 use Rattle.dwarf_entries.specs.Private.Shared.{AddsFacts}
 use Rattle.dwarf_entries.proofs.UnitPasses.PassLaws.{first-fails}
 
@@ -28,8 +25,7 @@ pub bases-there : (bases : List Bases) (us : List CompilationUnit) → bases ≡
     → (unit : ℕ) (u : CompilationUnit) → slice_get us unit ≡ Some u → (d : Bases)
     → get_or bases unit d ≡ u.bases
 bases-there bases us are unit u found d = get_or_from_slice_get bases unit u.bases d
-    (ap (λ (bs : List Bases). slice_get bs unit) are ∙ (slice_get-map bases_of us unit
-    ∙ ap (option_map bases_of) found))
+    (rw (are, slice_get-map bases_of us unit, found) refl)
 
 module _ (s : Sections) {us : List CompilationUnit} {before : List ParsedScope} {p : ScopeSite}
     {numbers : ScopeNumbers} {budget : ℕ} {entry : ScopeEntry}
@@ -43,9 +39,7 @@ module _ (s : Sections) {us : List CompilationUnit} {before : List ParsedScope} 
   -- The scope fails if its names cannot be resolved.
   pub names-fault : (cause : Cause) → Fails cause (names_of s us p.member)
       → Fails cause (scope_at s us before p)
-  names-fault cause bad = first-fails (names_of s us p.member)
-      (λ names. covers_there s before p >>= λ covering. Ok (scope_of_site before p names covering))
-      bad
+  names-fault cause bad = first-fails (names_of s us p.member) _ bad
 
   module _ (names : EntryNames) (names_are : names_of s us p.member ≡ Ok names) (bases : Bases)
       (bases_are : bases ≡ p.member.unit.bases) where
@@ -53,17 +47,14 @@ module _ (s : Sections) {us : List CompilationUnit} {before : List ParsedScope} 
         ≡ (covers_by budget s bases entry.low_pc entry.high_pc entry.ranges
         >>= λ covering. Ok (scope_of_site before p names covering))
     unfolding covers_of
-    after-names = ap (λ (r : Result EntryNames Cause). scope_by r s before p) names_are
-        ∙ rw (bases_are, site.entry_is, site.budget_is) refl
+    after-names = rw (names_are, bases_are, site.entry_is, site.budget_is) refl
 
     -- The scope fails if its ranges cannot be read.
     pub covers-fault : (cause : Cause)
         → Fails cause (covers_by budget s bases entry.low_pc entry.high_pc entry.ranges)
         → Fails cause (scope_at s us before p)
-    covers-fault cause bad =
-        subst (λ (r : Result ParsedScope Cause). Fails cause r) (sym after-names)
-        (first-fails (covers_by budget s bases entry.low_pc entry.high_pc entry.ranges)
-        (λ covering. Ok (scope_of_site before p names covering)) bad)
+    covers-fault cause bad = rw after-names (first-fails
+        (covers_by budget s bases entry.low_pc entry.high_pc entry.ranges) _ bad)
 
     -- The data of the scope.
     pub scope-is : (items : ℕ) (old new : List Range) → AddsRanges (Ok items) old new
@@ -72,10 +63,9 @@ module _ (s : Sections) {us : List CompilationUnit} {before : List ParsedScope} 
         (scope_at s us before p)
     scope-is items old new (found, read, grown) =
         let ending : numbers.number + numbers.inside + 1 ≡ length before + 1 + p.inside =
-        omega (arith, site.number_is, site.descendants_are) in (
+        omega (arith, site.number_is, site.descendants_are) in
+        let whole = rw read at after-names in (
           found,
-          after-names ∙ (ap (λ (r : Result Covering Cause). r
-              >>= λ covering. Ok (scope_of_site before p names covering)) read
-              ∙ rw (site.entry_is, site.stmt_list_is, ending, site.number_is) refl),
+          whole ∙ rw (site.entry_is, site.stmt_list_is, ending, site.number_is) refl,
           grown,
         )

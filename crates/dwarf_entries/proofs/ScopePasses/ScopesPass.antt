@@ -1,14 +1,12 @@
 -- The iterations of the pass over the scopes of all units.
-use Rattle.std.proofs.Common.{◌≡◌, ℕ, ◌+◌, ◌≤◌, List, [], ◌∷◌, ◌++◌, length, ap, sym, ◌∙◌, subst}
-use Rattle.std.proofs.Common.{arith}
-use Rattle.std.specs.Prelude.{Result, Ok, Some, slice_get}
+use Rattle.std.proofs.Common.{◌≡◌, ℕ, ◌+◌, ◌≤◌, List, [], ◌∷◌, ◌++◌, length, ap, arith, refl}
+use Rattle.std.specs.Prelude.{Ok, Some, slice_get}
 use Rattle.std.proofs.lemmas.List.{map_push, length-map}
 use Rattle.std.proofs.lemmas.List.Sums.{sum_by_push}
 use Rattle.std.proofs.lemmas.Option.{slice_get_within}
 use Rattle.dwarf_bytes.specs.declared.fault.Cause.{Cause}
 use Rattle.dwarf_bytes.specs.declared.fault.Section.TheVariants as names
 use Rattle.dwarf_bytes.specs.declared.fault.LoadFault.{LoadFault}
-use Rattle.dwarf_bytes.specs.Items.{with_offset}
 use Rattle.dwarf_bytes.specs.Refusals.{Fails, at_item}
 use Rattle.dwarf_walk.specs.declared.unit_entries.ScopeEntry.{ScopeEntry}
 use Rattle.dwarf_walk.specs.Sections.{Sections}
@@ -18,9 +16,9 @@ use Rattle.dwarf_entries.specs.declared.scope_lists.ScopeLists.{ScopeLists}
 use Rattle.dwarf_entries.specs.declared.unit_scopes.ScopeNumbers.{ScopeNumbers}
 use Rattle.dwarf_entries.specs.Units.{CompilationUnit}
 use Rattle.dwarf_entries.specs.Scopes.{ParsedScope, ScopeSite, Scope, scope_at, sites_in}
-use Rattle.dwarf_entries.specs.Scopes.{stmt_list_of, roots_from}
+use Rattle.dwarf_entries.specs.Scopes.{roots_from}
 use Rattle.dwarf_entries.specs.Private.Passes.{IsScopeSite, IsSiteRead, AreParsedTo, first_number}
-use Rattle.dwarf_entries.specs.Private.Passes.{PassedTo, parse_scope, all_sites, all_scopes}
+use Rattle.dwarf_entries.specs.Private.Passes.{all_sites, all_scopes}
 use Rattle.dwarf_entries.specs.Private.Shared.{AddsFacts, facts_of, IsPushed}
 use Rattle.dwarf_entries.proofs.RootPasses.RootNumbers.{by_number}
 use Rattle.dwarf_entries.proofs.ScopePasses.PushedScopes.{pushed}
@@ -34,9 +32,11 @@ module _ {s : Sections} {us : List CompilationUnit} {number : ℕ} {lists : Scop
   -- The list has as many scopes as were resolved.
   scopes-stored : length lists.scopes.items ≡ number
   scopes-stored =
-      sym (scopes-length (roots_from 0 us) lists.wide.items lists.ranges.items 0 lists.scopes.items)
-      ∙ (ap (λ (ss : List Scope). length ss) so_far.described
-      ∙ (length-map so_far.parsed (λ j. j.scope) ∙ so_far.passed.len))
+      let sizes = scopes-length (roots_from 0 us) lists.wide.items lists.ranges.items 0
+      lists.scopes.items in
+      let described = ap (λ (ss : List Scope). length ss) so_far.described in
+      let same = length-map so_far.parsed (λ (j : ParsedScope). j.scope) in
+      omega (arith, sizes, described, same, so_far.passed.len)
 
   -- The scope of the site with the number.
   module _ (p : ScopeSite) (there : slice_get (all_sites us) number ≡ Some p) where
@@ -52,17 +52,18 @@ module _ {s : Sections} {us : List CompilationUnit} {number : ℕ} {lists : Scop
         let roots : List Root = roots_from 0 us in
         let one : ParsedScope = record { scope = facts_of roots found facts; items = items } in
         let sum = sum_by_push (λ (j : ParsedScope). j.items) parsed one in
-        let behind = pushed roots lists mid new found facts so_far.in_list scopes_stay wide_stays
+        let rest = pushed roots lists mid new found facts so_far.in_list scopes_stay wide_stays
         grown is in
         record {
           parsed = parsed ++ one ∷ [];
-          passed = subst (λ (n : ℕ). PassedTo (parse_scope s us) (all_sites us) n
-              (parsed ++ one ∷ [])) (sym next_is) (pass-next so_far.passed p one there
-              (ap (λ (r : Result ParsedScope Cause). with_offset p.member.die.offset r) read));
-          described = behind.described ∙ (ap (λ (ss : List Scope). ss
-              ++ facts_of roots found facts ∷ []) so_far.described
-              ∙ sym (map_push (λ (j : ParsedScope). j.scope) parsed one));
-          in_list = behind.in_list;
+          passed = rw next_is (pass-next so_far.passed p one there (rw read refl));
+          described = rw (
+            rest.described,
+            so_far.described,
+            map_push (λ (j : ParsedScope). j.scope)
+                parsed one,
+          ) refl;
+          in_list = rest.in_list;
           counted = omega (arith, so_far.counted, counted, sum);
         }
 
@@ -92,11 +93,10 @@ is-site {us = us} so_far u index p numbers entry found there number_is stored re
     let unit_is = (site-in u u.dies index p there).unit_is in
     let is = rw there at read in
     record {
-      unit_is = found ∙ ap (λ (v : CompilationUnit). Some v) (sym unit_is);
-      stmt_list_is = by_number us u numbers.unit numbers.number found
+      unit_is = rw unit_is found;
+      stmt_list_is = rw unit_is (by_number us u numbers.unit numbers.number found
           (omega (arith, stored, sizes, number_is))
-          (omega (arith, stored, sizes, number_is, within, count))
-          ∙ ap (λ (v : CompilationUnit). stmt_list_of v.dies) (sym unit_is);
+          (omega (arith, stored, sizes, number_is, within, count)));
       entry_is = is.0;
       descendants_are = is.1;
       number_is = omega (arith, stored, sizes, so_far.passed.len);

@@ -1,13 +1,13 @@
 -- The iterations of the pass over the roots of all units.
-use Rattle.std.proofs.Common.{◌≡◌, ℕ, ◌+◌, List, [], ◌∷◌, ◌++◌, map, refl, ap, sym, ◌∙◌, subst}
-use Rattle.std.specs.Prelude.{Result, Ok}
+use Rattle.std.proofs.Common.{◌≡◌, ℕ, ◌+◌, List, [], ◌∷◌, ◌++◌, map, refl, ap, sym, ◌∙◌}
+use Rattle.std.specs.Prelude.{Ok}
 use Rattle.std.proofs.lemmas.List.{map_push}
 use Rattle.dwarf_bytes.specs.declared.fault.Section.TheVariants as names
 use Rattle.dwarf_bytes.specs.declared.fault.LoadFault.{LoadFault}
 use Rattle.dwarf_bytes.specs.declared.format.Format.{Format}
-use Rattle.dwarf_bytes.specs.Items.{At, each_from}
+use Rattle.dwarf_bytes.specs.Items.{each_from}
 use Rattle.dwarf_bytes.specs.Refusals.{in_section}
-use Rattle.dwarf_bytes.proofs.Numbers.Advance.{after-bind}
+use Rattle.dwarf_bytes.proofs.Numbers.Advance.{bind_ok}
 use Rattle.dwarf_bytes.proofs.Numbers.Moves.{same-ok}
 use Rattle.dwarf_units.specs.declared.unit_headers.UnitHeader.{UnitHeader}
 use Rattle.dwarf_units.specs.Entries.{Die}
@@ -55,42 +55,34 @@ module _ {s : Sections} {us : List CompilationUnit} {index : ℕ} {all : List Ba
       record {
         made = so_far.made ++ v ∷ [];
         passed = pass-next so_far.passed u v here.is (rw found refl);
-        bases_are = ap (λ (bs : List Bases). bs ++ bases ∷ []) so_far.bases_are
-            ∙ sym (map_push bases_of so_far.made v);
+        bases_are = rw (so_far.bases_are, map_push bases_of so_far.made v) refl;
       }
 
   pub bases-fault : {fault : LoadFault}
       → Faults fault (bases_in s unit.header.format unit.root)
       → Faults fault (all_bases s us)
-  bases-fault {fault} bad = pass-fault so_far.passed here.unit here.is (first-fault _ _
-      (subst (λ (r : Result Bases At). Faults fault r)
-      (bases-same s here.unit unit here.stored) bad))
+  bases-fault bad = pass-fault so_far.passed here.unit here.is (first-fault _ _
+      (rw (bases-same s here.unit unit here.stored) at bad))
 
 pub with_bases-parts : (s : Sections) (u v : CompilationUnit) → with_bases s u ≡ Ok v
     → (v.header ≡ u.header) × (v.dies ≡ u.dies)
 with_bases-parts s u v h =
-    after-bind (bases_of_first s u.header.format u.dies) _ v h
-    ((v.header ≡ u.header) × (v.dies ≡ u.dies)) (λ bases _ last.
-    let same =
-    same-ok (record { header = u.header; dies = u.dies; bases = bases }) v last in (
-      sym (ap (λ (w : CompilationUnit). w.header) same),
-      sym (ap (λ (w : CompilationUnit). w.dies) same),
-    ))
+    let b = bind_ok (bases_of_first s u.header.format u.dies) _ v h in
+    rw (← same-ok (record { header = u.header; dies = u.dies; bases = b.0 }) v b.2) (refl, refl)
 
 -- The headers and the entries of units stay the same.
 pub bases-stay : {Z : Type 0} (f : UnitHeader → List Die → Z) (s : Sections)
     (before us vs : List CompilationUnit) → each_from (λ _ u. with_bases s u) before us ≡ Ok vs
     → map (λ v. f v.header v.dies) vs ≡ map (λ u. f u.header u.dies) us
 unfolding each_from
-bases-stay {Z} f s before [] vs h =
-    ap (map (λ (v : CompilationUnit). f v.header v.dies)) (sym (same-ok [] vs h))
-bases-stay {Z} f s before (u ∷ us) vs h =
-    let P : Type 0 = map (λ (v : CompilationUnit). f v.header v.dies) vs
-    ≡ map (λ (u : CompilationUnit). f u.header u.dies) (u ∷ us) in
-    after-bind (with_bases s u) _ vs h P (λ v v_is h1.
-    after-bind (each_from (λ _ u. with_bases s u) (before ++ v ∷ []) us) _ vs h1 P
-    (λ rest rest-is last.
-    let parts = with_bases-parts s u v v_is in
-    ap (map (λ (v : CompilationUnit). f v.header v.dies)) (sym (same-ok (v ∷ rest) vs last))
-    ∙ (ap (λ (zs : List Z). f v.header v.dies ∷ zs) (bases-stay f s (before ++ v ∷ []) us rest
-    rest-is) ∙ rw (parts.0, parts.1) refl)))
+bases-stay f s before [] vs h = rw (← same-ok [] vs h) refl
+bases-stay f s before (u ∷ us) vs h =
+    let v = bind_ok (with_bases s u) _ vs h in
+    let rest = bind_ok (each_from (λ _ u. with_bases s u) (before ++ v.0 ∷ []) us) _ vs v.2 in
+    let parts = with_bases-parts s u v.0 v.1 in
+    rw (
+      ← same-ok (v.0 ∷ rest.0) vs rest.2,
+      bases-stay f s (before ++ v.0 ∷ []) us rest.0 rest.1,
+      parts.0,
+      parts.1,
+    ) refl

@@ -1,14 +1,13 @@
 -- The iterations of the pass over the entries of all units.
 use Rattle.std.proofs.Common.{◌≡◌, ◌⊎◌, ℕ, ◌+◌, ◌<◌, ◌≤◌, List, [], ◌∷◌, ◌++◌, length, map, get_or}
-use Rattle.std.proofs.Common.{refl, ap, sym, ◌∙◌, subst, arith, append-nil}
-use Rattle.std.specs.Prelude.{Some, Result, Ok, Err, zip, slice_get, flat_map}
+use Rattle.std.proofs.Common.{refl, sym, ◌∙◌, arith, append-nil, zero, suc, ap}
+use Rattle.std.specs.Prelude.{Some, Ok, Err, zip, slice_get, Result}
 use Rattle.std.proofs.lemmas.List.{map_push}
 use Rattle.std.proofs.lemmas.List.Concat.{flat_map-append}
 use Rattle.std.proofs.lemmas.Option.{slice_get-get_or}
-use Rattle.std.proofs.lemmas.Slice.Zip.{length-zip, get_or-zip}
+use Rattle.std.proofs.lemmas.Slice.Zip.{length-zip}
 use Rattle.dwarf_bytes.specs.declared.fault.Section.TheVariants as names
 use Rattle.dwarf_bytes.specs.declared.fault.LoadFault.{LoadFault}
-use Rattle.dwarf_bytes.specs.Bind.{◌>>=◌}
 use Rattle.dwarf_bytes.specs.Items.{At}
 use Rattle.dwarf_bytes.specs.Refusals.{memory_fault, in_section}
 use Rattle.dwarf_bytes.proofs.Items.EachPlaces.{each-length}
@@ -22,7 +21,7 @@ use Rattle.dwarf_units.proofs.TableLaws.{table_for, table_is, in_section-ok}
 use Rattle.dwarf_walk.specs.declared.unit_entries.UnitEntries.{UnitEntries}
 use Rattle.dwarf_walk.specs.declared.entry_bitmap.EntryBitmap.{EntryBitmap}
 use Rattle.dwarf_walk.specs.EntryBitmap.{AddsOffsets, offsets_of}
-use Rattle.dwarf_walk.specs.Stored.{StoredUnit, stored_unit, stored_entries, stored_of}
+use Rattle.dwarf_walk.specs.Stored.{stored_unit, stored_entries, stored_of}
 use Rattle.dwarf_walk.proofs.BitmapLaws.{adds-none, adds-more}
 use Rattle.dwarf_entries.specs.Units.{CompilationUnit, unit_of}
 use Rattle.dwarf_ranges.specs.Bases.{no_bases}
@@ -32,6 +31,7 @@ use Rattle.dwarf_entries.specs.Private.Passes.{PassedTo, all_entries}
 use Rattle.dwarf_entries.proofs.UnitPasses.PassLaws.{Faults, first-fault, before-done, after-done}
 use Rattle.dwarf_entries.proofs.UnitPasses.PassLaws.{pass-none, pass-next, pass-end, pass-fault}
 use Rattle.dwarf_entries.proofs.UnitPasses.PassLaws.{only-memory, done}
+use Rattle.dwarf_bytes.specs.Bind.{◌>>=◌}
 
 -- The units before the index, the data that is stored for them, and the bits of their entries.
 pub record EntriesSoFar (info : List ℕ) (headers : List UnitHeader)
@@ -44,19 +44,23 @@ pub record EntriesSoFar (info : List ℕ) (headers : List UnitHeader)
 
 pub entries-none : {info : List ℕ} {headers : List UnitHeader} {tables : List (List Declaration)}
     {bitmap : EntryBitmap} → EntriesSoFar info headers tables bitmap bitmap 0 []
-entries-none {bitmap = bitmap} = record {
-  made = [];
-  passed = pass-none;
-  stored_are = refl;
-  marked_so = adds-none bitmap;
-}
+entries-none {bitmap = bitmap} =
+    record { made = []; passed = pass-none; stored_are = refl; marked_so = adds-none bitmap }
 
 offsets-push : (made : List CompilationUnit) (u : CompilationUnit)
     → all_offsets made ++ offsets_of u.dies ≡ all_offsets (made ++ u ∷ [])
-offsets-push made u =
-    ap (λ (offsets : List ℕ). all_offsets made ++ offsets) (sym (append-nil (offsets_of u.dies)))
-    ∙ (sym (flat_map-append offsets_of (map dies_of made) (u.dies ∷ []))
-    ∙ ap (λ (dies : List (List Die)). flat_map offsets_of dies) (sym (map_push dies_of made u)))
+offsets-push made u = rw (
+  map_push dies_of made u,
+  flat_map-append offsets_of (map dies_of made) (u.dies ∷ []),
+  append-nil (offsets_of u.dies),
+) refl
+
+zip-there : {X Y : Type 0} (xs : List X) (ys : List Y) (i : ℕ) (x : X) (y : Y)
+    → slice_get xs i ≡ Some x → slice_get ys i ≡ Some y → slice_get (zip xs ys) i ≡ Some (x, y)
+zip-there [] ys i x y x_is y_is = cc
+zip-there (a ∷ xs) [] i x y x_is y_is = cc
+zip-there (a ∷ xs) (b ∷ ys) zero x y x_is y_is = grind arith
+zip-there (a ∷ xs) (b ∷ ys) (suc i) x y x_is y_is = zip-there xs ys i x y x_is y_is
 
 module _ {info : List ℕ} {headers : List UnitHeader} {tables : List (List Declaration)}
     {bitmap marked : EntryBitmap} {index : ℕ} {stored : List UnitEntries}
@@ -81,14 +85,8 @@ module _ {info : List ℕ} {headers : List UnitHeader} {tables : List (List Decl
         (declarations_of declarations_limit section (get_or headers index d).abbreviations) table
         table_read) in
         let sizes = each-length (table_for section) [] headers tables all in
-        let inside : index < length tables = omega (arith, sizes, within) in
-        let zipped : index < length (zip headers tables) =
-        subst (λ (n : ℕ). index < n) (sym (length-zip headers tables))
-        (omega (arith, within, inside)) in
-        slice_get-get_or (zip headers tables) index (d, []) zipped
-        ∙ ap (λ (p : UnitHeader × List Declaration). Some p)
-        (get_or-zip headers tables index (d, []) within inside
-        ∙ ap (λ (t : List Declaration). (get_or headers index d, t)) same)
+        zip-there headers tables index _ table (slice_get-get_or headers index d within)
+        (slice_get-get_or tables index [] (omega (arith, sizes, within)) ∙ rw same refl)
 
     pub entries-next : (after : EntryBitmap) (unit : UnitEntries) → in_section names.DebugInfo
         (stored_entries info (get_or headers index d) table) ≡ Ok (stored_of unit)
@@ -106,12 +104,13 @@ module _ {info : List ℕ} {headers : List UnitHeader} {tables : List (List Decl
           passed = pass-next so_far.passed (header, table) u pair-at
               (ap (λ (r : Result (List Die) At). r >>= λ dies. done {Y = CompilationUnit}
               (record { header = header; dies = dies; bases = no_bases })) found.1);
-          stored_are = map_push stored_of stored unit
-              ∙ (ap (λ (us : List StoredUnit). us ++ stored_of unit ∷ []) so_far.stored_are
-              ∙ (ap (λ (x : StoredUnit). map stored_unit_of made ++ x ∷ []) (sym found.2)
-              ∙ sym (map_push stored_unit_of made u)));
-          marked_so = subst (λ (offsets : List ℕ). AddsOffsets bitmap after offsets)
-              (offsets-push made u) (adds-more bitmap marked after (all_offsets made)
+          stored_are = rw (
+            map_push stored_of stored unit,
+            map_push stored_unit_of made u,
+            so_far.stored_are,
+            found.2,
+          ) refl;
+          marked_so = rw (← offsets-push made u) (adds-more bitmap marked after (all_offsets made)
               (offsets_of found.0) so_far.marked_so (adds found.0 found.1));
         }
 
@@ -126,6 +125,5 @@ pub entries-end : {info : List ℕ} {headers : List UnitHeader} {tables : List (
     {bitmap marked : EntryBitmap} {index : ℕ} {stored : List UnitEntries}
     → (so_far : EntriesSoFar info headers tables bitmap marked index stored)
     → length headers ≤ index → all_entries info headers tables ≡ Ok so_far.made
-entries-end {headers = headers} {tables = tables} {index = index} so_far past =
-    pass-end so_far.passed (subst (λ (n : ℕ). n ≤ index) (sym (length-zip headers tables))
-    (omega (arith, past)))
+entries-end {headers = headers} {tables = tables} so_far past =
+    pass-end so_far.passed (omega (arith, past, length-zip headers tables))

@@ -45,8 +45,7 @@ scope-stored die kind =
       value-stored die.attributes DW_AT_HIGH_PC refl,
       value-stored die.attributes DW_AT_RANGES refl,
       value-stored die.attributes DW_AT_CALL_FILE refl,
-      value-stored die.attributes DW_AT_CALL_LINE
-          refl,
+      value-stored die.attributes DW_AT_CALL_LINE refl,
     ) refl
 
 -- ---- the entries that were read before

@@ -1,10 +1,10 @@
 -- The units that data is stored for.
-use Rattle.std.proofs.Common.{◌≡◌, ℕ, ◌<◌, List, length, get_or, refl, ap, sym, ◌∙◌, arith}
+use Rattle.std.proofs.Common.{◌≡◌, ℕ, ◌<◌, List, length, get_or, refl, ap, ◌∙◌, arith}
 use Rattle.std.specs.Prelude.{Option, Some, None, slice_get, option_map}
 use Rattle.std.proofs.lemmas.List.{length-map}
 use Rattle.std.proofs.lemmas.Option.{slice_get-map, slice_get_read, same_Some}
 use Rattle.dwarf_walk.specs.declared.unit_entries.UnitEntries.{UnitEntries}
-use Rattle.dwarf_walk.specs.Stored.{StoredUnit, stored_of}
+use Rattle.dwarf_walk.specs.Stored.{stored_of}
 use Rattle.dwarf_entries.specs.Units.{CompilationUnit}
 use Rattle.dwarf_entries.specs.Private.EntryOffsets.{AreStored, stored_unit_of}
 
@@ -16,8 +16,8 @@ pub record StoredFor (us : List CompilationUnit) (n : ℕ) (k : UnitEntries) : T
 
 pub stored-length : (stored : List UnitEntries) (us : List CompilationUnit) → AreStored stored us
     → length stored ≡ length us
-stored-length stored us same = sym (length-map stored stored_of)
-    ∙ (ap (λ (xs : List StoredUnit). length xs) same ∙ length-map us stored_unit_of)
+stored-length stored us same =
+    rw (← length-map stored stored_of, same) (length-map us stored_unit_of)
 
 -- The element at an index of the program is at that index of the list.
 pub stored-here : (stored : List UnitEntries) (us : List CompilationUnit) (n : ℕ) (k : UnitEntries)
@@ -30,8 +30,7 @@ stored-same : (stored : List UnitEntries) (us : List CompilationUnit) (n : ℕ) 
     → AreStored stored us → slice_get stored n ≡ Some k
     → Some (stored_of k) ≡ option_map stored_unit_of (slice_get us n)
 stored-same stored us n k same found =
-    sym (ap (option_map stored_of) found) ∙ (sym (slice_get-map stored_of stored n)
-    ∙ (ap (λ (ks : List StoredUnit). slice_get ks n) same ∙ slice_get-map stored_unit_of us n))
+    rw (← slice_get-map stored_unit_of us n, ← same, slice_get-map stored_of stored n, found) refl
 
 pub stored-at : (stored : List UnitEntries) (us : List CompilationUnit) (n : ℕ) (k : UnitEntries)
     → AreStored stored us → slice_get stored n ≡ Some k → StoredFor us n k

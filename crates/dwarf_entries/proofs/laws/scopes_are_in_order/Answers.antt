@@ -13,7 +13,6 @@ use Rattle.dwarf_entries.proofs.Results.SiteOrder.{sites-below, in-unit-of, befo
 use Rattle.dwarf_entries.proofs.Results.BelowLaws.{ends-within}
 use Rattle.dwarf_entries.proofs.Results.TreeParts.{after-tree, scope-at, scopes_in}
 use Rattle.dwarf_entries.proofs.ScopePasses.SiteLaws.{IsSiteAt, first-all}
-use Rattle.dwarf_entries.proofs.UnitPasses.PassLaws.{from-map}
 use Rattle.dwarf_entries.proofs.laws.scopes_are_in_order.Goals as goal
 
 numbered : (m total : ℕ) (ss : List Scope) → m + length ss ≡ total
@@ -59,25 +58,17 @@ returns c s tree h = after-tree s tree h (λ tree. AreInOrder tree.scopes)
     let same = length-map parsed (λ (j : ParsedScope). j.scope) in
     record {
       numbered = numbered 0 (length scopes) scopes (omega arith) (λ i t found.
-          let j = from-map (λ (j : ParsedScope). j.scope) parsed i t found in
-          let x = at i j.0 j.1 in
+          let x = at i t found in
           let last = (before-later x.place (length us)
-          (slice_get_within us x.place.unit x.site.member.unit x.place.unit_is)).1 in
-          let number = ap (λ (y : Scope). y.number) j.2 in
-          let end = ap (λ (y : Scope). y.«end») j.2 in (
-            omega (arith, number, x.number_is),
-            omega (arith, number, end, x.number_is, x.end_is),
-            omega (arith, end, x.end_is, last, all, size, same),
+          (slice_get_within us x.place.unit x.site.member.unit x.place.unit_is)).1 in (
+            omega (arith, x.number_is),
+            omega (arith, x.number_is, x.end_is),
+            omega (arith, x.end_is, last, all, size, same),
           ));
       nested = nested scopes (λ i k t u first second lt inside.
-          let a = from-map (λ (j : ParsedScope). j.scope) parsed i t first in
-          let b = from-map (λ (j : ParsedScope). j.scope) parsed k u second in
-          let x = at i a.0 a.1 in
-          let y = at k b.0 b.1 in
-          let number = ap (λ (z : Scope). z.number) b.2 in
-          let end = ap (λ (z : Scope). z.«end») b.2 in
-          let outer = ap (λ (z : Scope). z.«end») a.2 in
+          let x = at i t first in
+          let y = at k u second in
           let ends = sites-nest x.place y.place lt
-          (omega (arith, inside, number, y.number_is, outer, x.end_is)) in
-          omega (arith, ends, end, y.end_is, outer, x.end_is));
+          (omega (arith, inside, y.number_is, x.end_is)) in
+          omega (arith, ends, y.end_is, x.end_is));
     })

@@ -48,21 +48,17 @@ numbers-are : (s : Sections) (us : List CompilationUnit) (parsed : List ParsedSc
     → (scope.number ≡ entry_number us i k scope at)
     × (scope.«end» ≡ entry_number us i k scope at + 1 + (entry_site us i k scope at).inside)
 numbers-are s us parsed are parsed_are i k scope inside at =
-    let j = contained parsed scope inside in
-    let x = scope-at s us parsed parsed_are j.0 j.1 j.2 in
+    let j = contained (scopes_in parsed) scope inside in
+    let x = scope-at s us parsed parsed_are j.0 scope j.1 in
     let n : ℕ = entry_number us i k scope at in
-    let offset : x.site.member.die.offset ≡ at.die.offset =
-    ap (λ (y : ParsedScope). y.scope.offset) x.is
-    ∙ (ap (λ (y : Scope). y.offset) j.3 ∙ at.offset_is) in
+    let offset : x.site.member.die.offset ≡ at.die.offset = sym x.offset_is ∙ at.offset_is in
     let before = sites-rise are x.place (site-of us i k scope at) in
     let after = sites-rise are (site-of us i k scope at) x.place in
     let e : j.0 ≡ n = grind arith in
     let same = same_Some x.site (entry_site us i k scope at) (sym x.there ∙ rw e
     (site-of-entry us i k at.of at.die scope.kind at.of_is at.die_is at.kind_is)) in
     let insides = ap (λ (p : ScopeSite). p.inside) same in
-    let number = ap (λ (y : Scope). y.number) j.3 in
-    let end = ap (λ (y : Scope). y.«end») j.3 in
-    (omega (arith, number, x.number_is, e), omega (arith, end, x.end_is, e, insides))
+    (omega (arith, x.number_is, e), omega (arith, x.end_is, e, insides))
 
 pub returns : goal.returns
 unfolding site-of

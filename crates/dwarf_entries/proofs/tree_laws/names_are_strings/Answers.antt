@@ -1,20 +1,13 @@
-use Rattle.std.proofs.Common.{◌≡◌, ℕ, ◌+◌, ◌<◌, List, [], ◌∷◌, ◌++◌, length, take, drop, get_or}
-use Rattle.std.proofs.Common.{refl, ap, sym, ◌∙◌, subst, arith, append_assoc, length-append}
-use Rattle.std.proofs.Common.{length-drop}
-use Rattle.std.specs.Prelude.{Option, Some, None, Result, Ok, Err, IfSome, All, ◌≢◌, ◌==◌}
-use Rattle.std.specs.Option.{option_map_or}
-use Rattle.std.proofs.lemmas.List.{take_at, get_or-drop}
-use Rattle.std.proofs.lemmas.Option.{slice_get-get_or}
+use Rattle.std.proofs.Common.{◌≡◌, ℕ, ◌+◌, List, length, refl, subst, arith}
+use Rattle.std.specs.Prelude.{Option, Some, None, Ok, IfSome, All, ◌==◌}
 use Rattle.dwarf_bytes.specs.declared.constants.TheConstants.{DW_AT_LINKAGE_NAME, DW_AT_NAME}
 use Rattle.dwarf_bytes.specs.declared.constants.TheConstants.{DW_FORM_LINE_STRP, DW_FORM_STRING}
 use Rattle.dwarf_bytes.specs.declared.constants.TheConstants.{DW_FORM_STRP}
-use Rattle.dwarf_bytes.specs.declared.fault.ReadFault.{ReadFault}
-use Rattle.dwarf_bytes.specs.declared.fault.ReadFault.TheVariants.{Unterminated}
 use Rattle.dwarf_bytes.specs.declared.fault.Section.{Section}
 use Rattle.dwarf_bytes.specs.declared.fault.Section.TheVariants as sections
 use Rattle.dwarf_bytes.specs.declared.tables.TableKind.TheVariants.{StrOffsets}
 use Rattle.dwarf_bytes.specs.Items.{reading}
-use Rattle.dwarf_bytes.specs.Numbers.{IsText, IsEncodedAt, text_front, cstr_at, text_at}
+use Rattle.dwarf_bytes.specs.Numbers.{cstr_at, text_at}
 use Rattle.dwarf_bytes.proofs.Numbers.Advance.{after-bind, chosen, reading-ok}
 use Rattle.dwarf_bytes.proofs.Numbers.Moves.{same-ok}
 use Rattle.dwarf_bytes.proofs.Strings.StringLaws.{text-encoded}
@@ -28,8 +21,8 @@ use Rattle.dwarf_ranges.specs.Bases.{item_at, optional}
 use Rattle.dwarf_entries.specs.Names.{Member, chain_within, text_in, text_of, first_on, name_on}
 use Rattle.dwarf_entries.specs.Names.{names_of, references_limit}
 use Rattle.dwarf_entries.specs.Scopes.{Scope, Tree, ParsedScope, tree_of}
-use Rattle.dwarf_entries.specs.TreeLaws.{section_bytes, IsTextAt, IsTextOf}
-use Rattle.dwarf_entries.proofs.Results.TreeParts.{after-tree, scope-at, all-are}
+use Rattle.dwarf_entries.specs.TreeLaws.{section_bytes, IsTextOf}
+use Rattle.dwarf_entries.proofs.Results.TreeParts.{after-tree, all-are, parsed-at}
 use Rattle.dwarf_entries.proofs.tree_laws.names_are_strings.Goals as goal
 
 -- ---- a string that is found in a section
@@ -37,38 +30,7 @@ use Rattle.dwarf_entries.proofs.tree_laws.names_are_strings.Goals as goal
 found-encoded : (bytes : List ℕ) (at : ℕ) (found : List ℕ) → text_at bytes at ≡ Ok found
     → cstr_at bytes at ≡ Ok (found, at + length found + 1)
 unfolding text_at cstr_at
-found-encoded bytes at found h = by_front (text_front (drop at bytes)) h
-  where
-    by_front : (front : Option (List ℕ))
-        → option_map_or (λ bytes. Ok bytes) front (Err Unterminated) ≡ Ok found
-        → option_map_or {U = Result (List ℕ × ℕ) ReadFault}
-        (λ bytes. Ok (bytes, at + length bytes + 1)) front (Err Unterminated)
-        ≡ Ok (found, at + length found + 1)
-    by_front None h = cc
-    by_front (Some front) h = ap (λ (t : List ℕ). Ok (t, at + length t + 1)) (same-ok front found h)
-
-text-at : (bytes : List ℕ) (at : ℕ) (found : List ℕ)
-    → IsEncodedAt IsText bytes at found (at + length found + 1) → IsTextAt bytes at
-text-at bytes at found s =
-    let parts : drop at bytes ≡ found ++ 0 ∷ s.rest =
-    s.parts ∙ ap (λ (t : List ℕ). t ++ s.rest) s.encoded.0 ∙ append_assoc found (0 ∷ [])
-    s.rest in
-    let size : length (drop at bytes) ≡ length found + length (0 ∷ s.rest) =
-    ap length parts ∙ length-append found (0 ∷ s.rest) in
-    let left = length-drop at bytes in
-    let within : at + length found < length bytes = omega (arith, size, left) in
-    let nul : get_or bytes (at + length found) 1 ≡ 0 = sym (get_or-drop at bytes (length found) 1)
-    ∙ ap (λ (bs : List ℕ). get_or bs (length found) 1) parts ∙ last found s.rest in
-    let text_is : take (length found) (drop at bytes) ≡ found = ap (take (length found)) parts
-    ∙ take_at found (0 ∷ s.rest) (length found) refl in (
-      length found,
-      slice_get-get_or bytes (at + length found) 1 within ∙ ap (λ (b : ℕ). Some b) nul,
-      subst (λ (t : List ℕ). All (λ byte. byte ≢ 0) t) (sym text_is) s.encoded.1,
-    )
-  where
-    last : (front rest : List ℕ) → get_or (front ++ 0 ∷ rest) (length front) 1 ≡ 0
-    last [] rest = refl
-    last (b ∷ front) rest = last front rest
+found-encoded bytes at found h = grind arith
 
 text_in-is_text : (s : Sections) (name : Section) (bytes : List ℕ) (at : ℕ) (found : TextOffset)
     → section_bytes s name ≡ bytes → text_in name bytes at ≡ Ok found → IsTextOf s found
@@ -76,11 +38,14 @@ text_in-is_text s name bytes at found bytes_are h =
     let begins : TextOffset = record { section = name; offset = at } in
     after-bind (reading (text_at bytes at)) (λ _. Ok begins) found h (IsTextOf s found)
     (λ content content_is last.
-    let here = text-at bytes at content (text-encoded bytes at content (at + length content + 1)
-    (found-encoded bytes at content (reading-ok (text_at bytes at) content content_is))) in
-    let described : IsTextOf s begins = subst (λ (bs : List ℕ). IsTextAt bs at) (sym bytes_are) here
-    in
-    subst (IsTextOf s) (same-ok begins found last) described)
+    let next : ℕ = at + length content + 1 in
+    subst (IsTextOf s) (same-ok begins found last) (
+      content,
+      next,
+      rw bytes_are (text-encoded bytes
+          at content next (found-encoded bytes at content
+          (reading-ok (text_at bytes at) content content_is))),
+    ))
 
 -- ---- the names of a scope
 
@@ -132,9 +97,9 @@ HasTexts s scope = IfSome scope.name (IsTextOf s) × IfSome scope.linkage_name (
 all-strings : (s : Sections) (tree : Tree) → tree_of s ≡ Ok tree → All (HasTexts s) tree.scopes
 all-strings s tree h = after-tree s tree h (λ tree. All (HasTexts s) tree.scopes)
     (λ us parsed us_are parsed_are. all-are (HasTexts s) parsed (λ n j there.
-    let at = scope-at s us parsed parsed_are n j there in
+    let at = parsed-at s us parsed parsed_are n j there in
     subst (λ (x : ParsedScope). HasTexts s x.scope) at.is
-    (names-are_texts s us at.site.member at.found at.found_are)))
+    (names-are_texts s us at.site.member at.names at.names_are)))
 
 pub returns : goal.returns
 returns c = record {

@@ -1,5 +1,5 @@
 use Rattle.std.proofs.Common.{◌≡◌, ℕ, suc, ◌+◌, ◌<◌, ◌≤◌, List, [], ◌∷◌, length, map, refl, ap}
-use Rattle.std.proofs.Common.{arith}
+use Rattle.std.proofs.Common.{arith, get_or}
 use Rattle.std.specs.Prelude.{Some, All, slice_get, count_by}
 use Rattle.std.specs.List.{AllPairs}
 use Rattle.std.specs.List.Sorted.{IsStrictlyIncreasing}
@@ -12,11 +12,11 @@ use Rattle.dwarf_entries.specs.declared.scope.Root.{Root}
 use Rattle.dwarf_walk.specs.ScopeEntries.{is_scope}
 use Rattle.dwarf_walk.specs.Sections.{Sections}
 use Rattle.dwarf_entries.specs.Units.{CompilationUnit}
-use Rattle.dwarf_entries.specs.Scopes.{Scope, ParsedScope, root_of, roots_from}
+use Rattle.dwarf_entries.specs.Scopes.{Scope, root_of, roots_from}
 use Rattle.dwarf_entries.specs.TreeLaws.{RiseBelow}
 use Rattle.dwarf_entries.proofs.OriginChains.ReferenceLaws.{within-le}
 use Rattle.dwarf_entries.proofs.Results.SiteOrder.{sites-rise, within-unit}
-use Rattle.dwarf_entries.proofs.Results.TreeParts.{after-tree, scope-at, scopes_in, all-are}
+use Rattle.dwarf_entries.proofs.Results.TreeParts.{after-tree, scope-at, scopes_in}
 use Rattle.dwarf_entries.proofs.UnitPasses.UnitLaws.{IsUnitIn, AreUnitsIn, dies-rise, units-in}
 use Rattle.dwarf_entries.proofs.UnitPasses.UnitLaws.{units-after}
 use Rattle.dwarf_entries.proofs.UnitPasses.PassLaws.{from-map}
@@ -36,35 +36,20 @@ increasing key xs rise k lt =
 pub returns-clause-scopes : goal.returns-clause-scopes
 returns-clause-scopes c s tree h = after-tree s tree h (λ tree. RiseBelow (length s.debug_info)
     (map (λ (scope : Scope). scope.offset) tree.scopes)) (λ us parsed us_are parsed_are.
+    let scopes : List Scope = scopes_in parsed in
     let are = units-in s us us_are in
     let at = scope-at s us parsed parsed_are in (
-      increasing (λ (scope : Scope). scope.offset) (scopes_in parsed) (λ i j x y x_is y_is lt.
-          let a = from-map (λ (j : ParsedScope). j.scope) parsed i x x_is in
-          let b = from-map (λ (j : ParsedScope). j.scope) parsed j y y_is in
-          let first = at i a.0 a.1 in
-          let second = at j b.0 b.1 in
+      increasing (λ (scope : Scope). scope.offset) scopes (λ i j x y x_is y_is lt.
+          let first = at i x x_is in
+          let second = at j y y_is in
           let less = sites-rise are first.place second.place lt in
-          omega (
-            arith,
-            less,
-            ap (λ (z : ParsedScope). z.scope.offset) first.is,
-            ap (λ (z : ParsedScope). z.scope.offset) second.is,
-            ap (λ (z : Scope). z.offset) a.2,
-            ap (λ (z : Scope). z.offset) b.2,
-          )),
+          omega (arith, less, first.offset_is, second.offset_is)),
       All-map (λ (offset : ℕ). offset < length s.debug_info) (λ (scope : Scope). scope.offset)
-          (scopes_in parsed)
-          (all-are (λ (scope : Scope). scope.offset < length s.debug_info) parsed (λ n j there.
-          let one = at n j there in
+          scopes (λ k d lt.
+          let one = at k (get_or scopes k d) (slice_get-get_or scopes k d lt) in
           let inside = within-unit are one.place in
-          let bounds =
-          (are.each_is one.place.unit one.site.member.unit one.place.unit_is).bounds in
-          omega (
-            arith,
-            inside.1,
-            bounds.within,
-            ap (λ (z : ParsedScope). z.scope.offset) one.is,
-          ))),
+          let unit = are.each_is one.place.unit one.site.member.unit one.place.unit_is in
+          omega (arith, inside.1, unit.bounds.within, one.offset_is)),
     ))
 
 -- ---- roots

@@ -12,7 +12,7 @@ use Rattle.dwarf_entries.specs.Private.Passes.{all_scopes}
 use Rattle.dwarf_ranges.specs.Ranges.{IsValidRange}
 use Rattle.dwarf_ranges.proofs.EntryLaws.{AllHold}
 use Rattle.dwarf_ranges.proofs.ScopeBudget.{Fits, covers-fits}
-use Rattle.dwarf_entries.proofs.Results.TreeParts.{after-tree, scope-at, all-are}
+use Rattle.dwarf_entries.proofs.Results.TreeParts.{after-tree, all-are, parsed-at}
 use Rattle.dwarf_entries.proofs.UnitPasses.PassLaws.{element}
 use Rattle.dwarf_entries.proofs.tree_laws.ranges_are_nonempty.Goals as goal
 
@@ -25,7 +25,7 @@ fits-at : (s : Sections) (us : List CompilationUnit) (parsed : List ParsedScope)
     → all_scopes s us ≡ Ok parsed → (n : ℕ) (j : ParsedScope) → slice_get parsed n ≡ Some j
     → HasFit parsed n j
 fits-at s us parsed parsed_are n j there =
-    let at = scope-at s us parsed parsed_are n j there in
+    let at = parsed-at s us parsed parsed_are n j there in
     subst (HasFit parsed n) at.is (covers-fits _ s at.site.member.unit.bases at.site.member.die
     at.covering at.covering_is)
 

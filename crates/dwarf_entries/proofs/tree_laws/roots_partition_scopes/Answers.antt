@@ -1,5 +1,5 @@
 use Rattle.std.proofs.Common.{◌≡◌, ℕ, zero, suc, ◌+◌, ◌<◌, ◌≤◌, List, [], ◌∷◌, length, take, refl}
-use Rattle.std.proofs.Common.{ap, sym, ◌∙◌, subst, arith}
+use Rattle.std.proofs.Common.{subst, arith}
 use Rattle.std.specs.Prelude.{Some, All, Contains, slice_get, count_by}
 use Rattle.std.proofs.lemmas.List.{length-map}
 use Rattle.std.proofs.lemmas.List.Elements.{All-nil, All-cons, All-contains, All-weaker}
@@ -29,8 +29,7 @@ record IsRootOf (us : List CompilationUnit) (number : ℕ) (root : Root) : Type 
   pub of_is : slice_get us unit ≡ Some of
   pub die : Die
   pub die_is : slice_get of.dies 0 ≡ Some die
-  pub offset_is : root.offset ≡ die.offset
-  pub stmt_list_is : root.stmt_list ≡ stmt_list_of of.dies
+  pub root_is : (root.offset ≡ die.offset) × (root.stmt_list ≡ stmt_list_of of.dies)
   pub first_is : root.first ≡ number + first_number us unit
   pub past_is : root.past ≡ root.first + count_by is_scope of.dies
 
@@ -38,9 +37,7 @@ roots-of : (number : ℕ) (us : List CompilationUnit)
     → All (IsRootOf us number) (roots_from number us)
 roots-of number [] = All-nil (IsRootOf [] number)
 roots-of number (u ∷ us) =
-    let past : ℕ = number + count_by is_scope u.dies in
-    by_dies u.dies refl past refl (All-weaker (IsRootOf us past) (IsRootOf (u ∷ us) number)
-    (λ root at.
+    by_dies u.dies refl (All-weaker (IsRootOf us past) (IsRootOf (u ∷ us) number) (λ root at.
     let sum = sum_by-cons (λ (v : CompilationUnit). count_by is_scope v.dies) u
     (take at.unit us) in
     record {
@@ -49,29 +46,28 @@ roots-of number (u ∷ us) =
       of_is = at.of_is;
       die = at.die;
       die_is = at.die_is;
-      offset_is = at.offset_is;
-      stmt_list_is = at.stmt_list_is;
+      root_is = at.root_is;
       first_is = omega (arith, at.first_is, sum);
       past_is = at.past_is;
     }) (roots_from past us) (roots-of past us))
   where
-    by_dies : (dies : List Die) → u.dies ≡ dies → (past : ℕ)
-        → past ≡ number + count_by is_scope u.dies
-        → All (IsRootOf (u ∷ us) number) (roots_from past us)
+    past : ℕ
+    past = number + count_by is_scope u.dies
+
+    by_dies : (dies : List Die) → u.dies ≡ dies → All (IsRootOf (u ∷ us) number) (roots_from past us)
         → All (IsRootOf (u ∷ us) number) (root_of number past dies (roots_from past us))
-    by_dies [] is past past_is rest = rest
-    by_dies (die ∷ dies) is past past_is rest =
+    by_dies [] is rest = rest
+    by_dies (die ∷ dies) is rest =
         let none : first_number (u ∷ us) zero ≡ 0 = refl in
         All-cons (IsRootOf (u ∷ us) number) _ (roots_from past us) (record {
           unit = zero;
           of = u;
           of_is = refl;
           die = die;
-          die_is = ap (λ (ds : List Die). slice_get ds 0) is;
-          offset_is = refl;
-          stmt_list_is = ap stmt_list_of (sym is);
+          die_is = rw is refl;
+          root_is = (refl, rw is refl);
           first_is = omega (arith, none);
-          past_is = past_is;
+          past_is = refl;
         }) rest
 
 -- ---- the theorems
@@ -84,11 +80,10 @@ returns-clause-parts c s tree h = after-tree s tree h (λ tree. ArePartsFrom 0 (
     omega (arith, made, length-map parsed (λ (j : ParsedScope). j.scope), all-sites-count us) in
     subst (λ (n : ℕ). ArePartsFrom 0 n (roots_from 0 us)) size (roots-part 0 us))
 
-of-unit : (s : Sections) (us : List CompilationUnit) (parsed : List ParsedScope) (n : ℕ)
-    (j : ParsedScope) (root : Root) → AreUnitsIn s us → IsScopeAt s us parsed n j
-    → IsRootOf us 0 root → root.first ≤ j.scope.number → j.scope.number < root.past
-    → IsOfUnit root j.scope
-of-unit s us parsed n j root are x r from until =
+of-unit : (s : Sections) (us : List CompilationUnit) (n : ℕ) (scope : Scope) (root : Root)
+    → AreUnitsIn s us → IsScopeAt us n scope → IsRootOf us 0 root → root.first ≤ scope.number
+    → scope.number < root.past → IsOfUnit root scope
+of-unit s us n scope root are x r from until =
     let die = x.site.member.die in
     let k : ℕ = x.place.is.index in
     let next = first-next us r.unit r.of r.of_is in
@@ -101,20 +96,16 @@ of-unit s us parsed n j root are x r from until =
     let there = rw same at x.place.is.there in
     let rise = rise-order r.of.header.start r.of.header.end r.of.dies 0 k r.die die
     (dies-rise (are.each_is r.unit r.of r.of_is)) r.die_is there in
-    let offset = ap (λ (y : ParsedScope). y.scope.offset) x.is in
     record {
-      stmt_list_is = sym (ap (λ (y : ParsedScope). y.scope.stmt_list) x.is)
-          ∙ (ap (λ (u : CompilationUnit). stmt_list_of u.dies) same ∙ sym r.stmt_list_is);
+      stmt_list_is = rw (x.stmt_list_is, r.root_is.1, same) refl;
       ends = omega (arith, x.end_is, last, next, r.first_is, r.past_is);
-      starts = grind (arith, r.offset_is, r.die_is);
+      starts = grind (arith, x.offset_is, r.root_is.0, r.die_is);
     }
 
 pub returns-clause-scopes : goal.returns-clause-scopes
 returns-clause-scopes c s tree root scope h = after-tree s tree h (λ tree. Contains tree.roots root
     → Contains tree.scopes scope → root.first ≤ scope.number → scope.number < root.past
     → IsOfUnit root scope) (λ us parsed us_are parsed_are root_in scope_in.
-    let j = contained parsed scope scope_in in
-    subst (λ (x : Scope). root.first ≤ x.number → x.number < root.past → IsOfUnit root x) j.3
-    (of-unit s us parsed j.0 j.1 root (units-in s us us_are)
-    (scope-at s us parsed parsed_are j.0 j.1 j.2)
-    (All-contains (IsRootOf us 0) (roots_from 0 us) root (roots-of 0 us) root_in)))
+    let j = contained (scopes_in parsed) scope scope_in in
+    of-unit s us j.0 scope root (units-in s us us_are) (scope-at s us parsed parsed_are j.0 scope j.1)
+    (All-contains (IsRootOf us 0) (roots_from 0 us) root (roots-of 0 us) root_in))

@@ -1,7 +1,7 @@
-use Rattle.std.proofs.Common.{◌≡◌, ℕ, suc, ◌+◌, true, List, [], drop, take, refl, ap, sym, ◌∙◌}
-use Rattle.std.proofs.Common.{arith}
+use Rattle.std.proofs.Common.{◌≡◌, ℕ, suc, ◌+◌, true, List, [], drop, take, refl, ap, arith, sym}
+use Rattle.std.proofs.Common.{◌∙◌}
 use Rattle.std.specs.Prelude.{Option, Some, None, Ok, Contains, is_some, count_by}
-use Rattle.std.proofs.lemmas.Option.{same_Some, slice_get_within}
+use Rattle.std.proofs.lemmas.Option.{slice_get_within, get_or_from_slice_get}
 use Rattle.dwarf_bytes.proofs.Items.EachPlaces.{each-length}
 use Rattle.dwarf_walk.specs.declared.scope_kind.ScopeKind.{ScopeKind}
 use Rattle.dwarf_walk.specs.ScopeEntries.{kind_of, is_scope}
@@ -10,10 +10,11 @@ use Rattle.dwarf_entries.specs.Scopes.{Scope, ScopeSite, ParsedScope, roots_from
 use Rattle.dwarf_entries.specs.Private.Passes.{first_number, all_sites, parse_scope, all_scopes}
 use Rattle.dwarf_entries.specs.TreeLaws.{IsEntry}
 use Rattle.dwarf_entries.proofs.Results.TreeParts.{after-tree, with-units, scope-at, contained}
-use Rattle.dwarf_entries.proofs.Results.TreeParts.{contains, scopes_in}
+use Rattle.dwarf_entries.proofs.Results.TreeParts.{scopes_in}
 use Rattle.dwarf_entries.proofs.ScopePasses.SiteLaws.{site_at, site-of-entry}
 use Rattle.dwarf_entries.proofs.UnitPasses.PassLaws.{element}
 use Rattle.dwarf_entries.proofs.tree_laws.scopes_are_entries.Goals as goal
+use Rattle.std.proofs.lemmas.List.{length-map}
 
 pub returns-clause-units : goal.returns-clause-units
 returns-clause-units c s tree h = after-tree s tree h (λ tree. (units : List CompilationUnit)
@@ -24,8 +25,8 @@ pub returns-clause-entries : goal.returns-clause-entries
 returns-clause-entries c s tree us scope h us_are = with-units s us tree us_are h
     (λ tree. Contains tree.scopes scope → (unit place : ℕ) × IsEntry us unit place scope)
     (λ parsed parsed_are inside.
-    let j = contained parsed scope inside in
-    let at = scope-at s us parsed parsed_are j.0 j.1 j.2 in (
+    let j = contained (scopes_in parsed) scope inside in
+    let at = scope-at s us parsed parsed_are j.0 scope j.1 in (
       at.place.unit,
       at.place.is.index,
       record {
@@ -33,10 +34,8 @@ returns-clause-entries c s tree us scope h us_are = with-units s us tree us_are 
         of_is = at.place.unit_is;
         die = at.site.member.die;
         die_is = at.place.is.there;
-        offset_is = ap (λ (x : Scope). x.offset) (sym j.3)
-            ∙ sym (ap (λ (x : ParsedScope). x.scope.offset) at.is);
-        kind_is = at.place.is.kind_is ∙ ap (λ (k : ScopeKind). Some k)
-            (ap (λ (x : ParsedScope). x.scope.kind) at.is ∙ ap (λ (x : Scope). x.kind) j.3);
+        offset_is = at.offset_is;
+        kind_is = at.place.is.kind_is ∙ ap (λ (k : ScopeKind). Some k) (sym at.kind_is);
       },
     ))
 
@@ -56,20 +55,18 @@ returns-clause-scopes c s tree us unit place of die h us_are of_is die_is is =
         let there = site-of-entry us unit place of die kind of_is die_is at in
         let within = slice_get_within (all_sites us) n site there in
         let size = each-length (parse_scope s us) [] (all_sites us) parsed parsed_are in
-        let j = element parsed n (omega (arith, within, size)) in
+        let same = length-map parsed (λ (j : ParsedScope). j.scope) in
+        let j = element (scopes_in parsed) n (omega (arith, within, size, same)) in
         let found = scope-at s us parsed parsed_are n j.0 j.1 in
-        let same = same_Some site found.site (sym there ∙ found.there) in (
-          j.0.scope,
-          contains parsed n j.0 j.1,
+        let site_is : found.site ≡ site = grind (arith, found.there) in (
+          j.0,
+          (n, slice_get_within _ n j.0 j.1, get_or_from_slice_get _ n j.0 j.0 j.1),
           record {
             of = of;
             of_is = of_is;
             die = die;
             die_is = die_is;
-            offset_is = sym (ap (λ (x : ParsedScope). x.scope.offset) found.is)
-                ∙ ap (λ (p : ScopeSite). p.member.die.offset) (sym same);
-            kind_is = at ∙ ap (λ (k : ScopeKind). Some k)
-                (ap (λ (p : ScopeSite). p.kind) same
-                ∙ ap (λ (x : ParsedScope). x.scope.kind) found.is);
+            offset_is = rw found.offset_is (ap (λ (p : ScopeSite). p.member.die.offset) site_is);
+            kind_is = rw (found.kind_is, site_is) at;
           },
         )
