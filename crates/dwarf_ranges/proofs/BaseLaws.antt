@@ -1,13 +1,11 @@
 -- Table items beyond the end of the section, and the current base of a range list.
-use Rattle.std.proofs.Common.{◌≡◌, ℕ, ◌+◌, ◌*◌, ◌<◌, List, true, false, length, refl, arith, []}
-use Rattle.std.proofs.Common.{◌∷◌, ◌++◌, map}
-use Rattle.std.specs.Prelude.{Option, Some, Err, nat_lt, nat_le}
+use Rattle.std.proofs.Common.{◌≡◌, ℕ, ◌+◌, ◌*◌, ◌<◌, List, true, length, refl, arith, [], ◌∷◌, ◌++◌}
+use Rattle.std.proofs.Common.{map}
+use Rattle.std.specs.Prelude.{Option, Some, Err, nat_lt}
 use Rattle.std.proofs.lemmas.Bool.{lt-ltb, lt-leb}
 use Rattle.dwarf_bytes.specs.declared.fault.ReadFault.TheVariants.{Short}
 use Rattle.dwarf_bytes.specs.declared.format.Format.{Format}
-use Rattle.dwarf_bytes.specs.declared.format.Format.TheVariants.{Dwarf32, Dwarf64}
 use Rattle.dwarf_bytes.specs.declared.tables.TableKind.{TableKind}
-use Rattle.dwarf_bytes.specs.declared.tables.TableKind.TheVariants.{StrOffsets, Addr, RngLists}
 use Rattle.dwarf_bytes.specs.Numbers.{block_at, fixed_at}
 use Rattle.dwarf_ranges.specs.declared.bases.Table.{Table}
 use Rattle.dwarf_ranges.specs.Bases.{item_len, item_in, item_at}
@@ -26,26 +24,21 @@ fixed-outside n bytes at h =
 
 item-outside : (kind : TableKind) (format : Format) (bytes : List ℕ) (at : ℕ) → length bytes < at
     → item_in kind format bytes at ≡ Err Short
-item-outside StrOffsets Dwarf32 bytes at h = fixed-outside 4 bytes at h
-item-outside StrOffsets Dwarf64 bytes at h = fixed-outside 8 bytes at h
-item-outside Addr format bytes at h = fixed-outside 8 bytes at h
-item-outside RngLists Dwarf32 bytes at h = fixed-outside 4 bytes at h
-item-outside RngLists Dwarf64 bytes at h = fixed-outside 8 bytes at h
+item-outside kind format bytes at h =
+    let four = fixed-outside 4 bytes at h in
+    let eight = fixed-outside 8 bytes at h in
+    grind arith
 
 pub item_at-outside : (kind : TableKind) (section : List ℕ) (found : Option Table) (table : Table)
     (index place : ℕ) → found ≡ Some table → index < table.head.items
     → place ≡ table.base + item_len kind table.format * index → length section < place
     → Err causes.Short ≡ item_at kind section found index
-item_at-outside kind section found table index place is within at past =
-    let inside : nat_le table.head.items index ≡ false = lt-leb table.head.items index within in
-    let beyond : length section < table.base + item_len kind table.format * index =
-    omega (arith, at, past) in
-    rw (
-      is,
-      inside,
-      item-outside kind table.format section
-          (table.base + item_len kind table.format * index) beyond,
-    ) refl
+item_at-outside kind section found table index place is within at past = rw (
+  is,
+  lt-leb table.head.items index within,
+  ← at,
+  item-outside kind table.format section place past,
+) refl
 
 -- ---- the current base
 

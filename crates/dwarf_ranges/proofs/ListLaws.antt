@@ -1,6 +1,6 @@
 -- The loop over a range list.
 use Rattle.std.proofs.Common.{◌≡◌, ℕ, ◌+◌, ◌<◌, List, [], ◌∷◌, ◌++◌, length, refl, ap, sym, ◌∙◌}
-use Rattle.std.proofs.Common.{arith, append_assoc, length-append, append-nil}
+use Rattle.std.proofs.Common.{arith, append_assoc, length-append, append-nil, subst₂, subst}
 use Rattle.std.specs.Prelude.{Option, Result, Ok, Err, flat_map}
 use Rattle.std.proofs.lemmas.List.Concat.{flat_map-append}
 use Rattle.dwarf_bytes.specs.declared.fault.Cause.{Cause}
@@ -44,11 +44,10 @@ module _ {budget : ℕ} {sections : Sections} {bases : Bases} {first : ℕ} {kno
   here : (read : Result (Next RangeListEntry) Cause)
       → list_entry_of budget sections bases count base at.bytes at.place ≡ read
       → list_entry_at budget sections bases sections.debug_rnglists so_far.before at.place ≡ read
-  here read is =
-      sym (ap (λ (k : ℕ). list_entry_of budget sections bases k base at.bytes at.place)
-      so_far.counted ∙ (ap (λ (b : Option ℕ). list_entry_of budget sections bases
-      (length so_far.before) b at.bytes at.place) so_far.base_is ∙ ap (λ (bytes : List ℕ).
-      list_entry_at budget sections bases bytes so_far.before at.place) so_far.bytes_are)) ∙ is
+  here read is = subst₂ (λ (k : ℕ) (b : Option ℕ). list_entry_of budget sections bases k b
+      sections.debug_rnglists at.place ≡ read) so_far.counted so_far.base_is (subst
+      (λ (bytes : List ℕ). list_entry_of budget sections bases count base bytes at.place ≡ read)
+      so_far.bytes_are is)
 
   advances : Advances (length sections.debug_rnglists)
       (list_entry_at budget sections bases sections.debug_rnglists)
@@ -104,8 +103,7 @@ pub list_outside : (budget : ℕ) (sections : Sections) (bases : Bases) (place :
 unfolding list_at
 list_outside budget sections bases place h =
     let lists = sections.debug_rnglists in
-    let here : list_entry_at budget sections bases lists [] place ≡ Err causes.Short =
-    rw (fixed-outside 1 lists place h) refl in
-    rw (so-far-fault (length lists) (list_entry_at budget sections bases lists)
-    (list_entry_at-advances budget sections bases lists) place [] place causes.Short
-    (so-far-none (length lists) (list_entry_at budget sections bases lists) place) here) refl
+    let step = list_entry_at budget sections bases lists in
+    let here : step [] place ≡ Err causes.Short = rw (fixed-outside 1 lists place h) refl in
+    rw (so-far-fault (length lists) step (list_entry_at-advances budget sections bases lists) place
+    [] place causes.Short (so-far-none (length lists) step place) here) refl

@@ -1,15 +1,14 @@
 -- The ranges of an entry are nonempty, and the number of items that they are read from is within
 -- the budget.
-use Rattle.std.proofs.Common.{◌≡◌, ℕ, ◌+◌, ◌≤◌, List, [], ◌∷◌, ◌++◌, length, subst, arith}
-use Rattle.std.proofs.Common.{length-append}
-use Rattle.std.specs.Prelude.{Option, Some, None, Result, Ok, Err, ◌==◌, option_to_list, flat_map}
+use Rattle.std.proofs.Common.{◌≡◌, ℕ, ◌+◌, ◌≤◌, List, [], ◌∷◌, ◌++◌, length, arith, length-append}
+use Rattle.std.specs.Prelude.{Option, Some, None, Result, Ok, ◌==◌, option_to_list, flat_map, ◌≢◌}
 use Rattle.std.proofs.lemmas.List.Elements.{All-append}
 use Rattle.dwarf_bytes.specs.declared.constants.TheConstants.{DW_AT_HIGH_PC, DW_AT_LOW_PC}
 use Rattle.dwarf_bytes.specs.declared.constants.TheConstants.{DW_AT_RANGES}
 use Rattle.dwarf_bytes.specs.declared.fault.Cause.{Cause}
 use Rattle.dwarf_bytes.specs.declared.fault.Cause.TheVariants as causes
 use Rattle.dwarf_bytes.specs.Items.{At, Next, Lists, without_offset, items_from}
-use Rattle.dwarf_bytes.proofs.Numbers.Advance.{after-bind, after-test}
+use Rattle.dwarf_bytes.proofs.Numbers.Advance.{bind_ok, refuse_if-ok}
 use Rattle.dwarf_bytes.proofs.Items.ItemLaws.{Lists-within}
 use Rattle.dwarf_bytes.proofs.Numbers.Moves.{same-ok}
 use Rattle.dwarf_ranges.specs.declared.range.Range.{Range}
@@ -22,8 +21,7 @@ use Rattle.dwarf_ranges.specs.Bases.{address_of}
 use Rattle.dwarf_ranges.specs.Ranges.{Covering, ranges_in, base_after, list_entry_at, list_place}
 use Rattle.dwarf_ranges.specs.Ranges.{list_at, high_of, pair_range, pair_at, covers_by, covers_of}
 use Rattle.dwarf_ranges.specs.Ranges.{IsValidRange, AddsRanges}
-use Rattle.dwarf_ranges.proofs.EntryLaws.{AllHold, MayHold, none-holds, live-holds}
-use Rattle.dwarf_ranges.proofs.EntryLaws.{list_entry-facts}
+use Rattle.dwarf_ranges.proofs.EntryLaws.{AllHold, none-holds, live-holds, list_entry-facts}
 
 pub record Fits (budget : ℕ) (covering : Covering) : Type 0 where
   pub hold : AllHold covering.ranges
@@ -51,56 +49,43 @@ lists-hold budget sections bases lists before at (entry ∷ entries) after h le 
     )
 
 without_offset-ok : {X : Type 0} (r : Result X At) (x : X) → without_offset r ≡ Ok x → r ≡ Ok x
-without_offset-ok (Ok y) x h = cc
-without_offset-ok (Err e) x h = cc
+without_offset-ok r x h = grind arith
 
 list-fits : (budget : ℕ) (sections : Sections) (bases : Bases) (place : ℕ) (covering : Covering)
     → list_at budget sections bases place ≡ Ok covering → Fits budget covering
 unfolding list_at
 list-fits budget sections bases place covering h =
+    let lists = sections.debug_rnglists in
     let step : List RangeListEntry → ℕ → Result (Next RangeListEntry) Cause =
-    list_entry_at budget sections bases sections.debug_rnglists in
-    after-bind (without_offset (items_from (length sections.debug_rnglists) step [] place)) _
-    covering h
-    (Fits budget covering) (λ all all_are last.
-    let listed = Lists-within _ step [] place all.0 all.1
-    (without_offset-ok (items_from (length sections.debug_rnglists) step [] place) all all_are) in
-    let hold = lists-hold budget sections bases sections.debug_rnglists [] place all.0 all.1 listed
-    (omega arith) in
-    subst (Fits budget) (same-ok (record {
-      ranges = flat_map ranges_in all.0;
-      items = length all.0;
-    })
-    covering last) (record { hold = hold.0; counted = hold.1; within = omega (arith, hold.2) }))
+    list_entry_at budget sections bases lists in
+    let all = bind_ok (without_offset (items_from (length lists) step [] place)) _ covering h in
+    let listed = Lists-within _ step [] place all.0.0 all.0.1
+    (without_offset-ok (items_from (length lists) step [] place) all.0 all.1) in
+    let hold = lists-hold budget sections bases lists [] place all.0.0 all.0.1 listed (omega arith)
+    in
+    rw (← same-ok (record { ranges = flat_map ranges_in all.0.0; items = length all.0.0 }) covering
+    all.2) (record { hold = hold.0; counted = hold.1; within = omega (arith, hold.2) })
 
 pair-fits : (budget : ℕ) (sections : Sections) (bases : Bases) (low high : AttributeValue)
     (covering : Covering) → pair_at budget sections bases low high ≡ Ok covering
     → Fits budget covering
 pair-fits budget sections bases low high covering h =
-    after-test (budget == 0) causes.TooMany _ covering h (Fits budget covering) (λ some h1.
-    after-bind (pair_range sections bases low high) _ covering h1 (Fits budget covering)
-    (λ range range_is last.
-    let lt : 1 ≤ budget = grind arith in
-    subst (Fits budget) (same-ok (record { ranges = option_to_list range; items = 1 })
-    covering last)
-    (record { hold = range-holds range range_is; counted = at-most range; within = lt })))
-  where
-    range-holds : (range : Option Range) → pair_range sections bases low high ≡ Ok range
-        → MayHold range
-    range-holds range h =
-        after-bind (address_of sections bases.addr low) _ range h (MayHold range) (λ start _ h1.
-        after-bind (high_of sections bases start high) _ range h1 (MayHold range) (λ end _ last.
-        live-holds (start, end) range last))
-
-    at-most : (range : Option Range) → length (option_to_list range) ≤ 1
-    at-most None = omega arith
-    at-most (Some range) = omega arith
+    let some = refuse_if-ok (budget == 0) causes.TooMany _ covering h in
+    let range = bind_ok (pair_range sections bases low high) _ covering some.1 in
+    let start = bind_ok (address_of sections bases.addr low) _ range.0 range.1 in
+    let end = bind_ok (high_of sections bases start.0 high) _ range.0 start.2 in
+    let few : budget ≢ 0 = grind (arith, some.0) in
+    let one : (found : Option Range) → length (option_to_list found) ≤ 1 = λ found. grind arith in
+    rw (← same-ok (record { ranges = option_to_list range.0; items = 1 }) covering range.2) (record {
+      hold = live-holds (start.0, end.0) range.0 end.2;
+      counted = one range.0;
+      within = omega (arith, few);
+    })
 
 none-fits : (budget : ℕ) (covering : Covering)
     → (let f : Covering → Result Covering Cause = λ z. Ok z in f (record { ranges = []; items = 0 })
     ≡ f covering) → Fits budget covering
-none-fits budget covering h = subst (Fits budget)
-    (same-ok (record { ranges = []; items = 0 }) covering h)
+none-fits budget covering h = rw (← same-ok (record { ranges = []; items = 0 }) covering h)
     (record { hold = none-holds; counted = omega arith; within = omega arith })
 
 by-fits : (budget : ℕ) (sections : Sections) (bases : Bases)
@@ -108,8 +93,8 @@ by-fits : (budget : ℕ) (sections : Sections) (bases : Bases)
     (covering : Covering) → covers_by budget sections bases low high ranges ≡ Ok covering
     → Fits budget covering
 by-fits budget sections bases None None (Some ranges) covering h =
-    after-bind (list_place sections bases ranges) (list_at budget sections bases) covering h
-    (Fits budget covering) (λ place _ last. list-fits budget sections bases place covering last)
+    let place = bind_ok (list_place sections bases ranges) _ covering h in
+    list-fits budget sections bases place.0 covering place.2
 by-fits budget sections bases None (Some high) (Some ranges) covering h = cc
 by-fits budget sections bases (Some low) None (Some ranges) covering h = cc
 by-fits budget sections bases (Some low) (Some high) (Some ranges) covering h = cc
