@@ -1,7 +1,6 @@
 pub mod PassLaws
 pub mod EntriesPass
 pub mod BasesPass
-pub mod StoredUnits
 pub mod HeaderLaws
 pub mod UnitLaws
 pub mod RereadLaws

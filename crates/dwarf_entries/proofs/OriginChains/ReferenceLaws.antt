@@ -22,7 +22,7 @@ use Rattle.dwarf_entries.specs.Names.{Member, members_of, member_at, target_of}
 use Rattle.dwarf_entries.specs.Private.EntryOffsets.{AreStored}
 use Rattle.dwarf_entries.specs.Private.Members.{IsWithin, member_in}
 use Rattle.dwarf_entries.proofs.UnitPasses.PassLaws.{element}
-use Rattle.dwarf_entries.proofs.UnitPasses.StoredUnits.{stored-at, stored-index, stored-length}
+use Rattle.dwarf_entries.proofs.UnitPasses.UnitLaws.{stored-at, stored-index, stored-length}
 use Rattle.dwarf_entries.proofs.UnitPasses.UnitLaws.{AreUnitsIn, dies-rise}
 
 -- ---- the entry at an offset of a unit

@@ -1,21 +1,50 @@
--- One more scope after those that share lists.
-use Rattle.std.proofs.Common.{◌≡◌, ℕ, ◌+◌, ◌-◌, ◌≤◌, List, [], ◌∷◌, ◌++◌, length, take, drop, ap}
-use Rattle.std.proofs.Common.{sym, ◌∙◌, arith, length-append, refl}
-use Rattle.std.specs.Prelude.{None}
+-- The scopes of a result in the lists that they share, and one more scope after them.
+use Rattle.std.proofs.Common.{◌≡◌, ℕ, zero, suc, ◌-◌, List, [], ◌∷◌, length, take, drop, refl, ap}
+use Rattle.std.proofs.Common.{sym, ◌∙◌, arith, ◌+◌, ◌≤◌, ◌++◌, length-append}
+use Rattle.std.specs.Prelude.{slice_get, option_map, None}
+use Rattle.dwarf_entries.specs.declared.calls.CallSite.{CallSite}
+use Rattle.dwarf_ranges.specs.declared.range.Range.{Range}
+use Rattle.dwarf_entries.specs.declared.scope.Root.{Root}
+use Rattle.dwarf_entries.specs.declared.scope.Scope.{Scope as StoredScope}
+use Rattle.dwarf_entries.specs.Scopes.{scope_of, scopes_from, Scope, call_site, scopes_of}
+use Rattle.dwarf_entries.specs.Scopes.{wide_index}
+use Rattle.dwarf_entries.specs.Private.Shared.{ranges_start, IsInList, AreConsecutive, facts_of}
+use Rattle.dwarf_entries.specs.Private.Shared.{IsPushed}
+use Rattle.std.proofs.lemmas.Grind.{common_steps}
 use Rattle.std.proofs.lemmas.List.{take-append-le, drop-append-le, get_or_append_left, length-drop}
 use Rattle.std.proofs.lemmas.List.{take_all}
 use Rattle.std.proofs.lemmas.Option.{unwrap_or-slice_get}
 use Rattle.std.proofs.Math.Seq.{drop-append_seam}
-use Rattle.dwarf_entries.specs.declared.calls.CallSite.{CallSite}
 use Rattle.dwarf_entries.specs.declared.calls.Calls.{Calls}
-use Rattle.dwarf_ranges.specs.declared.range.Range.{Range}
-use Rattle.dwarf_entries.specs.declared.scope.Root.{Root}
-use Rattle.dwarf_entries.specs.declared.scope.Scope.{Scope as StoredScope}
 use Rattle.dwarf_entries.specs.declared.scope.ScopeFacts.{ScopeFacts}
 use Rattle.dwarf_entries.specs.declared.scope_lists.ScopeLists.{ScopeLists}
-use Rattle.dwarf_entries.specs.Scopes.{Scope, call_site, scope_of, scopes_from, scopes_of}
-use Rattle.dwarf_entries.specs.Scopes.{wide_index}
-use Rattle.dwarf_entries.specs.Private.Shared.{IsInList, AreConsecutive, facts_of, IsPushed}
+
+-- ---- the scope at an index
+
+start-next : (first : ℕ) (s : StoredScope) (ss : List StoredScope) (n : ℕ)
+    → ranges_start first (s ∷ ss) (suc n) ≡ ranges_start s.ranges_end ss n
+start-next first s ss zero = refl
+start-next first s ss (suc n) = grind (arith, common_steps)
+
+pub scopes-at : (roots : List Root) (wide : List CallSite) (ranges : List Range) (first : ℕ)
+    (ss : List StoredScope) (n : ℕ)
+    → slice_get (scopes_from roots wide ranges first ss) n
+    ≡ option_map (λ s. scope_of roots wide
+    (take (s.ranges_end - ranges_start first ss n) (drop (ranges_start first ss n) ranges)) s)
+    (slice_get ss n)
+scopes-at roots wide ranges first [] n = refl
+scopes-at roots wide ranges first (s ∷ ss) zero = refl
+scopes-at roots wide ranges first (s ∷ ss) (suc n) =
+    scopes-at roots wide ranges s.ranges_end ss n
+    ∙ ap (λ (start : ℕ). option_map (λ t. scope_of roots wide
+    (take (t.ranges_end - start) (drop start ranges)) t) (slice_get ss n))
+    (sym (start-next first s ss n))
+
+pub scopes-length : (roots : List Root) (wide : List CallSite) (ranges : List Range) (first : ℕ)
+    (ss : List StoredScope) → length (scopes_from roots wide ranges first ss) ≡ length ss
+scopes-length roots wide ranges first [] = refl
+scopes-length roots wide ranges first (s ∷ ss) =
+    ap suc (scopes-length roots wide ranges s.ranges_end ss)
 
 -- ---- one more scope
 

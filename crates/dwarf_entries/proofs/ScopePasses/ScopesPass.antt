@@ -20,9 +20,8 @@ use Rattle.dwarf_entries.specs.Scopes.{roots_from}
 use Rattle.dwarf_entries.specs.Private.Passes.{IsScopeSite, IsSiteRead, AreParsedTo, first_number}
 use Rattle.dwarf_entries.specs.Private.Passes.{all_sites, all_scopes}
 use Rattle.dwarf_entries.specs.Private.Shared.{AddsFacts, facts_of, IsPushed}
-use Rattle.dwarf_entries.proofs.RootPasses.RootNumbers.{by_number}
-use Rattle.dwarf_entries.proofs.ScopePasses.PushedScopes.{pushed}
-use Rattle.dwarf_entries.proofs.ScopePasses.SharedLaws.{scopes-length}
+use Rattle.dwarf_entries.proofs.ScopePasses.RootsPass.{by_number}
+use Rattle.dwarf_entries.proofs.ScopePasses.PushedScopes.{pushed, scopes-length}
 use Rattle.dwarf_entries.proofs.ScopePasses.SiteLaws.{site-in, sites-count}
 use Rattle.dwarf_entries.proofs.UnitPasses.PassLaws.{Faults, item-fault, pass-next, pass-fault}
 use Rattle.dwarf_entries.proofs.UnitPasses.PassLaws.{pass-end}

@@ -5,11 +5,7 @@ use Rattle.std.proofs.lemmas.List.{map_push}
 use Rattle.dwarf_bytes.specs.declared.fault.Section.TheVariants as names
 use Rattle.dwarf_bytes.specs.declared.fault.LoadFault.{LoadFault}
 use Rattle.dwarf_bytes.specs.declared.format.Format.{Format}
-use Rattle.dwarf_bytes.specs.Items.{each_from}
 use Rattle.dwarf_bytes.specs.Refusals.{in_section}
-use Rattle.dwarf_bytes.proofs.Numbers.Advance.{bind_ok}
-use Rattle.dwarf_bytes.proofs.Numbers.Moves.{same-ok}
-use Rattle.dwarf_units.specs.declared.unit_headers.UnitHeader.{UnitHeader}
 use Rattle.dwarf_units.specs.Entries.{Die}
 use Rattle.dwarf_units.proofs.TableLaws.{in_section-ok}
 use Rattle.dwarf_walk.specs.declared.unit_entries.UnitEntries.{UnitEntries}
@@ -20,7 +16,7 @@ use Rattle.dwarf_entries.specs.Units.{CompilationUnit, bases_of_first, with_base
 use Rattle.dwarf_entries.specs.Private.EntryOffsets.{stored_unit_of}
 use Rattle.dwarf_entries.specs.Private.Passes.{PassedTo, bases_in, bases_of, all_bases}
 use Rattle.dwarf_entries.proofs.UnitPasses.PassLaws.{Faults, first-fault, pass-next, pass-fault}
-use Rattle.dwarf_entries.proofs.UnitPasses.StoredUnits.{StoredFor}
+use Rattle.dwarf_entries.proofs.UnitPasses.UnitLaws.{StoredFor}
 
 -- The units before the index, and the bases that their roots define.
 pub record BasesSoFar (s : Sections) (us : List CompilationUnit) (index : ℕ) (all : List Bases)
@@ -63,26 +59,3 @@ module _ {s : Sections} {us : List CompilationUnit} {index : ℕ} {all : List Ba
       → Faults fault (all_bases s us)
   bases-fault bad = pass-fault so_far.passed here.unit here.is (first-fault _ _
       (rw (bases-same s here.unit unit here.stored) at bad))
-
-pub with_bases-parts : (s : Sections) (u v : CompilationUnit) → with_bases s u ≡ Ok v
-    → (v.header ≡ u.header) × (v.dies ≡ u.dies)
-with_bases-parts s u v h =
-    let b = bind_ok (bases_of_first s u.header.format u.dies) _ v h in
-    rw (← same-ok (record { header = u.header; dies = u.dies; bases = b.0 }) v b.2) (refl, refl)
-
--- The headers and the entries of units stay the same.
-pub bases-stay : {Z : Type 0} (f : UnitHeader → List Die → Z) (s : Sections)
-    (before us vs : List CompilationUnit) → each_from (λ _ u. with_bases s u) before us ≡ Ok vs
-    → map (λ v. f v.header v.dies) vs ≡ map (λ u. f u.header u.dies) us
-unfolding each_from
-bases-stay f s before [] vs h = rw (← same-ok [] vs h) refl
-bases-stay f s before (u ∷ us) vs h =
-    let v = bind_ok (with_bases s u) _ vs h in
-    let rest = bind_ok (each_from (λ _ u. with_bases s u) (before ++ v.0 ∷ []) us) _ vs v.2 in
-    let parts = with_bases-parts s u v.0 v.1 in
-    rw (
-      ← same-ok (v.0 ∷ rest.0) vs rest.2,
-      bases-stay f s (before ++ v.0 ∷ []) us rest.0 rest.1,
-      parts.0,
-      parts.1,
-    ) refl

@@ -1,6 +1,7 @@
--- Re-reading the entries of a unit at their offsets.
+-- Re-reading the entries of a unit at their offsets, and the scope sites of a unit from its stored
+-- data.
 use Rattle.std.proofs.Common.{◌≡◌, ℕ, ◌≤◌, List, length, take, true, refl, ap, sym, ◌∙◌, arith}
-use Rattle.std.proofs.Common.{subst}
+use Rattle.std.proofs.Common.{subst, [], ◌∷◌, get_or, map}
 use Rattle.std.specs.Prelude.{Some, Result, Ok, slice_get}
 use Rattle.dwarf_bytes.specs.declared.constants.TheConstants.{DW_AT_CALL_FILE, DW_AT_CALL_LINE}
 use Rattle.dwarf_bytes.specs.declared.constants.TheConstants.{DW_AT_HIGH_PC, DW_AT_LOW_PC}
@@ -24,15 +25,19 @@ use Rattle.dwarf_entries.specs.Names.{Member}
 use Rattle.dwarf_walk.specs.declared.unit_entries.UnitEntries.{UnitEntries}
 use Rattle.dwarf_entries.specs.Private.EntryOffsets.{AreStored, stored_unit_of}
 use Rattle.dwarf_entries.specs.Private.Members.{IsPlaceOf}
-use Rattle.dwarf_entries.proofs.UnitPasses.StoredUnits.{stored-index}
+use Rattle.dwarf_entries.proofs.UnitPasses.UnitLaws.{stored-index, IsUnitIn, AreUnitsIn}
 use Rattle.dwarf_walk.specs.ScopeEntries.{kind_of}
-use Rattle.dwarf_walk.specs.Stored.{StoredUnit, named_entry, scope_entry, stored_of}
+use Rattle.dwarf_walk.specs.Stored.{StoredUnit, named_entry, scope_entry, stored_of, scope_places}
 use Rattle.dwarf_walk.specs.Private.Rereading.{scope_entry_at}
 use Rattle.dwarf_units.proofs.RereadLaws.{entries-again}
-use Rattle.dwarf_entries.proofs.UnitPasses.UnitLaws.{IsUnitIn, AreUnitsIn}
 use Rattle.dwarf_walk.specs.Private.Named.{used_at, named_entry_at}
 use Rattle.dwarf_walk.proofs.StoredNodes.{value-stored, stored_die, names_at-stored}
 use Rattle.dwarf_walk.proofs.RereadLaws.{without_place, inside-is}
+use Rattle.std.proofs.lemmas.List.{get_or-map, length-map}
+use Rattle.std.proofs.lemmas.Option.{slice_get_within, get_or_from_slice_get}
+use Rattle.dwarf_walk.specs.declared.unit_entries.ScopePlace.{ScopePlace}
+use Rattle.dwarf_entries.specs.Scopes.{ScopeSite, sites_in}
+use Rattle.dwarf_entries.proofs.ScopePasses.SiteLaws.{site-in}
 
 -- ---- the used attributes
 
@@ -104,4 +109,41 @@ reread s us stored place m k are same found at =
       read,
       rw (← at.offset_is)
           (names_at-there s k.header m.unit.dies at.index m.die read at.there),
+    )
+
+abbrev place_in : ScopeSite → ScopePlace
+place_in p = record { offset = p.member.die.offset; inside = p.inside }
+
+places-are : (u : CompilationUnit) (dies : List Die)
+    → scope_places dies ≡ map place_in (sites_in u dies)
+places-are u [] = refl
+places-are u (die ∷ rest) = let later = places-are u rest in grind arith
+
+-- A unit has as many stored elements as sites.
+pub sites-stored : (k : UnitEntries) (u : CompilationUnit) → stored_of k ≡ stored_unit_of u
+    → length k.scopes.items ≡ length (sites_in u u.dies)
+sites-stored k u same = ap (λ (x : StoredUnit). length x.scopes) same
+    ∙ (ap (λ (ps : List ScopePlace). length ps) (places-are u u.dies)
+    ∙ length-map (sites_in u u.dies) place_in)
+
+-- The site at an index of the stored data of a unit, which can be re-read.
+pub site-read : (s : Sections) (u : CompilationUnit) (i : ℕ) (p : ScopeSite) (k : UnitEntries)
+    (stored : ScopePlace) (read : IsUnitIn s k.header u.dies) → stored_of k ≡ stored_unit_of u
+    → slice_get (sites_in u u.dies) i ≡ Some p → stored ≡ get_or k.scopes.items i stored
+    → (stored.inside ≡ p.inside)
+    × (scope_entry_at k.header.format read.table (bytes_in s k.header) stored.offset
+    ≡ Ok (scope_entry p.member.die p.kind))
+site-read s u i p k stored read same found here =
+    let sites = sites_in u u.dies in
+    let at = site-in u u.dies i p found in
+    let is : stored ≡ place_in p =
+    here ∙ (ap (λ (ps : List ScopePlace). get_or ps i stored)
+    (ap (λ (x : StoredUnit). x.scopes) same ∙ places-are u u.dies)
+    ∙ (get_or-map place_in sites i p stored (slice_get_within sites i p found)
+    ∙ ap place_in (get_or_from_slice_get sites i p p found))) in
+    subst (λ (q : ScopePlace). (q.inside ≡ p.inside)
+    × (scope_entry_at k.header.format read.table (bytes_in s k.header) q.offset
+    ≡ Ok (scope_entry p.member.die p.kind))) (sym is) (
+      refl,
+      scope-there s k.header u.dies at.index p.member.die read at.there p.kind at.kind_is,
     )

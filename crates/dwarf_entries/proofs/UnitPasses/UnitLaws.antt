@@ -1,9 +1,12 @@
--- The units of an object, as they were read from its sections, and the faults of reading them.
+-- The units of an object, as they were read from its sections, and the data that is stored for them.
 use Rattle.std.proofs.Common.{◌≡◌, ℕ, zero, suc, ◌<◌, ◌≤◌, List, [], ◌∷◌, length, map, false, Bool}
-use Rattle.std.proofs.Common.{◌==◌, ◌||◌, refl, ap, sym, ◌∙◌, subst, arith, subst₂}
-use Rattle.std.specs.Prelude.{Some, Result, Ok, Err, zip, slice_get, flat_map}
+use Rattle.std.proofs.Common.{◌==◌, ◌||◌, refl, ap, sym, ◌∙◌, subst, arith, subst₂, get_or, ◌+◌}
+use Rattle.std.proofs.Common.{◌++◌}
+use Rattle.std.specs.Prelude.{Some, Result, Ok, Err, zip, slice_get, flat_map, Option, None}
+use Rattle.std.specs.Prelude.{option_map}
 use Rattle.std.specs.List.{list_any}
-use Rattle.std.proofs.lemmas.Option.{slice_get_within, get_or_from_slice_get}
+use Rattle.std.proofs.lemmas.Option.{slice_get_within, get_or_from_slice_get, slice_get-map}
+use Rattle.std.proofs.lemmas.Option.{slice_get_read, same_Some}
 use Rattle.dwarf_bytes.specs.declared.fault.Section.TheVariants as names
 use Rattle.dwarf_bytes.specs.declared.fault.LoadFault.{LoadFault}
 use Rattle.dwarf_bytes.specs.Refusals.{in_section}
@@ -21,13 +24,43 @@ use Rattle.dwarf_walk.specs.declared.entry_bitmap.EntryBitmap.{EntryBitmap}
 use Rattle.dwarf_walk.specs.EntryBitmap.{has_entry, AddsOffsets, offsets_of}
 use Rattle.dwarf_walk.specs.Sections.{Sections}
 use Rattle.dwarf_entries.specs.Units.{CompilationUnit, with_bases, unit_of, units_read}
+use Rattle.dwarf_entries.specs.Units.{bases_of_first}
 use Rattle.dwarf_ranges.specs.Bases.{no_bases}
-use Rattle.dwarf_entries.specs.Private.EntryOffsets.{IsBitmapOf, all_offsets, dies_of}
+use Rattle.dwarf_entries.specs.Private.EntryOffsets.{IsBitmapOf, all_offsets, dies_of, AreStored}
+use Rattle.dwarf_entries.specs.Private.EntryOffsets.{stored_unit_of}
 use Rattle.dwarf_entries.specs.Private.ObjectUnits.{ObjectUnits, units_or_none, units_of_object}
 use Rattle.dwarf_entries.specs.Private.Passes.{all_entries, all_bases}
-use Rattle.dwarf_entries.proofs.UnitPasses.BasesPass.{with_bases-parts}
 use Rattle.dwarf_entries.proofs.UnitPasses.HeaderLaws.{HasBounds, headers-in}
 use Rattle.dwarf_entries.proofs.UnitPasses.PassLaws.{each-at}
+use Rattle.std.proofs.lemmas.List.{length-map}
+use Rattle.dwarf_walk.specs.declared.unit_entries.UnitEntries.{UnitEntries}
+use Rattle.dwarf_walk.specs.Stored.{stored_of}
+use Rattle.dwarf_bytes.specs.Items.{each_from}
+
+-- ---- the headers and the entries of units, which their bases do not change
+
+pub with_bases-parts : (s : Sections) (u v : CompilationUnit) → with_bases s u ≡ Ok v
+    → (v.header ≡ u.header) × (v.dies ≡ u.dies)
+with_bases-parts s u v h =
+    let b = bind_ok (bases_of_first s u.header.format u.dies) _ v h in
+    rw (← same-ok (record { header = u.header; dies = u.dies; bases = b.0 }) v b.2) (refl, refl)
+
+-- The headers and the entries of units stay the same.
+pub bases-stay : {Z : Type 0} (f : UnitHeader → List Die → Z) (s : Sections)
+    (before us vs : List CompilationUnit) → each_from (λ _ u. with_bases s u) before us ≡ Ok vs
+    → map (λ v. f v.header v.dies) vs ≡ map (λ u. f u.header u.dies) us
+unfolding each_from
+bases-stay f s before [] vs h = rw (← same-ok [] vs h) refl
+bases-stay f s before (u ∷ us) vs h =
+    let v = bind_ok (with_bases s u) _ vs h in
+    let rest = bind_ok (each_from (λ _ u. with_bases s u) (before ++ v.0 ∷ []) us) _ vs v.2 in
+    let parts = with_bases-parts s u v.0 v.1 in
+    rw (
+      ← same-ok (v.0 ∷ rest.0) vs rest.2,
+      bases-stay f s (before ++ v.0 ∷ []) us rest.0 rest.1,
+      parts.0,
+      parts.1,
+    ) refl
 
 -- ---- the units that were read
 
@@ -146,3 +179,44 @@ all-marked none bitmap us vs empty adds same at =
     let p : ℕ → Bool = λ offset. offset == at in
     adds at ∙ (ap (λ (b : Bool). b || list_any p (all_offsets us)) (empty at)
     ∙ ap (λ (dies : List (List Die)). list_any p (flat_map offsets_of dies)) (sym same))
+
+-- The unit at an index, which the data is stored for.
+pub record StoredFor (us : List CompilationUnit) (n : ℕ) (k : UnitEntries) : Type 0 where
+  pub unit : CompilationUnit
+  pub is : slice_get us n ≡ Some unit
+  pub stored : stored_of k ≡ stored_unit_of unit
+
+pub stored-length : (stored : List UnitEntries) (us : List CompilationUnit) → AreStored stored us
+    → length stored ≡ length us
+stored-length stored us same =
+    rw (← length-map stored stored_of, same) (length-map us stored_unit_of)
+
+-- The element at an index of the program is at that index of the list.
+pub stored-here : (stored : List UnitEntries) (us : List CompilationUnit) (n : ℕ) (k : UnitEntries)
+    → AreStored stored us → n < length us → k ≡ get_or stored n k → slice_get stored n ≡ Some k
+stored-here stored us n k same within is =
+    let sizes = stored-length stored us same in
+    slice_get_read stored (length stored) n k refl (omega (arith, sizes, within)) is
+
+stored-same : (stored : List UnitEntries) (us : List CompilationUnit) (n : ℕ) (k : UnitEntries)
+    → AreStored stored us → slice_get stored n ≡ Some k
+    → Some (stored_of k) ≡ option_map stored_unit_of (slice_get us n)
+stored-same stored us n k same found =
+    rw (← slice_get-map stored_unit_of us n, ← same, slice_get-map stored_of stored n, found) refl
+
+pub stored-at : (stored : List UnitEntries) (us : List CompilationUnit) (n : ℕ) (k : UnitEntries)
+    → AreStored stored us → slice_get stored n ≡ Some k → StoredFor us n k
+stored-at stored us n k same found =
+    by_unit (slice_get us n) refl (stored-same stored us n k same found)
+  where
+    by_unit : (u : Option CompilationUnit) → slice_get us n ≡ u
+        → Some (stored_of k) ≡ option_map stored_unit_of u → StoredFor us n k
+    by_unit None is h = cc
+    by_unit (Some u) is h = record { unit = u; is = is; stored = cc }
+
+pub stored-index : (stored : List UnitEntries) (us : List CompilationUnit) (n : ℕ) (k : UnitEntries)
+    → AreStored stored us → slice_get stored n ≡ Some k → (u : CompilationUnit)
+    → slice_get us n ≡ Some u → stored_of k ≡ stored_unit_of u
+stored-index stored us n k same found u is =
+    same_Some (stored_of k) (stored_unit_of u)
+    (stored-same stored us n k same found ∙ ap (option_map stored_unit_of) is)

@@ -2,7 +2,7 @@ use Rattle.std.proofs.Common.{[], refl, arith}
 use Rattle.std.proofs.lemmas.Option.{slice_get_read}
 use Rattle.dwarf_entries.proofs.UnitPasses.BasesPass.{bases-next, bases-fault}
 use Rattle.dwarf_entries.proofs.UnitPasses.PassLaws.{pass-none, pass-end, exit}
-use Rattle.dwarf_entries.proofs.UnitPasses.StoredUnits.{stored-at, stored-length}
+use Rattle.dwarf_entries.proofs.UnitPasses.UnitLaws.{stored-at, stored-length}
 use Rattle.dwarf_entries.proofs.passes.all_bases.Goals as goal
 
 pub loop-unit-init : goal.loop-unit-init

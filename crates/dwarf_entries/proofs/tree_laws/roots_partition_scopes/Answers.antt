@@ -20,7 +20,7 @@ use Rattle.dwarf_entries.proofs.Results.TreeParts.{scopes_in}
 use Rattle.dwarf_entries.proofs.ScopePasses.SiteLaws.{first-next, all-sites-count}
 use Rattle.dwarf_entries.proofs.UnitPasses.UnitLaws.{AreUnitsIn, dies-rise, units-in}
 use Rattle.dwarf_entries.proofs.tree_laws.roots_partition_scopes.Goals as goal
-use Rattle.dwarf_entries.proofs.RootPasses.RootsPass.{roots-part}
+use Rattle.dwarf_entries.proofs.ScopePasses.RootsPass.{roots-part}
 
 -- Each root belongs to a unit with entries.
 record IsRootOf (us : List CompilationUnit) (number : ℕ) (root : Root) : Type 0 where

@@ -1,5 +1,5 @@
 use Rattle.std.proofs.Common.{arith, refl}
-use Rattle.dwarf_entries.proofs.RootPasses.RootsPass.{count-within}
+use Rattle.dwarf_entries.proofs.ScopePasses.RootsPass.{count-within}
 use Rattle.dwarf_entries.proofs.unit_scopes.scope_count.Goals as goal
 
 pub loop-unit-preserved : goal.loop-unit-preserved

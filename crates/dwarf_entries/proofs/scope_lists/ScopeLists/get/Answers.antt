@@ -1,5 +1,5 @@
 use Rattle.std.proofs.Common.{refl}
-use Rattle.dwarf_entries.proofs.ScopePasses.SharedLaws.{scopes-at}
+use Rattle.dwarf_entries.proofs.ScopePasses.PushedScopes.{scopes-at}
 use Rattle.dwarf_entries.proofs.UnitPasses.PassLaws.{found-at, not-at}
 use Rattle.dwarf_entries.proofs.scope_lists.ScopeLists.get.Goals as goal
 

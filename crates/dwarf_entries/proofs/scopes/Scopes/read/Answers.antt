@@ -3,7 +3,7 @@ use Rattle.std.proofs.lemmas.List.{length-map}
 use Rattle.dwarf_bytes.proofs.Items.EachPlaces.{each-length}
 use Rattle.dwarf_entries.specs.Scopes.{Scope, ParsedScope, roots_from, tree_of}
 use Rattle.dwarf_entries.specs.Private.Passes.{parse_scope, all_sites}
-use Rattle.dwarf_entries.proofs.ScopePasses.SharedLaws.{scopes-length}
+use Rattle.dwarf_entries.proofs.ScopePasses.PushedScopes.{scopes-length}
 use Rattle.dwarf_entries.proofs.ScopePasses.SiteLaws.{all-sites-count}
 use Rattle.dwarf_entries.proofs.scopes.Scopes.read.Goals as goal
 use Rattle.dwarf_entries.proofs.UnitPasses.PassLaws.{exit, step-fault}

@@ -5,10 +5,9 @@ use Rattle.dwarf_units.proofs.TableLaws.{in_section-ok}
 use Rattle.dwarf_walk.specs.Stored.{stored_unit}
 use Rattle.dwarf_walk.specs.Sections.{sections_of}
 use Rattle.dwarf_entries.proofs.OriginChains.ChainStrings.{cache-none}
-use Rattle.dwarf_entries.proofs.UnitPasses.BasesPass.{bases-stay}
+use Rattle.dwarf_entries.proofs.UnitPasses.UnitLaws.{bases-stay, all-marked}
 use Rattle.dwarf_entries.proofs.units.Units.read.Goals as goal
 use Rattle.dwarf_entries.proofs.UnitPasses.PassLaws.{exit, step-fault}
-use Rattle.dwarf_entries.proofs.UnitPasses.UnitLaws.{all-marked}
 use Rattle.dwarf_entries.specs.Units.{units_read}
 
 pub returns-in_err-headers-clause-units : goal.returns-in_err-headers-clause-units

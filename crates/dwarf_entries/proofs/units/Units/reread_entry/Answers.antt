@@ -6,8 +6,7 @@ use Rattle.dwarf_walk.proofs.RereadLaws.{again-memory}
 use Rattle.dwarf_entries.proofs.UnitPasses.ObjectLaws.{seen, seen-units, with-reader}
 use Rattle.dwarf_entries.proofs.UnitPasses.PassLaws.{found-at, exit}
 use Rattle.dwarf_entries.proofs.UnitPasses.RereadLaws.{reread}
-use Rattle.dwarf_entries.proofs.UnitPasses.StoredUnits.{stored-length}
-use Rattle.dwarf_entries.proofs.UnitPasses.UnitLaws.{object-units}
+use Rattle.dwarf_entries.proofs.UnitPasses.UnitLaws.{stored-length, object-units}
 use Rattle.dwarf_entries.proofs.units.Units.reread_entry.Goals as goal
 
 pub returns-in_default-clause-member : goal.returns-in_default-clause-member

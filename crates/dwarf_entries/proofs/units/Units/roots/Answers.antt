@@ -3,9 +3,9 @@ use Rattle.std.specs.Prelude.{Some, None}
 use Rattle.std.proofs.lemmas.List.{take_all}
 use Rattle.std.proofs.lemmas.Option.{slice_get_read}
 use Rattle.dwarf_entries.specs.Scopes.{roots_from}
-use Rattle.dwarf_entries.proofs.RootPasses.RootsPass.{past-is, roots-next, ends-rise}
+use Rattle.dwarf_entries.proofs.ScopePasses.RootsPass.{past-is, roots-next, ends-rise}
 use Rattle.dwarf_entries.proofs.UnitPasses.ObjectLaws.{seen-units}
-use Rattle.dwarf_entries.proofs.UnitPasses.StoredUnits.{stored-at, stored-length}
+use Rattle.dwarf_entries.proofs.UnitPasses.UnitLaws.{stored-at, stored-length}
 use Rattle.dwarf_entries.proofs.units.Units.roots.Goals as goal
 use Rattle.dwarf_entries.proofs.units.Units.roots.Goals.{in-Some+in_ok-push, in_default}
 

@@ -1,8 +1,8 @@
 use Rattle.std.proofs.Common.{◌∙◌}
 use Rattle.std.proofs.lemmas.Option.{slice_get_within}
-use Rattle.dwarf_entries.proofs.ScopePasses.SiteReads.{sites-stored}
+use Rattle.dwarf_entries.proofs.UnitPasses.RereadLaws.{sites-stored}
 use Rattle.dwarf_entries.proofs.UnitPasses.ObjectLaws.{seen}
-use Rattle.dwarf_entries.proofs.UnitPasses.StoredUnits.{stored-here, stored-index}
+use Rattle.dwarf_entries.proofs.UnitPasses.UnitLaws.{stored-here, stored-index}
 use Rattle.dwarf_entries.proofs.units.Units.scopes_in.Goals as goal
 
 pub returns : goal.returns

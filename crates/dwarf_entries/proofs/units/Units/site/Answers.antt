@@ -6,13 +6,11 @@ use Rattle.dwarf_bytes.proofs.Numbers.Moves.{same-ok}
 use Rattle.dwarf_walk.specs.Stored.{scope_entry}
 use Rattle.dwarf_walk.proofs.RereadLaws.{again-memory}
 use Rattle.dwarf_entries.specs.Scopes.{sites_in}
-use Rattle.dwarf_entries.proofs.ScopePasses.SiteReads.{sites-stored, site-read}
+use Rattle.dwarf_entries.proofs.UnitPasses.RereadLaws.{sites-stored, site-read, stored-in}
 use Rattle.dwarf_entries.proofs.UnitPasses.ObjectLaws.{seen, with-reader}
 use Rattle.dwarf_entries.proofs.UnitPasses.PassLaws.{element}
-use Rattle.dwarf_entries.proofs.UnitPasses.StoredUnits.{stored-here, stored-index}
-use Rattle.dwarf_entries.proofs.UnitPasses.UnitLaws.{object-units}
+use Rattle.dwarf_entries.proofs.UnitPasses.UnitLaws.{stored-here, stored-index, object-units}
 use Rattle.dwarf_entries.proofs.units.Units.site.Goals as goal
-use Rattle.dwarf_entries.proofs.UnitPasses.RereadLaws.{stored-in}
 
 pub index-place-requires : goal.index-place-requires
 index-place-requires c =

@@ -8,8 +8,7 @@ use Rattle.dwarf_walk.specs.Stored.{StoredUnit}
 use Rattle.dwarf_entries.proofs.OriginChains.ReferenceLaws.{anywhere, within-unit}
 use Rattle.dwarf_entries.proofs.UnitPasses.ObjectLaws.{seen-units}
 use Rattle.dwarf_entries.proofs.UnitPasses.PassLaws.{found-at}
-use Rattle.dwarf_entries.proofs.UnitPasses.StoredUnits.{stored-length, stored-index}
-use Rattle.dwarf_entries.proofs.UnitPasses.UnitLaws.{object-units}
+use Rattle.dwarf_entries.proofs.UnitPasses.UnitLaws.{stored-length, stored-index, object-units}
 use Rattle.dwarf_entries.proofs.units.Units.target_place.Goals as goal
 
 pub returns-then-reference-eq-DW_FORM_REF_ADDR-clause-leads :

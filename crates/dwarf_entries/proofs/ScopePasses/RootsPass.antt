@@ -1,11 +1,12 @@
--- The iterations of the loop that returns the roots.
+-- The roots of units: the loop that returns them, their order, and the root of a scope by its number.
 use Rattle.std.proofs.Common.{◌≡◌, ℕ, zero, suc, ◌+◌, ◌<◌, ◌≤◌, List, [], ◌∷◌, ◌++◌, length, take}
 use Rattle.std.proofs.Common.{get_or, refl, ap, sym, ◌∙◌, arith, append_assoc, append-nil, subst}
-use Rattle.std.specs.Prelude.{Option, Some, None, All, count_by}
-use Rattle.std.specs.List.Sorted.{IsNonDecreasingBy}
+use Rattle.std.specs.Prelude.{Option, Some, None, All, count_by, slice_get, nat_lt}
+use Rattle.std.specs.List.Sorted.{IsNonDecreasingBy, IsPartitionPoint}
 use Rattle.std.proofs.lemmas.List.Elements.{All-nil, All-cons, All-weaker}
 use Rattle.std.proofs.lemmas.List.{take_more}
 use Rattle.std.proofs.lemmas.List.Sums.{sum_by-cons, sum_by-take-le, sum_by_more}
+use Rattle.std.proofs.lemmas.List.Sums.{position_or_len_is}
 use Rattle.std.proofs.lemmas.Option.{slice_get_within, get_or_from_slice_get}
 use Rattle.dwarf_units.specs.Entries.{Die}
 use Rattle.dwarf_walk.specs.declared.unit_entries.RootEntry.{RootEntry}
@@ -14,13 +15,16 @@ use Rattle.dwarf_walk.specs.ScopeEntries.{is_scope}
 use Rattle.dwarf_walk.specs.Stored.{StoredUnit, root_in}
 use Rattle.dwarf_entries.specs.declared.scope.Root.{Root}
 use Rattle.dwarf_entries.specs.Units.{CompilationUnit}
-use Rattle.dwarf_entries.specs.Scopes.{root_of, roots_from}
+use Rattle.dwarf_entries.specs.Scopes.{root_of, roots_from, stmt_list_of, stmt_list_by_number}
 use Rattle.dwarf_entries.specs.Private.EntryOffsets.{scope_count}
 use Rattle.dwarf_entries.specs.Private.Passes.{number_of_scopes, first_number}
 use Rattle.dwarf_entries.proofs.ScopePasses.SiteLaws.{sites-count, first-next}
-use Rattle.dwarf_entries.proofs.ScopePasses.SiteReads.{sites-stored}
-use Rattle.dwarf_entries.proofs.UnitPasses.StoredUnits.{StoredFor}
+use Rattle.dwarf_entries.proofs.UnitPasses.RereadLaws.{sites-stored}
+use Rattle.dwarf_entries.proofs.UnitPasses.UnitLaws.{StoredFor}
 use Rattle.dwarf_entries.specs.TreeLaws.{ArePartsFrom}
+use Rattle.std.specs.List.{find}
+use Rattle.std.proofs.lemmas.Bool.{lt-ltb, le-ltb}
+use Rattle.std.proofs.lemmas.List.Folds.{find_at}
 
 -- The root of a unit, if there is one.
 abbrev pub root_list : ℕ → ℕ → Option RootEntry → List Root
@@ -143,3 +147,57 @@ pub count-within : (units : List UnitEntries) (index : ℕ) (unit : UnitEntries)
 count-within units index unit first first_is within is =
     let sum = sum_by_more (λ (u : UnitEntries). length u.scopes.items) units index unit within in
     rw (sum, ← is, first_is) refl
+
+-- ---- the roots
+
+-- The first root whose scopes end after a number.
+pub by_partition : (roots : List Root) (number index : ℕ) → index ≤ length roots
+    → IsPartitionPoint (λ r. r.past ≤ number) (λ r. number < r.past) roots index
+    → find (λ r. nat_lt number r.past) roots ≡ slice_get roots index
+by_partition roots number index within parts =
+    let d : Root = record { offset = 0; stmt_list = None; first = 0; past = 0 } in
+    find_at (λ (r : Root). nat_lt number r.past) roots
+    ∙ ap (λ (k : ℕ). slice_get roots k)
+    (position_or_len_is (λ (r : Root). nat_lt number r.past) roots index d within
+    (λ k before. le-ltb number (get_or roots k d).past (parts.0 k d (omega arith) before))
+    (λ inside. lt-ltb number (get_or roots index d).past (parts.1 index d (omega arith) inside)))
+
+-- The root of a unit before the scope is passed over.
+by_later_unit : (first past : ℕ) (dies : List Die) (roots : List Root) (number : ℕ) → past ≤ number
+    → stmt_list_by_number (root_of first past dies roots) number
+    ≡ stmt_list_by_number roots number
+by_later_unit first past dies roots number before = grind (arith, le-ltb number past)
+
+-- A unit with scopes has a root, which has its stmt_list.
+by_unit : (first past : ℕ) (dies : List Die) (roots : List Root) (number : ℕ) → first ≤ number
+    → number < past → past ≡ first + count_by is_scope dies
+    → stmt_list_by_number (root_of first past dies roots) number ≡ stmt_list_of dies
+by_unit first past dies roots number after inside past_is = grind (arith, lt-ltb number past)
+
+-- ---- the scopes of the units before
+
+by_number_from : (first : ℕ) (us : List CompilationUnit) (u : CompilationUnit) (index number : ℕ)
+    → slice_get us index ≡ Some u → first + first_number us index ≤ number
+    → number < first + first_number us index + count_by is_scope u.dies
+    → stmt_list_by_number (roots_from first us) number ≡ stmt_list_of u.dies
+by_number_from first [] u index number found after inside = cc
+by_number_from first (v ∷ vs) u zero number found after inside =
+    let same : u ≡ v = grind arith in
+    let past : ℕ = first + count_by is_scope v.dies in
+    let within = rw same at inside in
+    rw same (by_unit first past v.dies (roots_from past vs) number (omega (arith, after))
+    (omega (arith, within)) refl)
+by_number_from first (v ∷ vs) u (suc index) number found after inside =
+    let past : ℕ = first + count_by is_scope v.dies in
+    let count = sum_by-cons (λ (w : CompilationUnit). count_by is_scope w.dies) v (take index vs) in
+    by_later_unit first past v.dies (roots_from past vs) number (omega (arith, after, count))
+    ∙ by_number_from past vs u index number found (omega (arith, after, count))
+    (omega (arith, inside, count))
+
+-- The stmt_list that is found by the number of a scope of a unit is that of the unit.
+pub by_number : (us : List CompilationUnit) (u : CompilationUnit) (index number : ℕ)
+    → slice_get us index ≡ Some u → first_number us index ≤ number
+    → number < first_number us index + count_by is_scope u.dies
+    → stmt_list_by_number (roots_from 0 us) number ≡ stmt_list_of u.dies
+by_number us u index number found after inside =
+    by_number_from 0 us u index number found (omega (arith, after)) (omega (arith, inside))

@@ -1,2 +1,0 @@
-pub mod RootNumbers
-pub mod RootsPass
