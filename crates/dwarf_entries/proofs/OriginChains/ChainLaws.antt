@@ -128,28 +128,25 @@ module _ {units : List CompilationUnit} {remaining : ℕ} {m : Member} {left : �
         (target >>= λ next. in_front so_far.last (chain_within after units next))
     followed-on after target left_is target_is =
         let one : left ≡ suc after = omega (arith, left_is) in
-        rest-is _ (ap (λ (k : ℕ). chain_within k units so_far.last) one
-        ∙ (stepped units after so_far.last reference (next-is (Some reference) is)
-        ∙ ap (λ (t : Result Member Cause). t
-        >>= λ next. in_front so_far.last (chain_within after units next)) target_is))
+        rest-is _ (rw (one, ← target_is) (stepped units after so_far.last reference
+        (next-is (Some reference) is)))
 
     pub followed-deep : left ≡ 0 → chain_within remaining units m ≡ Err causes.OriginDepth
     followed-deep none = rest-is (Err causes.OriginDepth)
-        (ap (λ (k : ℕ). chain_within k units so_far.last) none
-        ∙ stopped units so_far.last reference (next-is (Some reference) is))
+        (rw none (stopped units so_far.last reference (next-is (Some reference) is)))
 
     module _ (to : Option UnitPlace) (finds : (u : CompilationUnit) → slice_get units found.unit
         ≡ Some u → Finds units to (target_of units u reference)) where
-      pub followed-lost : (left ≡ 0 → ⊥) → to ≡ None
-          → chain_within remaining units m ≡ Err causes.Reference
-      followed-lost some none = followed-on (left - 1) (Err causes.Reference) (omega (arith, some))
-          ((rw none at finds) so_far.last.unit so_far.at.unit_is)
-
       -- The member at the target.
       pub target-there : (place : UnitPlace) → to ≡ Some place
           → (n : Member) × (target_of units so_far.last.unit reference ≡ Ok n)
           × IsPlaceOf units place n
       target-there place there = (rw there at finds) so_far.last.unit so_far.at.unit_is
+
+      pub followed-lost : (left ≡ 0 → ⊥) → to ≡ None
+          → chain_within remaining units m ≡ Err causes.Reference
+      followed-lost some none = followed-on (left - 1) (Err causes.Reference) (omega (arith, some))
+          ((rw none at finds) so_far.last.unit so_far.at.unit_is)
 
       pub followed-next : (after : ℕ) (place : UnitPlace) (next : UnitEntry) (more : FirstNames)
           → after + 1 ≡ left → to ≡ Some place

@@ -1,7 +1,6 @@
 -- The entries below an entry, by indexes and by the number of scopes before them.
 use Rattle.std.proofs.Common.{◌≡◌, ◌↔◌, ℕ, ◌+◌, ◌-◌, ◌<◌, ◌≤◌, List, Bool, true, Some, length, take}
 use Rattle.std.proofs.Common.{drop, get_or, ap, sym, ◌∙◌, subst, arith, length-drop, take-add}
-use Rattle.std.proofs.Common.{ltb-true}
 use Rattle.std.specs.Prelude.{nat_lt, count_by, slice_get}
 use Rattle.std.specs.List.{prefix_len}
 use Rattle.std.proofs.lemmas.List.{get_or-drop}
@@ -57,25 +56,17 @@ to-below dies i j outer is before within =
     let deeper : Die → Bool = λ d. nat_lt outer.depth d.depth in
     let rest : List Die = drop (i + 1) dies in
     let size = length-drop (i + 1) dies in
-    let le = prefix_len-le-length deeper rest in
-    (before, omega (arith, before, within, size, le), all_deeper)
-  where
-    all_deeper : (k : ℕ) (d : Die) → i < k → k ≤ j
-        → (get_or dies i d).depth < (get_or dies k d).depth
-    all_deeper k d lt up_to =
-        let deeper : Die → Bool = λ d. nat_lt outer.depth d.depth in
-        let q : ℕ = k - (i + 1) in
-        let place : i + 1 + q ≡ k = omega (arith, lt) in
-        let passes = prefix_len_passes deeper (drop (i + 1) dies) q d
-        (omega (arith, place, up_to, within)) in
-        let at_q : nat_lt outer.depth (get_or dies k d).depth ≡ true =
-        ap (λ (n : ℕ). nat_lt outer.depth (get_or dies n d).depth) (sym place)
-        ∙ (ap (λ (d : Die). nat_lt outer.depth d.depth) (sym (get_or-drop (i + 1) dies q d))
-        ∙ passes) in
-        let here : (get_or dies i d).depth ≡ outer.depth =
-        ap (λ (d : Die). d.depth) (get_or_from_slice_get dies i outer d is) in
-        let found = ltb-true outer.depth (get_or dies k d).depth at_q in
-        omega (arith, found, here)
+    let le = prefix_len-le-length deeper rest in (
+      before,
+      omega (arith, before, within, size, le),
+      λ k d lt up_to.
+          let q : ℕ = k - (i + 1) in
+          let place : i + 1 + q ≡ k = omega (arith, lt) in
+          let passes = prefix_len_passes deeper rest q d (omega (arith, place, up_to, within)) in
+          let here = get_or_from_slice_get dies i outer d is in
+          let there = get_or-drop (i + 1) dies q d in
+          grind arith,
+    )
 
 -- The number of scopes before an index of a list.
 abbrev number : List Die → ℕ → ℕ

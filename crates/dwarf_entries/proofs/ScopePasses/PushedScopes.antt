@@ -132,33 +132,25 @@ pub pushed : (roots : List Root) (old mid new : ScopeLists) (found : List Range)
 pushed roots old mid new found facts in_list scopes_stay wide_stays ranges_grow is =
     let s : StoredScope = is.s in
     let more : List CallSite = is.packs.more in
-    let wide : new.wide.items ≡ old.wide.items ++ more =
-    is.packs.added ∙ ap (λ (w : List CallSite). w ++ more) wide_stays in
+    let added = length-append old.wide.items more in
+    let wide : new.wide.items ≡ old.wide.items ++ more = is.packs.added ∙ rw wide_stays refl in
     let ranges : new.ranges.items ≡ old.ranges.items ++ found = is.ranges ∙ ranges_grow in
-    let scopes : new.scopes.items ≡ old.scopes.items ++ s ∷ [] =
-    is.scopes ∙ ap (λ (ss : List StoredScope). ss ++ s ∷ []) scopes_stay in
+    let scopes : new.scopes.items ≡ old.scopes.items ++ s ∷ [] = is.scopes ∙ rw scopes_stay refl in
+    let size : length mid.ranges.items ≡ length old.ranges.items + length found =
+    rw ranges_grow (length-append old.ranges.items found) in
     let ends : s.ranges_end ≡ length old.ranges.items + length found =
-    omega (
-      arith,
-      is.packs.ends,
-      ap (λ (rs : List Range). length rs) ranges_grow,
-      length-append old.ranges.items found,
-    ) in
-    let inside = rw (wide, length-append old.wide.items more) at is.packs.in_list in
-    let behind = in_list-push (length old.wide.items) (length more) 0 (length old.ranges.items)
-    (length found) old.scopes.items s in_list ends inside in
-    let described : scope_of roots (old.wide.items ++ more) found s ≡ facts_of roots found facts =
-    ap (λ (w : List CallSite). scope_of roots w found s) (sym wide)
-    ∙ is.packs.tells roots found in
+    omega (arith, is.packs.ends, size) in
+    let described = rw wide at is.packs.tells roots found in
     record {
-      described = rw (wide, ranges, scopes) (scopes-push roots old.wide.items more old.ranges.items
-          found 0 old.scopes.items s in_list ends
-          ∙ ap (λ (x : Scope). scopes_of roots old ++ x ∷ []) described);
-      in_list = rw (
+      described = rw (
         wide,
         ranges,
         scopes,
-        length-append old.wide.items more,
-        length-append old.ranges.items found,
-      ) behind;
+        scopes-push roots old.wide.items more old.ranges.items
+            found 0 old.scopes.items s in_list ends,
+        described,
+      ) refl;
+      in_list = rw (wide, ranges, scopes, added, length-append old.ranges.items found) (in_list-push
+          (length old.wide.items) (length more) 0 (length old.ranges.items) (length found)
+          old.scopes.items s in_list ends (rw (wide, added) at is.packs.in_list));
     }

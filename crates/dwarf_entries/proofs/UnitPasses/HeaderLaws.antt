@@ -1,9 +1,8 @@
 -- The units of .debug_info are contiguous, and their headers have bounds.
-use Rattle.std.proofs.Common.{◌≡◌, ℕ, ◌+◌, ◌<◌, ◌≤◌, List, [], ◌∷◌, ◌++◌, length, take, ap, sym}
-use Rattle.std.proofs.Common.{◌∙◌, subst, arith}
-use Rattle.std.specs.Prelude.{Ok, All, nat_lt, nat_le, ◌==◌, not, ok_or, filter}
+use Rattle.std.proofs.Common.{◌≡◌, ℕ, ◌+◌, ◌<◌, ◌≤◌, List, [], ◌∷◌, ◌++◌, length, take, subst}
+use Rattle.std.proofs.Common.{arith}
+use Rattle.std.specs.Prelude.{Ok, All, nat_le, ◌==◌, not, ok_or, filter, nat_lt}
 use Rattle.std.specs.List.{AllPairs}
-use Rattle.std.proofs.lemmas.Bool.{leb-true}
 use Rattle.std.proofs.lemmas.List.Elements.{All-nil, All-cons, All-weaker, All-filter}
 use Rattle.std.proofs.lemmas.List.Kept.{AllPairs-cons, AllPairs-filter}
 use Rattle.dwarf_bytes.specs.declared.fault.Cause.TheVariants as causes
@@ -11,7 +10,8 @@ use Rattle.dwarf_bytes.specs.declared.format.Format.{Format}
 use Rattle.dwarf_bytes.specs.Numbers.{u8_at, u16_at, initial_length_at, offset_at}
 use Rattle.dwarf_bytes.specs.Items.{Item, End, Lists, reading, items_from}
 use Rattle.dwarf_bytes.proofs.Numbers.LengthLaws.{initial_length_at-moves}
-use Rattle.dwarf_bytes.proofs.Numbers.Advance.{after-bind, after-test, chosen, reading-ok}
+use Rattle.dwarf_bytes.proofs.Numbers.Advance.{after-bind, after-test, chosen, reading-ok, bind_ok}
+use Rattle.dwarf_bytes.proofs.Numbers.Advance.{refuse_if-ok}
 use Rattle.dwarf_bytes.proofs.Items.ItemLaws.{Lists-within}
 use Rattle.dwarf_bytes.proofs.Numbers.Moves.{same-ok, same-item}
 use Rattle.dwarf_units.specs.declared.unit_headers.UnitHeader.{UnitHeader}
@@ -63,22 +63,22 @@ unit_at-bounds : (info : List ℕ) (at : ℕ) (header : UnitHeader) → unit_at 
     → (header.start ≡ at) × HasBounds (length info) header
 unfolding unit_at
 unit_at-bounds info at header h =
-    let P : Type 0 = (header.start ≡ at) × HasBounds (length info) header in
     let moves = unit_at-moves info at header h in
-    after-bind (reading (initial_length_at info at)) _ header h P (λ len len_is h1.
-    after-test (nat_lt (length info) (len.1 + len.0.1)) causes.Short _ header h1 P (λ fits h2.
-    let moved = (initial_length_at-moves info at len
-    (reading-ok (initial_length_at info at) len len_is)).0 in
-    let unit : List ℕ = take (len.1 + len.0.1) info in
-    let places = header_in-places at len.0.0 unit len.1 header h2 in
-    let first = header_in-first at len.0.0 unit len.1 header h2 in (
+    let len = bind_ok (reading (initial_length_at info at)) _ header h in
+    let fits = refuse_if-ok (nat_lt (length info) (len.0.1 + len.0.0.1)) causes.Short _ header len.2
+    in
+    let moved = (initial_length_at-moves info at len.0
+    (reading-ok (initial_length_at info at) len.0 len.1)).0 in
+    let unit : List ℕ = take (len.0.1 + len.0.0.1) info in
+    let places = header_in-places at len.0.0.0 unit len.0.1 header fits.1 in
+    let first = header_in-first at len.0.0.0 unit len.0.1 header fits.1 in (
       places.0,
       record {
         first = omega (arith, moved, places.0, first.0);
         last = omega (arith, places.1, first.1);
         within = moves.1;
       },
-    )))
+    )
 
 -- ---- contiguous units
 
@@ -86,34 +86,27 @@ list-contiguous : (info : List ℕ) (before : List UnitHeader) (at : ℕ) (heade
     (after : ℕ) → Lists (header_at info) before at headers after → at ≤ length info
     → AreContiguous info at headers
 list-contiguous info before at [] after h le =
-    chosen (nat_le (length info) at) _ _ (Ok (End after)) h (at ≡ length info)
-    (λ past _. let ge = leb-true (length info) at past in omega (arith, le, ge)) (λ _ h1.
-    after-bind (unit_at info at) _ (End after) h1 (at ≡ length info) (λ _ _ last. cc))
+    chosen (nat_le (length info) at) _ _ (Ok (End after)) h (at ≡ length info) (λ past _. grind arith)
+    (λ _ h1. let found = bind_ok (unit_at info at) _ (End after) h1 in let no = found.2 in cc)
 list-contiguous info before at (header ∷ headers) after h le =
-    let P : Type 0 = AreContiguous info at (header ∷ headers) in
-    chosen (nat_le (length info) at) _ _ (Ok (Item header h.0)) h.1 P (λ _ is. cc) (λ _ h1.
-    after-bind (unit_at info at) _ (Item header h.0) h1 P (λ found found_is last.
-    let same = same-item found header found.end h.0 last in
-    let read : unit_at info at ≡ Ok header =
-    subst (λ (u : UnitHeader). unit_at info at ≡ Ok u) same.0 found_is in
+    chosen (nat_le (length info) at) _ _ (Ok (Item header h.0)) h.1
+    (AreContiguous info at (header ∷ headers)) (λ _ is. cc) (λ _ h1.
+    let found = bind_ok (unit_at info at) _ (Item header h.0) h1 in
+    let same = same-item found.0 header found.0.end h.0 found.2 in
+    let read = rw same.0 at found.1 in
     let moves = unit_at-moves info at header read in
-    let place : h.0 ≡ header.end = sym same.1 ∙ ap (λ (u : UnitHeader). u.end) same.0 in (
-      read,
-      (unit_at-bounds info at header read).0,
-      moves.0,
-      subst (λ (k : ℕ). AreContiguous info k headers) place (list-contiguous info
-          (before ++ header ∷ []) h.0 headers after h.2 (omega (arith, place, moves.1))),
-    )))
+    let place : header.end ≡ h.0 = rw (← same.0) same.1 in
+    let rest = list-contiguous info (before ++ header ∷ []) h.0 headers after h.2
+    (omega (arith, place, moves.1)) in
+    (read, (unit_at-bounds info at header read).0, moves.0, rw place rest))
 
 pub units-contiguous : (info : List ℕ) (headers : List UnitHeader) → headers_of info ≡ Ok headers
     → AreContiguous info 0 headers
 unfolding headers_of
 units-contiguous info headers h =
-    after-bind (items_from (length info) (header_at info) [] 0) (λ all. Ok all.0) headers h
-    (AreContiguous info 0 headers) (λ all all_is last.
-    subst (AreContiguous info 0) (same-ok all.0 headers last)
-    (list-contiguous info [] 0 all.0 all.1 (Lists-within _ (header_at info) [] 0 all.0 all.1 all_is)
-    (omega arith)))
+    let all = bind_ok (items_from (length info) (header_at info) [] 0) _ headers h in
+    rw (← same-ok all.0.0 headers all.2) (list-contiguous info [] 0 all.0.0 all.0.1 (Lists-within _
+    (header_at info) [] 0 all.0.0 all.0.1 all.1) (omega arith))
 
 -- A unit ends at or before the start of another.
 abbrev pub IsBefore : UnitHeader → UnitHeader → Type 0
@@ -146,10 +139,9 @@ pub headers-in : (info : List ℕ) (headers : List UnitHeader) → units_of info
     → AreHeadersIn (length info) headers
 unfolding units_of
 headers-in info headers h =
-    let P : Type 0 = AreHeadersIn (length info) headers in
-    after-bind (headers_of info) (λ all. Ok (filter is_read all)) headers h P (λ all all_is last.
-    let order = (contiguous-headers info 0 all (units-contiguous info all all_is)).1 in
-    subst (AreHeadersIn (length info)) (same-ok (filter is_read all) headers last) (record {
-      apart = AllPairs-filter IsBefore is_read all order.apart;
-      bounded = All-filter is_read (HasBounds (length info)) all order.bounded;
-    }))
+    let all = bind_ok (headers_of info) _ headers h in
+    let order = (contiguous-headers info 0 all.0 (units-contiguous info all.0 all.1)).1 in
+    rw (← same-ok (filter is_read all.0) headers all.2) (record {
+      apart = AllPairs-filter IsBefore is_read all.0 order.apart;
+      bounded = All-filter is_read (HasBounds (length info)) all.0 order.bounded;
+    })
