@@ -1,4 +1,3 @@
-pub mod BitmapLaws
 pub mod ChainLaws
 pub mod ChainStrings
 pub mod ReferenceLaws

@@ -1,6 +1,4 @@
 pub mod PassLaws
-pub mod EntriesPass
-pub mod BasesPass
 pub mod HeaderLaws
 pub mod UnitLaws
 pub mod RereadLaws

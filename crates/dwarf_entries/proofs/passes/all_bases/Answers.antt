@@ -1,9 +1,60 @@
-use Rattle.std.proofs.Common.{[], refl, arith}
-use Rattle.std.proofs.lemmas.Option.{slice_get_read}
-use Rattle.dwarf_entries.proofs.UnitPasses.BasesPass.{bases-next, bases-fault}
+use Rattle.std.proofs.Common.{◌≡◌, ℕ, ◌+◌, List, [], ◌∷◌, ◌++◌, refl, ap, sym, ◌∙◌, arith}
+use Rattle.std.specs.Prelude.{Ok}
+use Rattle.std.proofs.lemmas.List.{map_push}
+use Rattle.dwarf_bytes.specs.declared.fault.Section.TheVariants as names
+use Rattle.dwarf_bytes.specs.declared.fault.LoadFault.{LoadFault}
+use Rattle.dwarf_bytes.specs.declared.format.Format.{Format}
+use Rattle.dwarf_bytes.specs.Refusals.{in_section}
+use Rattle.dwarf_units.specs.Entries.{Die}
+use Rattle.dwarf_units.proofs.TableLaws.{in_section-ok}
+use Rattle.dwarf_walk.specs.declared.unit_entries.UnitEntries.{UnitEntries}
+use Rattle.dwarf_walk.specs.Sections.{Sections}
+use Rattle.dwarf_walk.specs.Stored.{StoredUnit, root_in, stored_of}
+use Rattle.dwarf_ranges.specs.declared.bases.Bases.{Bases}
+use Rattle.dwarf_entries.specs.Units.{CompilationUnit, bases_of_first}
+use Rattle.dwarf_entries.specs.Private.EntryOffsets.{stored_unit_of}
+use Rattle.dwarf_entries.specs.Private.Passes.{bases_in, bases_of, all_bases}
+use Rattle.dwarf_entries.proofs.UnitPasses.PassLaws.{Faults, first-fault, pass-next, pass-fault}
 use Rattle.dwarf_entries.proofs.UnitPasses.PassLaws.{pass-none, pass-end, exit}
-use Rattle.dwarf_entries.proofs.UnitPasses.UnitLaws.{stored-at, stored-length}
+use Rattle.dwarf_entries.proofs.UnitPasses.UnitLaws.{StoredFor, stored-at, stored-length}
+use Rattle.dwarf_entries.proofs.passes.all_bases.Invariants.{BasesSoFar}
+use Rattle.std.proofs.lemmas.Option.{slice_get_read}
 use Rattle.dwarf_entries.proofs.passes.all_bases.Goals as goal
+
+-- The bases that the stored root of a unit defines.
+bases_in-is : (s : Sections) (format : Format) (dies : List Die)
+    → bases_in s format (root_in dies) ≡ bases_of_first s format dies
+bases_in-is s format [] = refl
+bases_in-is s format (root ∷ dies) = refl
+
+bases-same : (s : Sections) (u : CompilationUnit) (unit : UnitEntries)
+    → stored_of unit ≡ stored_unit_of u
+    → bases_in s unit.header.format unit.root ≡ bases_of_first s u.header.format u.dies
+bases-same s u unit same =
+    ap (λ (x : StoredUnit). bases_in s x.header.format x.root) same
+    ∙ bases_in-is s u.header.format u.dies
+
+module _ {s : Sections} {us : List CompilationUnit} {index : ℕ} {all : List Bases}
+    (so_far : BasesSoFar s us index all) {unit : UnitEntries} (here : StoredFor us index unit) where
+  bases-next : (bases : Bases)
+      → in_section names.DebugInfo (bases_in s unit.header.format unit.root) ≡ Ok bases
+      → BasesSoFar s us (index + 1) (all ++ bases ∷ [])
+  bases-next bases read =
+      let u = here.unit in
+      let v : CompilationUnit = record { header = u.header; dies = u.dies; bases = bases } in
+      let found = sym (bases-same s u unit here.stored)
+      ∙ in_section-ok names.DebugInfo (bases_in s unit.header.format unit.root) bases read in
+      record {
+        made = so_far.made ++ v ∷ [];
+        passed = pass-next so_far.passed u v here.is (rw found refl);
+        bases_are = rw (so_far.bases_are, map_push bases_of so_far.made v) refl;
+      }
+
+  bases-fault : {fault : LoadFault}
+      → Faults fault (bases_in s unit.header.format unit.root)
+      → Faults fault (all_bases s us)
+  bases-fault bad = pass-fault so_far.passed here.unit here.is (first-fault _ _
+      (rw (bases-same s here.unit unit here.stored) at bad))
 
 pub loop-unit-init : goal.loop-unit-init
 loop-unit-init c us same = rw c.new-all.ensures.items

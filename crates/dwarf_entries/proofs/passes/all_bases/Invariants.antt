@@ -1,9 +1,17 @@
-use Rattle.std.proofs.Common.{List}
-use Rattle.dwarf_walk.specs.Sections.{sections_of}
-use Rattle.dwarf_entries.specs.Units.{CompilationUnit}
+use Rattle.std.proofs.Common.{List, ◌≡◌, ℕ, map}
+use Rattle.dwarf_walk.specs.Sections.{sections_of, Sections}
+use Rattle.dwarf_entries.specs.Units.{CompilationUnit, with_bases}
 use Rattle.dwarf_entries.specs.Private.EntryOffsets.{AreStored}
-use Rattle.dwarf_entries.proofs.UnitPasses.BasesPass.{BasesSoFar}
 use Rattle.dwarf_entries.proofs.passes.all_bases.Given as goal
+use Rattle.dwarf_ranges.specs.declared.bases.Bases.{Bases}
+use Rattle.dwarf_entries.specs.Private.Passes.{PassedTo, bases_of}
+
+-- The units before the index, and the bases that their roots define.
+pub record BasesSoFar (s : Sections) (us : List CompilationUnit) (index : ℕ) (all : List Bases)
+    : Type 0 where
+  pub made : List CompilationUnit
+  pub passed : PassedTo (λ _ u. with_bases s u) us index made
+  pub bases_are : all ≡ map bases_of made
 
 abbrev pub invariant-loop-unit : goal.invariant-loop-unit
 invariant-loop-unit l =

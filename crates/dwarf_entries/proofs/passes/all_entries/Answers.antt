@@ -1,9 +1,123 @@
-use Rattle.std.proofs.Common.{◌∙◌, ◌≡◌, sym, inl}
-use Rattle.std.proofs.lemmas.Option.{same_Some, slice_get_within}
-use Rattle.dwarf_entries.proofs.UnitPasses.EntriesPass.{entries-none, entries-next, entries-end}
-use Rattle.dwarf_entries.proofs.UnitPasses.EntriesPass.{entries-table-fault, entries-fault}
+use Rattle.std.proofs.Common.{◌≡◌, ◌⊎◌, ℕ, ◌+◌, ◌<◌, ◌≤◌, List, [], ◌∷◌, ◌++◌, length, map, get_or}
+use Rattle.std.proofs.Common.{refl, sym, ◌∙◌, arith, append-nil, zero, suc, ap, inl}
+use Rattle.std.specs.Prelude.{Some, Ok, Err, zip, slice_get, Result}
+use Rattle.std.proofs.lemmas.List.{map_push}
+use Rattle.std.proofs.lemmas.List.Concat.{flat_map-append}
+use Rattle.std.proofs.lemmas.Option.{slice_get-get_or, same_Some, slice_get_within}
+use Rattle.std.proofs.lemmas.Slice.Zip.{length-zip}
+use Rattle.dwarf_bytes.specs.declared.fault.Section.TheVariants as names
+use Rattle.dwarf_bytes.specs.declared.fault.LoadFault.{LoadFault}
+use Rattle.dwarf_bytes.specs.Items.{At}
+use Rattle.dwarf_bytes.specs.Refusals.{memory_fault, in_section}
+use Rattle.dwarf_bytes.proofs.Items.EachPlaces.{each-length}
+use Rattle.dwarf_bytes.proofs.Numbers.Moves.{same-ok}
+use Rattle.dwarf_forms.specs.Declarations.{Declaration}
+use Rattle.dwarf_forms.specs.Tables.{declarations_of}
+use Rattle.dwarf_units.specs.declared.unit_headers.UnitHeader.{UnitHeader}
+use Rattle.dwarf_units.specs.Units.{declarations_limit, tables_of}
+use Rattle.dwarf_units.specs.Entries.{Die, entries_of}
+use Rattle.dwarf_units.proofs.TableLaws.{table_for, table_is, in_section-ok}
+use Rattle.dwarf_walk.specs.declared.unit_entries.UnitEntries.{UnitEntries}
+use Rattle.dwarf_walk.specs.declared.entry_bitmap.EntryBitmap.{EntryBitmap}
+use Rattle.dwarf_walk.specs.EntryBitmap.{AddsOffsets, offsets_of}
+use Rattle.dwarf_walk.specs.Stored.{stored_unit, stored_entries, stored_of}
+use Rattle.dwarf_walk.proofs.BitmapLaws.{adds-none, adds-more}
+use Rattle.dwarf_entries.specs.Units.{CompilationUnit}
+use Rattle.dwarf_ranges.specs.Bases.{no_bases}
+use Rattle.dwarf_entries.specs.Private.EntryOffsets.{stored_unit_of, all_offsets, dies_of}
+use Rattle.dwarf_entries.specs.Private.Passes.{all_entries}
+use Rattle.dwarf_entries.proofs.UnitPasses.PassLaws.{Faults, first-fault, before-done, after-done}
+use Rattle.dwarf_entries.proofs.UnitPasses.PassLaws.{pass-none, pass-next, pass-end, pass-fault}
+use Rattle.dwarf_entries.proofs.UnitPasses.PassLaws.{only-memory, done, exit}
+use Rattle.dwarf_bytes.specs.Bind.{◌>>=◌}
+use Rattle.dwarf_entries.proofs.passes.all_entries.Invariants.{EntriesSoFar}
 use Rattle.dwarf_entries.proofs.passes.all_entries.Goals as goal
-use Rattle.dwarf_entries.proofs.UnitPasses.PassLaws.{exit}
+
+entries-none : {info : List ℕ} {headers : List UnitHeader} {tables : List (List Declaration)}
+    {bitmap : EntryBitmap} → EntriesSoFar info headers tables bitmap bitmap 0 []
+entries-none {bitmap = bitmap} =
+    record { made = []; passed = pass-none; stored_are = refl; marked_so = adds-none bitmap }
+
+offsets-push : (made : List CompilationUnit) (u : CompilationUnit)
+    → all_offsets made ++ offsets_of u.dies ≡ all_offsets (made ++ u ∷ [])
+offsets-push made u = rw (
+  map_push dies_of made u,
+  flat_map-append offsets_of (map dies_of made) (u.dies ∷ []),
+  append-nil (offsets_of u.dies),
+) refl
+
+zip-there : {X Y : Type 0} (xs : List X) (ys : List Y) (i : ℕ) (x : X) (y : Y)
+    → slice_get xs i ≡ Some x → slice_get ys i ≡ Some y → slice_get (zip xs ys) i ≡ Some (x, y)
+zip-there [] ys i x y x_is y_is = cc
+zip-there (a ∷ xs) [] i x y x_is y_is = cc
+zip-there (a ∷ xs) (b ∷ ys) zero x y x_is y_is = grind arith
+zip-there (a ∷ xs) (b ∷ ys) (suc i) x y x_is y_is = zip-there xs ys i x y x_is y_is
+
+module _ {info : List ℕ} {headers : List UnitHeader} {tables : List (List Declaration)}
+    {bitmap marked : EntryBitmap} {index : ℕ} {stored : List UnitEntries}
+    (so_far : EntriesSoFar info headers tables bitmap marked index stored) (section : List ℕ)
+    (all : tables_of section headers ≡ Ok tables) (d : UnitHeader)
+    (within : index < length headers) where
+  -- Re-reading a valid table fails only because memory ran out.
+  entries-table-fault : (fault : LoadFault) → (fault ≡ memory_fault)
+      ⊎ (in_section names.DebugAbbrev (declarations_of declarations_limit section
+      (get_or headers index d).abbreviations) ≡ Err fault) → fault ≡ memory_fault
+  entries-table-fault fault bad = only-memory names.DebugAbbrev _ (get_or tables index []) fault
+      (table_is section headers tables index d all within) bad
+
+  module _ (table : List Declaration) (table_read : in_section names.DebugAbbrev (declarations_of
+      declarations_limit section (get_or headers index d).abbreviations) ≡ Ok table) where
+    -- The header and the table of the unit at the index.
+    pair-at : slice_get (zip headers tables) index ≡ Some (get_or headers index d, table)
+    unfolding tables_of
+    pair-at =
+        let same : get_or tables index [] ≡ table = same-ok {E = At} (get_or tables index []) table
+        (sym (table_is section headers tables index d all within) ∙ in_section-ok names.DebugAbbrev
+        (declarations_of declarations_limit section (get_or headers index d).abbreviations) table
+        table_read) in
+        let sizes = each-length (table_for section) [] headers tables all in
+        zip-there headers tables index _ table (slice_get-get_or headers index d within)
+        (slice_get-get_or tables index [] (omega (arith, sizes, within)) ∙ rw same refl)
+
+    entries-next : (after : EntryBitmap) (unit : UnitEntries) → in_section names.DebugInfo
+        (stored_entries info (get_or headers index d) table) ≡ Ok (stored_of unit)
+        → ((dies : List Die) → entries_of info (get_or headers index d) table ≡ Ok dies
+        → AddsOffsets marked after (offsets_of dies))
+        → EntriesSoFar info headers tables bitmap after (index + 1) (stored ++ unit ∷ [])
+    entries-next after unit unit_read adds =
+        let made = so_far.made in
+        let header = get_or headers index d in
+        let found = after-done (entries_of info header table) (stored_unit header)
+        (stored_of unit) unit_read in
+        let u : CompilationUnit = record { header = header; dies = found.0; bases = no_bases } in
+        record {
+          made = made ++ u ∷ [];
+          passed = pass-next so_far.passed (header, table) u pair-at
+              (ap (λ (r : Result (List Die) At). r >>= λ dies. done {Y = CompilationUnit}
+              (record { header = header; dies = dies; bases = no_bases })) found.1);
+          stored_are = rw (
+            map_push stored_of stored unit,
+            map_push stored_unit_of made u,
+            so_far.stored_are,
+            found.2,
+          ) refl;
+          marked_so = rw (← offsets-push made u) (adds-more bitmap marked after (all_offsets made)
+              (offsets_of found.0) so_far.marked_so (adds found.0 found.1));
+        }
+
+    entries-fault : {fault : LoadFault}
+        → Faults fault (stored_entries info (get_or headers index d) table)
+        → Faults fault (all_entries info headers tables)
+    entries-fault bad = pass-fault so_far.passed (get_or headers index d, table) pair-at
+        (first-fault _ _ (before-done (entries_of info (get_or headers index d) table)
+        (stored_unit (get_or headers index d)) bad))
+
+entries-end : {info : List ℕ} {headers : List UnitHeader} {tables : List (List Declaration)}
+    {bitmap marked : EntryBitmap} {index : ℕ} {stored : List UnitEntries}
+    → (so_far : EntriesSoFar info headers tables bitmap marked index stored)
+    → length headers ≤ index → all_entries info headers tables ≡ Ok so_far.made
+entries-end {headers = headers} {tables = tables} so_far past =
+    pass-end so_far.passed (omega (arith, past, length-zip headers tables))
 
 pub loop-header-init : goal.loop-header-init
 loop-header-init c = rw c.new-units.ensures.items

@@ -1,8 +1,24 @@
-use Rattle.std.proofs.Common.{◌≡◌, List, Ok}
+use Rattle.std.proofs.Common.{◌≡◌, List, Ok, ℕ}
 use Rattle.dwarf_forms.specs.Declarations.{Declaration}
 use Rattle.dwarf_units.specs.Units.{tables_of}
-use Rattle.dwarf_entries.proofs.UnitPasses.EntriesPass.{EntriesSoFar}
 use Rattle.dwarf_entries.proofs.passes.all_entries.Given as goal
+use Rattle.std.specs.Prelude.{Ok, zip}
+use Rattle.dwarf_units.specs.declared.unit_headers.UnitHeader.{UnitHeader}
+use Rattle.dwarf_walk.specs.declared.unit_entries.UnitEntries.{UnitEntries}
+use Rattle.dwarf_walk.specs.declared.entry_bitmap.EntryBitmap.{EntryBitmap}
+use Rattle.dwarf_walk.specs.EntryBitmap.{AddsOffsets}
+use Rattle.dwarf_entries.specs.Units.{CompilationUnit, unit_of}
+use Rattle.dwarf_entries.specs.Private.EntryOffsets.{AreStored, all_offsets}
+use Rattle.dwarf_entries.specs.Private.Passes.{PassedTo}
+
+-- The units before the index, the data that is stored for them, and the bits of their entries.
+pub record EntriesSoFar (info : List ℕ) (headers : List UnitHeader)
+    (tables : List (List Declaration)) (bitmap marked : EntryBitmap) (index : ℕ)
+    (stored : List UnitEntries) : Type 0 where
+  pub made : List CompilationUnit
+  pub passed : PassedTo (λ _ p. unit_of info p.0 p.1) (zip headers tables) index made
+  pub stored_are : AreStored stored made
+  pub marked_so : AddsOffsets bitmap marked (all_offsets made)
 
 abbrev pub invariant-loop-header : goal.invariant-loop-header
 invariant-loop-header l = record {

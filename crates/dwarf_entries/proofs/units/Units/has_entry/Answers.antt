@@ -1,7 +1,91 @@
-use Rattle.dwarf_entries.proofs.OriginChains.BitmapLaws.{finds-inside}
+use Rattle.std.proofs.Common.{◌≡◌, ℕ, suc, List, [], ◌∷◌, Bool, true, false, cond, ◌==◌, ◌||◌, refl}
+use Rattle.std.proofs.Common.{ap, ◌∙◌, arith}
+use Rattle.std.specs.Prelude.{Option, Some, None, is_some, find, slice_get, option_map, ok_or}
+use Rattle.std.specs.Option.{option_or}
+use Rattle.std.specs.List.{list_any}
+use Rattle.std.proofs.lemmas.Bool.{eqb-true}
+use Rattle.std.proofs.lemmas.List.Folds.{list_any-append}
+use Rattle.dwarf_bytes.specs.declared.fault.Cause.TheVariants as causes
+use Rattle.dwarf_units.specs.Entries.{Die}
+use Rattle.dwarf_walk.specs.declared.entry_bitmap.EntryBitmap.{EntryBitmap}
+use Rattle.dwarf_walk.specs.EntryBitmap.{has_entry, offsets_of}
+use Rattle.dwarf_walk.specs.Sections.{Sections}
+use Rattle.dwarf_entries.specs.declared.references.UnitPlace.{UnitPlace}
+use Rattle.dwarf_entries.specs.Units.{CompilationUnit}
+use Rattle.dwarf_entries.specs.Names.{Member, members_of}
+use Rattle.dwarf_entries.specs.Private.EntryOffsets.{IsBitmapOf, all_offsets}
+use Rattle.dwarf_entries.specs.Private.Members.{IsWithin, Finds, member_in}
+use Rattle.dwarf_entries.proofs.UnitPasses.UnitLaws.{AreUnitsIn, object-units}
+use Rattle.dwarf_entries.proofs.OriginChains.ReferenceLaws.{is_at_offset, member_of, die_at}
+use Rattle.dwarf_entries.proofs.OriginChains.ReferenceLaws.{find-units, member-is, in-own}
 use Rattle.dwarf_entries.proofs.UnitPasses.ObjectLaws.{seen}
-use Rattle.dwarf_entries.proofs.UnitPasses.UnitLaws.{object-units}
 use Rattle.dwarf_entries.proofs.units.Units.has_entry.Goals as goal
+
+any-dies : (u : CompilationUnit) (offset : ℕ) (dies : List Die)
+    → list_any (λ place. place == offset) (offsets_of dies)
+    ≡ is_some (option_map (member_of u) (find (λ die. die.offset == offset) dies))
+any-dies u offset [] = refl
+any-dies u offset (die ∷ dies) = let rest = any-dies u offset dies in grind arith
+
+is_some-or : {X : Type 0} (a b : Option X) → (is_some a || is_some b) ≡ is_some (option_or a b)
+is_some-or a b = grind arith
+
+any-members : (offset : ℕ) (us : List CompilationUnit)
+    → list_any (λ place. place == offset) (all_offsets us)
+    ≡ is_some (find (is_at_offset offset) (members_of us))
+any-members offset [] = refl
+any-members offset (u ∷ us) = rw (
+  list_any-append (λ (place : ℕ). place == offset) (offsets_of u.dies) (all_offsets us),
+  any-dies u offset u.dies,
+  any-members offset us,
+  find-units u us offset,
+) (is_some-or (option_map (member_of u) (die_at u offset))
+    (find (is_at_offset offset) (members_of us)))
+
+-- The element that is found is in the list and passes the test.
+find-index : (p : Die → Bool) (dies : List Die) (die : Die) → find p dies ≡ Some die
+    → (i : ℕ) × (slice_get dies i ≡ Some die) × (p die ≡ true)
+find-index p [] die h = cc
+find-index p (d ∷ dies) die h = by_test (p d) refl h (find-index p dies die)
+  where
+    by_test : (b : Bool) → p d ≡ b → cond b (Some d) (find p dies) ≡ Some die
+        → (find p dies ≡ Some die → (i : ℕ) × (slice_get dies i ≡ Some die) × (p die ≡ true))
+        → (i : ℕ) × (slice_get (d ∷ dies) i ≡ Some die) × (p die ≡ true)
+    by_test true passes h later = (0, h, grind arith)
+    by_test false passes h later = let rest = later h in (suc rest.0, rest.1, rest.2)
+
+finds-inside : {s : Sections} {us : List CompilationUnit} → AreUnitsIn s us
+    → (bitmap : EntryBitmap) → IsBitmapOf bitmap us → (place : UnitPlace) → IsWithin us place
+    → (marked : Bool) → marked ≡ has_entry bitmap place.offset
+    → Finds us (cond marked (Some place) None) (member_in us place.unit place.offset)
+finds-inside {us = us} are bitmap all place within marked marked_is =
+    by_die (die_at u place.offset) refl marked (marked_is ∙ (all place.offset
+    ∙ (any-members place.offset us ∙ ap (λ (o : Option Member). is_some o)
+    (in-own are place.unit place.offset u within.of_is within.low within.high))))
+    (member-is us place.unit place.offset u within.of_is)
+  where
+    u : CompilationUnit
+    u = within.of
+
+    by_die : (die : Option Die) → die_at u place.offset ≡ die → (marked : Bool)
+        → marked ≡ is_some (option_map (member_of u) die) → member_in us place.unit place.offset
+        ≡ ok_or (option_map (member_of u) die) causes.Reference
+        → Finds us (cond marked (Some place) None) (member_in us place.unit place.offset)
+    by_die None here false same outcome = outcome
+    by_die None here true same outcome = cc
+    by_die (Some d) here false same outcome = cc
+    by_die (Some d) here true same outcome =
+        let there = find-index (λ die. die.offset == place.offset) u.dies d here in (
+          member_of u d,
+          outcome,
+          record {
+            unit_is = within.of_is;
+            offset_is = eqb-true d.offset place.offset there.2;
+            index = there.0;
+            there = there.1;
+            found = outcome;
+          },
+        )
 
 pub returns : goal.returns
 returns c within =

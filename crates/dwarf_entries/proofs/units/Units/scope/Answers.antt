@@ -1,17 +1,77 @@
-use Rattle.std.proofs.Common.{ap, ◌∙◌}
-use Rattle.dwarf_walk.specs.Sections.{sections_of}
+use Rattle.std.proofs.Common.{◌≡◌, ℕ, ◌+◌, List, length, map, get_or, refl, ap, ◌∙◌, arith}
+use Rattle.std.specs.Prelude.{Ok, Some, slice_get}
+use Rattle.std.proofs.lemmas.Option.{get_or_from_slice_get, slice_get-map}
+use Rattle.dwarf_bytes.specs.declared.fault.Cause.{Cause}
+use Rattle.dwarf_bytes.specs.Bind.{◌>>=◌}
+use Rattle.dwarf_bytes.specs.Refusals.{Fails}
+use Rattle.dwarf_walk.specs.declared.unit_entries.ScopeEntry.{ScopeEntry}
+use Rattle.dwarf_walk.specs.Sections.{Sections, sections_of}
+use Rattle.dwarf_ranges.specs.declared.bases.Bases.{Bases}
+use Rattle.dwarf_entries.specs.declared.origin_chains.EntryNames.{EntryNames}
+use Rattle.dwarf_ranges.specs.declared.range.Range.{Range}
+use Rattle.dwarf_entries.specs.declared.unit_scopes.ScopeNumbers.{ScopeNumbers}
+use Rattle.dwarf_entries.specs.Units.{CompilationUnit}
+use Rattle.dwarf_entries.specs.Names.{names_of}
+use Rattle.dwarf_ranges.specs.Ranges.{covers_by, covers_of, AddsRanges}
+use Rattle.dwarf_entries.specs.Scopes.{ParsedScope, ScopeSite, scope_at, scope_of_site, roots_from}
+use Rattle.dwarf_entries.specs.Private.Members.{IsMember}
+use Rattle.dwarf_entries.specs.Private.Passes.{IsScopeSite, scope_facts, bases_of}
+use Rattle.dwarf_entries.specs.Private.Shared.{AddsFacts}
+use Rattle.dwarf_entries.proofs.UnitPasses.PassLaws.{first-fails, exit}
 use Rattle.dwarf_entries.specs.Private.ObjectUnits.{ObjectUnits}
-use Rattle.dwarf_entries.proofs.ScopePasses.ScopeLaws.{site-member, names-fault, covers-fault}
-use Rattle.dwarf_entries.proofs.ScopePasses.ScopeLaws.{scope-is, bases-there}
 use Rattle.dwarf_ranges.proofs.ScopeBudget.{budget-left}
 use Rattle.dwarf_entries.proofs.UnitPasses.ObjectLaws.{seen}
 use Rattle.dwarf_entries.proofs.units.Units.scope.Goals as goal
-use Rattle.dwarf_entries.proofs.UnitPasses.PassLaws.{exit}
+
+-- The bases of a unit.
+bases-there : (bases : List Bases) (us : List CompilationUnit) → bases ≡ map bases_of us
+    → (unit : ℕ) (u : CompilationUnit) → slice_get us unit ≡ Some u → (d : Bases)
+    → get_or bases unit d ≡ u.bases
+bases-there bases us are unit u found d = get_or_from_slice_get bases unit u.bases d
+    (rw (are, slice_get-map bases_of us unit, found) refl)
+
+module _ (s : Sections) {us : List CompilationUnit} {before : List ParsedScope} {p : ScopeSite}
+    {numbers : ScopeNumbers} {budget : ℕ} {entry : ScopeEntry}
+    (site : IsScopeSite us numbers entry budget before p) where
+  site-member : IsMember us numbers.unit entry.entry p.member
+  site-member = record {
+    unit_is = site.unit_is;
+    entry_is = ap (λ (e : ScopeEntry). e.entry) site.entry_is;
+  }
+
+  module _ (names : EntryNames) (names_are : names_of s us p.member ≡ Ok names) (bases : Bases)
+      (bases_are : bases ≡ p.member.unit.bases) where
+    after-names : scope_at s us before p
+        ≡ (covers_by budget s bases entry.low_pc entry.high_pc entry.ranges
+        >>= λ covering. Ok (scope_of_site before p names covering))
+    unfolding covers_of
+    after-names = rw (names_are, bases_are, site.entry_is, site.budget_is) refl
+
+    -- The scope fails if its ranges cannot be read.
+    covers-fault : (cause : Cause)
+        → Fails cause (covers_by budget s bases entry.low_pc entry.high_pc entry.ranges)
+        → Fails cause (scope_at s us before p)
+    covers-fault cause bad = rw after-names (first-fails
+        (covers_by budget s bases entry.low_pc entry.high_pc entry.ranges) _ bad)
+
+    -- The data of the scope.
+    scope-is : (items : ℕ) (old new : List Range) → AddsRanges (Ok items) old new
+        (covers_by budget s bases entry.low_pc entry.high_pc entry.ranges)
+        → AddsFacts (roots_from 0 us) (Ok (scope_facts numbers entry names, items)) old new
+        (scope_at s us before p)
+    scope-is items old new (found, read, grown) =
+        let ending : numbers.number + numbers.inside + 1 ≡ length before + 1 + p.inside =
+        omega (arith, site.number_is, site.descendants_are) in
+        let whole = rw read at after-names in (
+          found,
+          whole ∙ rw (site.entry_is, site.stmt_list_is, ending, site.number_is) refl,
+          grown,
+        )
 
 pub returns-in_err-names-clause-parsed : goal.returns-in_err-names-clause-parsed
 returns-in_err-names-clause-parsed c before p place =
     rw (exit _ c.from_residual.ensures.1)
-    (names-fault c.args.self.now.sections place c.in_err-names.field-0.0
+    (first-fails (names_of c.args.self.now.sections c.args.self.now.units p.member) _
     (c.in_err-names.ensures.names p.member (site-member c.args.self.now.sections place)))
 
 pub returns-in_err-items-clause-parsed : goal.returns-in_err-items-clause-parsed

@@ -1,7 +1,6 @@
 use Rattle.std.proofs.Common.{[], refl, arith, ◌∙◌}
-use Rattle.dwarf_entries.proofs.ScopePasses.ScopesPass.{scopes-end}
 use Rattle.dwarf_entries.proofs.ScopePasses.SiteLaws.{first-all}
-use Rattle.dwarf_entries.proofs.UnitPasses.PassLaws.{pass-none, exit}
+use Rattle.dwarf_entries.proofs.UnitPasses.PassLaws.{pass-none, exit, pass-end}
 use Rattle.dwarf_entries.proofs.units.Units.scopes.Goals as goal
 
 pub loop-unit-init : goal.loop-unit-init
@@ -33,4 +32,4 @@ returns-clause-scopes c =
     let so_far = c.loop-unit.invariant.so_far in
     let all = first-all c.args.self.now.units c.loop-unit.unit
     (omega (arith, c.loop-unit-test.false, c.len-unit-end.ensures)) in
-    (so_far.parsed, scopes-end so_far (omega (arith, all)), so_far.described)
+    (so_far.parsed, pass-end so_far.passed (omega (arith, all)), so_far.described)
