@@ -1,4 +1,4 @@
-use Rattle.std.proofs.Common.{◌≡◌, ℕ, ◌+◌, List, [], ◌∷◌, ◌++◌, refl, ap, sym, ◌∙◌, arith}
+use Rattle.std.proofs.Common.{◌≡◌, ℕ, ◌+◌, List, [], ◌∷◌, ◌++◌, refl, ap, sym, ◌∙◌}
 use Rattle.std.specs.Prelude.{Ok}
 use Rattle.std.proofs.lemmas.List.{map_push}
 use Rattle.dwarf_bytes.specs.declared.fault.Section.TheVariants as names
@@ -15,8 +15,8 @@ use Rattle.dwarf_entries.specs.Units.{CompilationUnit, bases_of_first}
 use Rattle.dwarf_entries.specs.Private.EntryOffsets.{stored_unit_of}
 use Rattle.dwarf_entries.specs.Private.Passes.{bases_in, bases_of, all_bases}
 use Rattle.dwarf_entries.proofs.UnitPasses.PassLaws.{Faults, first-fault, pass-next, pass-fault}
-use Rattle.dwarf_entries.proofs.UnitPasses.PassLaws.{pass-none, pass-end, exit}
-use Rattle.dwarf_entries.proofs.UnitPasses.UnitLaws.{StoredFor, stored-at, stored-length}
+use Rattle.dwarf_entries.proofs.UnitPasses.PassLaws.{pass-none, exit}
+use Rattle.dwarf_entries.proofs.UnitPasses.UnitLaws.{StoredFor, stored-at}
 use Rattle.dwarf_entries.proofs.passes.all_bases.Invariants.{BasesSoFar}
 use Rattle.std.proofs.lemmas.Option.{slice_get_read}
 use Rattle.dwarf_entries.proofs.passes.all_bases.Goals as goal
@@ -73,12 +73,3 @@ loop-unit-preserved c us same = rw c.in_ok-push.ensures.items
     (stored-at c.args.units.now us c.loop-unit.unit-index c.unit-item.result same
     (slice_get_read c.args.units.now _ c.loop-unit.unit-index c.unit-item.result refl
     c.loop-unit-test.true c.unit-item.is)) c.in_ok-unit_bases.field-0 c.in_ok-unit_bases.ensures)
-
-pub returns : goal.returns
-returns c us same =
-    let so_far = c.loop-unit.invariant us same in
-    let sizes = stored-length c.args.units.now us same in (
-      so_far.made,
-      pass-end so_far.passed (omega (arith, sizes, c.loop-unit-test.false)),
-      so_far.bases_are,
-    )

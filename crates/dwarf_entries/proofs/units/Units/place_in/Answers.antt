@@ -1,4 +1,4 @@
-use Rattle.std.proofs.Common.{◌≡◌, ℕ, refl, sym, subst}
+use Rattle.std.proofs.Common.{refl, sym, subst}
 use Rattle.std.specs.Prelude.{Option}
 use Rattle.dwarf_entries.specs.declared.references.UnitPlace.{UnitPlace}
 use Rattle.dwarf_entries.specs.Private.Members.{LeadsTo, member_in}
@@ -17,12 +17,6 @@ returns-in_err-offset-clause-leads c =
     (sym c.from_residual-in_err-offset.ensures)
     (outside (object-units _ _ c.self.view_is) c.deref.result.now are c.args.unit c.args.offset k
     (found-at _ _ c.args.unit k refl c.in_ok-stored.ensures.lookup.3) c.in_err-offset.ensures)
-
-pub returns-clause-leads : goal.returns-clause-leads
-returns-clause-leads c =
-    subst (λ (o : ℕ). member_in c.args.self.now.units c.args.unit o
-    ≡ member_in c.args.self.now.units c.args.unit c.in_ok-offset.offset) c.in_ok-offset.ensures.0
-    refl
 
 pub returns-clause-within : goal.returns-clause-within
 returns-clause-within c =

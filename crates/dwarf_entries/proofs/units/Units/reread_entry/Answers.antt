@@ -1,22 +1,12 @@
-use Rattle.std.proofs.Common.{refl, sym, ◌∙◌, arith}
-use Rattle.std.proofs.lemmas.Option.{slice_get_within}
+use Rattle.std.proofs.Common.{refl, sym, ◌∙◌}
 use Rattle.dwarf_bytes.proofs.Numbers.Moves.{same-ok}
 use Rattle.dwarf_walk.specs.Stored.{named_entry}
 use Rattle.dwarf_walk.proofs.RereadLaws.{again-memory}
 use Rattle.dwarf_entries.proofs.UnitPasses.ObjectLaws.{seen, seen-units, with-reader}
 use Rattle.dwarf_entries.proofs.UnitPasses.PassLaws.{found-at, exit}
 use Rattle.dwarf_entries.proofs.UnitPasses.RereadLaws.{reread}
-use Rattle.dwarf_entries.proofs.UnitPasses.UnitLaws.{stored-length, object-units}
+use Rattle.dwarf_entries.proofs.UnitPasses.UnitLaws.{object-units}
 use Rattle.dwarf_entries.proofs.units.Units.reread_entry.Goals as goal
-
-pub returns-in_default-clause-member : goal.returns-in_default-clause-member
-returns-in_default-clause-member c m at =
-    let us = c.args.self.now.units in
-    let are = seen-units c.self.invariant c.self.view_is c.deref.ensures.value in
-    let past = c.in_default.ensures.lookup.3 in
-    let inside = slice_get_within us c.args.place.unit m.unit at.unit_is in
-    let len = stored-length c.deref.result.now us are in
-    absurd (omega (arith, past, inside, len))
 
 pub invariant_of-self : goal.invariant_of-self
 invariant_of-self c = with-reader _ c.self.invariant c.in_err-entry.ensures.reader

@@ -9,18 +9,6 @@ use Rattle.dwarf_entries.proofs.UnitPasses.UnitLaws.{stored-at, stored-length}
 use Rattle.dwarf_entries.proofs.units.Units.roots.Goals as goal
 use Rattle.dwarf_entries.proofs.units.Units.roots.Goals.{in-Some+in_ok-push, in_default}
 
-pub loop-unit-init : goal.loop-unit-init
-loop-unit-init c = rw c.new-roots.ensures.items (record { first_is = refl; so_far = refl })
-
-pub overflow_add-past : goal.overflow_add-past
-overflow_add-past c =
-    let are = seen-units c.self.invariant c.self.view_is c.deref-unit-items.ensures.value in
-    let here = stored-at _ c.args.self.now.units c.loop-unit.unit-index c.unit-item.result are
-    (slice_get_read _ _ _ _ refl c.loop-unit-test.true c.unit-item.is) in
-    let past = past-is here c.loop-unit.first (c.loop-unit.first + c.unit-item.result.scopes.len)
-    c.loop-unit.invariant.first_is refl in
-    omega (arith, past.1, c.len.ensures, c.requires)
-
 pub loop-unit-preserved : goal.loop-unit-preserved
 loop-unit-preserved c =
     let first = c.loop-unit.first in

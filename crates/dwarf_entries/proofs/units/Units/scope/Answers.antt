@@ -68,12 +68,6 @@ module _ (s : Sections) {us : List CompilationUnit} {before : List ParsedScope} 
           grown,
         )
 
-pub returns-in_err-names-clause-parsed : goal.returns-in_err-names-clause-parsed
-returns-in_err-names-clause-parsed c before p place =
-    rw (exit _ c.from_residual.ensures.1)
-    (first-fails (names_of c.args.self.now.sections c.args.self.now.units p.member) _
-    (c.in_err-names.ensures.names p.member (site-member c.args.self.now.sections place)))
-
 pub returns-in_err-items-clause-parsed : goal.returns-in_err-items-clause-parsed
 returns-in_err-items-clause-parsed c before p place =
     let same = c.self.view_is ∙ c.in_ok-names.ensures.same in

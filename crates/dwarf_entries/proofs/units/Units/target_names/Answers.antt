@@ -1,5 +1,5 @@
-use Rattle.std.proofs.Common.{inl, inr, sym, ◌∙◌}
-use Rattle.dwarf_entries.proofs.OriginChains.ChainStrings.{cache-more, packed-cache, packed-nowhere}
+use Rattle.std.proofs.Common.{inl, sym, ◌∙◌}
+use Rattle.dwarf_entries.proofs.OriginChains.ChainStrings.{cache-more, packed-cache}
 use Rattle.dwarf_entries.proofs.UnitPasses.ObjectLaws.{seen, with-cache}
 use Rattle.dwarf_entries.proofs.units.Units.target_names.Goals as goal
 use Rattle.dwarf_entries.proofs.UnitPasses.PassLaws.{exit}
@@ -11,12 +11,6 @@ returns-in-Some-get-clause-names c u is =
     packed-cache object.sections object.units u c.args.reference c.in-Some.place
     c.in-Some-get.names c.self.inside.cache are.cache_is c.in-Some-get.ensures.some
     (c.in-Some.ensures.leads u is)
-
-pub returns-then-not-has_entry-clause-names : goal.returns-then-not-has_entry-clause-names
-returns-then-not-has_entry-clause-names c u is =
-    let missing = rw c.if-not-has_entry.true at c.has_entry.ensures c.in-Some.ensures.within in
-    inr (packed-nowhere c.args.self.now.sections c.args.self.now.units u c.args.reference
-    (c.in-Some.ensures.leads u is ∙ missing))
 
 pub returns-in_err-next-clause-names : goal.returns-in_err-next-clause-names
 returns-in_err-next-clause-names c u is =

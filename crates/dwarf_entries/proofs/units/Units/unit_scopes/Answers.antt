@@ -101,13 +101,6 @@ is-site {us = us} so_far u index p numbers entry found there number_is stored re
       budget_is = omega (arith, so_far.counted);
     }
 
-pub loop-index-init : goal.loop-index-init
-loop-index-init c = record {
-  same = refl;
-  so_far = λ parsed. subst (λ (n : ℕ). AreParsedTo c.args.self.now.sections c.args.self.now.units n
-      c.args.lists.now c.args.left.now) (omega arith) parsed;
-}
-
 pub returns-in_err-entry-clause-scopes : goal.returns-in_err-entry-clause-scopes
 returns-in_err-entry-clause-scopes c parsed =
     let u = element c.args.self.now.units c.args.unit c.requires.unit in
