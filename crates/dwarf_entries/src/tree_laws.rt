@@ -80,6 +80,7 @@ pub fn names_are_strings()
 {}
 
 /// The units are contiguous in `.debug_info`, as their headers describe.
+#[tactic(auto, using(crate::proofs::UnitPasses::HeaderLaws::units_contiguous))]
 pub fn units_are_contiguous()
     ensures { (info : List ℕ) (headers : List UnitHeader) → headers_of info ≡ Ok headers
         → AreContiguous info 0 headers }

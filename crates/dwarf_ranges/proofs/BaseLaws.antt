@@ -42,14 +42,14 @@ item_at-outside kind section found table index place is within at past = rw (
 
 -- ---- the current base
 
-pub base-stays : (base : Option ℕ) (ranges : List (Option Range))
+pub base_stays : (base : Option ℕ) (ranges : List (Option Range))
     → base_after base (map (λ range. Covers range) ranges) ≡ base
-base-stays base [] = refl
-base-stays base (range ∷ ranges) = base-stays base ranges
+base_stays base [] = refl
+base_stays base (range ∷ ranges) = base_stays base ranges
 
-pub base-of_last : (low_pc : Option ℕ) (before : List RangeListEntry) (base : ℕ)
+pub base_of_last : (low_pc : Option ℕ) (before : List RangeListEntry) (base : ℕ)
     (ranges : List (Option Range)) → base_after low_pc
     (before ++ Base base ∷ map (λ range. Covers range) ranges) ≡ Some base
-base-of_last low_pc [] base ranges = base-stays (Some base) ranges
-base-of_last low_pc (first ∷ before) base ranges =
-    base-of_last (next_base first low_pc) before base ranges
+base_of_last low_pc [] base ranges = base_stays (Some base) ranges
+base_of_last low_pc (first ∷ before) base ranges =
+    base_of_last (next_base first low_pc) before base ranges

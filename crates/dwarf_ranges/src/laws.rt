@@ -9,6 +9,7 @@ ghost use Rattle.dwarf_ranges.specs.Ranges.{base_after};
 
 /// The current base after some entries of a range list is the one set by the last base entry. If
 /// no entry sets a base, it is the initial base, which is the low_pc of the unit.
+#[tactic(auto, using(crate::proofs::BaseLaws::base_of_last, crate::proofs::BaseLaws::base_stays))]
 pub fn base_is_of_last_base_entry()
     ensures last { (low_pc : Option ℕ) (before : List RangeListEntry) (base : ℕ)
         (ranges : List (Option Range))

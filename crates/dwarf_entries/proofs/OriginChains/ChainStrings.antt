@@ -23,7 +23,6 @@ use Rattle.dwarf_entries.specs.declared.references.UnitPlace.{UnitPlace}
 use Rattle.dwarf_walk.specs.References.{next_of}
 use Rattle.dwarf_entries.specs.Private.Narrow.{are_narrow}
 use Rattle.dwarf_entries.proofs.OriginChains.ChainLaws.{in_front, stepped}
-use Rattle.dwarf_bytes.specs.declared.fault.Cause.TheVariants as causes
 
 -- ---- the strings
 
@@ -102,9 +101,6 @@ names-by-reference s units number entry m reference at (next, no_name, no_linkag
 
 -- ---- the names of the target of a reference
 
-abbrev names_from : Sections → List CompilationUnit → Result Member Cause → Result EntryNames Cause
-names_from s units target = target >>= λ m. second_names s units m
-
 pub packed-cache : (s : Sections) (units : List CompilationUnit) (u : CompilationUnit)
     (reference : AttributeValue) (place : UnitPlace) (names : EntryNames) (cache : NameCache)
     → IsCacheOf s units cache
@@ -113,8 +109,3 @@ pub packed-cache : (s : Sections) (units : List CompilationUnit) (u : Compilatio
     ≡ Ok names
 packed-cache s units u reference place names cache knew is leads =
     let at = knew (slot_of place) (cached_names place names) is in rw (leads, at.1) at.2
-
-pub packed-nowhere : (s : Sections) (units : List CompilationUnit) (u : CompilationUnit)
-    (reference : AttributeValue) → target_of units u reference ≡ Err causes.Reference
-    → target_names s units u reference ≡ Err causes.Reference
-packed-nowhere s units u reference lost = rw lost refl

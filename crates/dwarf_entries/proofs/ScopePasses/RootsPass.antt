@@ -5,8 +5,7 @@ use Rattle.std.specs.Prelude.{Option, Some, None, All, count_by, slice_get, nat_
 use Rattle.std.specs.List.Sorted.{IsNonDecreasingBy, IsPartitionPoint}
 use Rattle.std.proofs.lemmas.List.Elements.{All-nil, All-cons, All-weaker}
 use Rattle.std.proofs.lemmas.List.{take_more}
-use Rattle.std.proofs.lemmas.List.Sums.{sum_by-cons, sum_by-take-le, sum_by_more}
-use Rattle.std.proofs.lemmas.List.Sums.{position_or_len_is}
+use Rattle.std.proofs.lemmas.List.Sums.{sum_by-cons, sum_by-take-le, position_or_len_is}
 use Rattle.std.proofs.lemmas.Option.{slice_get_within, get_or_from_slice_get}
 use Rattle.dwarf_units.specs.Entries.{Die}
 use Rattle.dwarf_walk.specs.declared.unit_entries.RootEntry.{RootEntry}
@@ -16,7 +15,6 @@ use Rattle.dwarf_walk.specs.Stored.{StoredUnit, root_in}
 use Rattle.dwarf_entries.specs.declared.scope.Root.{Root}
 use Rattle.dwarf_entries.specs.Units.{CompilationUnit}
 use Rattle.dwarf_entries.specs.Scopes.{root_of, roots_from, stmt_list_of, stmt_list_by_number}
-use Rattle.dwarf_entries.specs.Private.EntryOffsets.{scope_count}
 use Rattle.dwarf_entries.specs.Private.Passes.{number_of_scopes, first_number}
 use Rattle.dwarf_entries.proofs.ScopePasses.SiteLaws.{sites-count, first-next}
 use Rattle.dwarf_entries.proofs.UnitPasses.RereadLaws.{sites-stored}
@@ -139,14 +137,6 @@ pub ends-rise : (us : List CompilationUnit) (roots : List Root) → roots ≡ ro
     → IsNonDecreasingBy (λ r. r.past) roots
 ends-rise us roots are =
     rw are (parts-rise 0 (0 + number_of_scopes us) (roots_from 0 us) (roots-part 0 us)).1
-
--- The sum of the numbers of scopes up to the next index.
-pub count-within : (units : List UnitEntries) (index : ℕ) (unit : UnitEntries) (first : ℕ)
-    → first ≡ scope_count (take index units) → index < length units → unit ≡ get_or units index unit
-    → first + length unit.scopes.items ≡ scope_count (take (index + 1) units)
-count-within units index unit first first_is within is =
-    let sum = sum_by_more (λ (u : UnitEntries). length u.scopes.items) units index unit within in
-    rw (sum, ← is, first_is) refl
 
 -- ---- the roots
 

@@ -100,10 +100,10 @@ list-contiguous info before at (header ∷ headers) after h le =
     (omega (arith, place, moves.1)) in
     (read, (unit_at-bounds info at header read).0, moves.0, rw place rest))
 
-pub units-contiguous : (info : List ℕ) (headers : List UnitHeader) → headers_of info ≡ Ok headers
+pub units_contiguous : (info : List ℕ) (headers : List UnitHeader) → headers_of info ≡ Ok headers
     → AreContiguous info 0 headers
 unfolding headers_of
-units-contiguous info headers h =
+units_contiguous info headers h =
     let all = bind_ok (items_from (length info) (header_at info) [] 0) _ headers h in
     rw (← same-ok all.0.0 headers all.2) (list-contiguous info [] 0 all.0.0 all.0.1 (Lists-within _
     (header_at info) [] 0 all.0.0 all.0.1 all.1) (omega arith))
@@ -140,7 +140,7 @@ pub headers-in : (info : List ℕ) (headers : List UnitHeader) → units_of info
 unfolding units_of
 headers-in info headers h =
     let all = bind_ok (headers_of info) _ headers h in
-    let order = (contiguous-headers info 0 all.0 (units-contiguous info all.0 all.1)).1 in
+    let order = (contiguous-headers info 0 all.0 (units_contiguous info all.0 all.1)).1 in
     rw (← same-ok (filter is_read all.0) headers all.2) (record {
       apart = AllPairs-filter IsBefore is_read all.0 order.apart;
       bounded = All-filter is_read (HasBounds (length info)) all.0 order.bounded;
