@@ -1,3 +1,4 @@
 pub mod BelowLaws
 pub mod SiteOrder
 pub mod TreeParts
+pub mod ScopePlaces

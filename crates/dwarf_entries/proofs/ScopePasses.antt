@@ -1,3 +1,4 @@
 pub mod PushedScopes
 pub mod SiteLaws
 pub mod RootsPass
+pub mod DataLaws

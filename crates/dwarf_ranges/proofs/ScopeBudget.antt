@@ -76,7 +76,8 @@ pair-fits budget sections bases low high covering h =
     let end = bind_ok (high_of sections bases start.0 high) _ range.0 start.2 in
     let few : budget ≢ 0 = grind (arith, some.0) in
     let one : (found : Option Range) → length (option_to_list found) ≤ 1 = λ found. grind arith in
-    rw (← same-ok (record { ranges = option_to_list range.0; items = 1 }) covering range.2) (record {
+    let same = same-ok (record { ranges = option_to_list range.0; items = 1 }) covering range.2 in
+    rw (← same) (record {
       hold = live-holds (start.0, end.0) range.0 end.2;
       counted = one range.0;
       within = omega (arith, few);

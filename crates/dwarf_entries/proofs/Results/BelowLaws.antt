@@ -31,7 +31,9 @@ module _ {X : Type 0} (p : X → Bool) (xs : List X) where
       → (end : ℕ) → (counted place < counted end) ↔ (place < end)
   counted-before place d within passes end =
       let more = count_by_more_yes p xs place d within passes in
-      (λ lt. grind (arith, counted-rises end place), λ lt. grind (arith, counted-rises (place + 1) end))
+      let before = counted-rises end place in
+      let after = counted-rises (place + 1) end in
+      (λ lt. grind arith, λ lt. grind arith)
 
 -- The index after the entries below an entry.
 abbrev past_below : List Die → ℕ → Die → ℕ

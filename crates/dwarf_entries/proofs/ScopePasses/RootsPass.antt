@@ -1,4 +1,4 @@
--- The roots of units: the loop that returns them, their order, and the root of a scope by its number.
+-- The roots of units: the loop that returns them, their order, and the root of a scope.
 use Rattle.std.proofs.Common.{◌≡◌, ℕ, zero, suc, ◌+◌, ◌<◌, ◌≤◌, List, [], ◌∷◌, ◌++◌, length, take}
 use Rattle.std.proofs.Common.{get_or, refl, ap, sym, ◌∙◌, arith, append_assoc, append-nil, subst}
 use Rattle.std.specs.Prelude.{Option, Some, None, All, count_by, slice_get, nat_lt}

@@ -86,7 +86,8 @@ list-contiguous : (info : List ℕ) (before : List UnitHeader) (at : ℕ) (heade
     (after : ℕ) → Lists (header_at info) before at headers after → at ≤ length info
     → AreContiguous info at headers
 list-contiguous info before at [] after h le =
-    chosen (nat_le (length info) at) _ _ (Ok (End after)) h (at ≡ length info) (λ past _. grind arith)
+    chosen (nat_le (length info) at) _ _ (Ok (End after)) h (at ≡ length info)
+    (λ past _. grind arith)
     (λ _ h1. let found = bind_ok (unit_at info at) _ (End after) h1 in let no = found.2 in cc)
 list-contiguous info before at (header ∷ headers) after h le =
     chosen (nat_le (length info) at) _ _ (Ok (Item header h.0)) h.1

@@ -105,7 +105,8 @@ pub reread : (s : Sections) (us : List CompilationUnit) (stored : List UnitEntri
     ≡ Ok (named_entry m.die))
 reread s us stored place m k are same found at =
     let read = stored-in s m.unit k
-    (stored-index stored us place.unit k same found m.unit at.unit_is) (are.each_is place.unit m.unit at.unit_is) in (
+    (stored-index stored us place.unit k same found m.unit at.unit_is)
+    (are.each_is place.unit m.unit at.unit_is) in (
       read,
       rw (← at.offset_is)
           (names_at-there s k.header m.unit.dies at.index m.die read at.there),

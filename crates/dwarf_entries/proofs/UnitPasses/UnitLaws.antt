@@ -1,4 +1,4 @@
--- The units of an object, as they were read from its sections, and the data that is stored for them.
+-- The units of an object, as they were read from its sections, and what is stored for them.
 use Rattle.std.proofs.Common.{◌≡◌, ℕ, zero, suc, ◌<◌, ◌≤◌, List, [], ◌∷◌, length, map, false, Bool}
 use Rattle.std.proofs.Common.{◌==◌, ◌||◌, refl, ap, sym, ◌∙◌, subst, arith, subst₂, get_or, ◌+◌}
 use Rattle.std.proofs.Common.{◌++◌}

@@ -125,7 +125,8 @@ loop-header-init c = rw c.new-units.ensures.items
 
 pub returns-in_err-number-clause-units : goal.returns-in_err-number-clause-units
 returns-in_err-number-clause-units c tables all =
-    rw (exit _ c.from_residual.ensures.1) (inl (entries-table-fault (c.loop-header.invariant.so_far tables all) _ all _
+    rw (exit _ c.from_residual.ensures.1)
+    (inl (entries-table-fault (c.loop-header.invariant.so_far tables all) _ all _
     c.loop-header-test.true c.in_err-number.field-0.0
     (rw c.loop-header.invariant.section at c.in_err-number.ensures.err)))
 
@@ -138,7 +139,8 @@ returns-in_err-unit-clause-units c tables all =
     let found = rw c.loop-header.invariant.section at c.in_ok-number.ensures.ok in
     let same : c.table-table.result ≡ found.0 =
     same_Some c.table-table.result found.0 (sym c.table-table.ensures ∙ found.1) in
-    rw (exit _ c.from_residual-in_err-unit.ensures.1) (entries-fault (c.loop-header.invariant.so_far tables all) _ all _
+    rw (exit _ c.from_residual-in_err-unit.ensures.1)
+    (entries-fault (c.loop-header.invariant.so_far tables all) _ all _
     c.loop-header-test.true _ found.2 (rw same at c.in_err-unit.ensures.decodes))
 
 pub loop-header-preserved : goal.loop-header-preserved

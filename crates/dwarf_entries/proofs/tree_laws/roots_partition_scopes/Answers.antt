@@ -54,7 +54,8 @@ roots-of number (u ∷ us) =
     past : ℕ
     past = number + count_by is_scope u.dies
 
-    by_dies : (dies : List Die) → u.dies ≡ dies → All (IsRootOf (u ∷ us) number) (roots_from past us)
+    by_dies : (dies : List Die) → u.dies ≡ dies
+        → All (IsRootOf (u ∷ us) number) (roots_from past us)
         → All (IsRootOf (u ∷ us) number) (root_of number past dies (roots_from past us))
     by_dies [] is rest = rest
     by_dies (die ∷ dies) is rest =
@@ -73,7 +74,8 @@ roots-of number (u ∷ us) =
 -- ---- the theorems
 
 pub returns-clause-parts : goal.returns-clause-parts
-returns-clause-parts c s tree h = after-tree s tree h (λ tree. ArePartsFrom 0 (length tree.scopes) tree.roots)
+returns-clause-parts c s tree h = after-tree s tree h
+    (λ tree. ArePartsFrom 0 (length tree.scopes) tree.roots)
     (λ us parsed us_are parsed_are.
     let made = each-length (parse_scope s us) [] (all_sites us) parsed parsed_are in
     let size : 0 + number_of_scopes us ≡ length (scopes_in parsed) =
@@ -107,5 +109,6 @@ returns-clause-scopes c s tree root scope h = after-tree s tree h (λ tree. Cont
     → Contains tree.scopes scope → root.first ≤ scope.number → scope.number < root.past
     → IsOfUnit root scope) (λ us parsed us_are parsed_are root_in scope_in.
     let j = contained (scopes_in parsed) scope scope_in in
-    of-unit s us j.0 scope root (units-in s us us_are) (scope-at s us parsed parsed_are j.0 scope j.1)
+    of-unit s us j.0 scope root (units-in s us us_are)
+    (scope-at s us parsed parsed_are j.0 scope j.1)
     (All-contains (IsRootOf us 0) (roots_from 0 us) root (roots-of 0 us) root_in))

@@ -18,7 +18,8 @@ returns-in_err-entry-clause-member c m at =
     c.in-Some.stored.now (object-units _ _ c.self.view_is)
     (seen-units c.self.invariant c.self.view_is c.deref.ensures.value)
     (found-at _ _ c.args.place.unit _ refl c.in-Some.ensures.lookup.3) at in
-    rw (exit _ c.from_residual.ensures.1) (again-memory c.in_err-entry.field-0.0 _ (named_entry m.die) r.1
+    rw (exit _ c.from_residual.ensures.1)
+    (again-memory c.in_err-entry.field-0.0 _ (named_entry m.die) r.1
     (c.in_err-entry.ensures.names_at object.sections r.0.table
     (seen c.self.invariant c.self.view_is).reader_is r.0.table_is))
 

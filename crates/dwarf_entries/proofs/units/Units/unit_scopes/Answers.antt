@@ -104,7 +104,8 @@ is-site {us = us} so_far u index p numbers entry found there number_is stored re
 pub returns-in_err-entry-clause-scopes : goal.returns-in_err-entry-clause-scopes
 returns-in_err-entry-clause-scopes c parsed =
     let u = element c.args.self.now.units c.args.unit c.requires.unit in
-    rw (exit _ c.from_residual.ensures.1) (inl ((rw c.loop-index.invariant.same at c.in_err-entry.ensures.site) u.0 u.1))
+    rw (exit _ c.from_residual.ensures.1)
+    (inl ((rw c.loop-index.invariant.same at c.in_err-entry.ensures.site) u.0 u.1))
 
 pub returns-in-Err-clause-scopes : goal.returns-in-Err-clause-scopes
 returns-in-Err-clause-scopes c parsed =

@@ -1,0 +1,76 @@
+-- The scopes of an object are in order: the number of each is its index, and a scope that starts
+-- inside another one also ends inside it.
+use Rattle.std.proofs.Common.{◌≡◌, ℕ, suc, ◌+◌, ◌<◌, ◌≤◌, List, [], ◌∷◌, length, get_or, refl, ap}
+use Rattle.std.proofs.Common.{arith}
+use Rattle.std.specs.Prelude.{Some, slice_get, is_some, Ok}
+use Rattle.std.proofs.lemmas.List.{length-map}
+use Rattle.std.proofs.lemmas.List.Elements.{recursion_from_All}
+use Rattle.std.proofs.lemmas.Option.{slice_get-get_or, slice_get_within}
+use Rattle.dwarf_bytes.proofs.Items.EachPlaces.{each-length}
+use Rattle.dwarf_entries.specs.Units.{CompilationUnit}
+use Rattle.dwarf_entries.specs.Order.{AreNumbered, AreNested, AreInOrder}
+use Rattle.dwarf_entries.specs.Scopes.{Scope, ScopeSite, ParsedScope, Tree, tree_of}
+use Rattle.dwarf_entries.specs.Private.Passes.{parse_scope, all_sites}
+use Rattle.dwarf_entries.proofs.Results.SiteOrder.{sites-below, in-unit-of, before-later}
+use Rattle.dwarf_entries.proofs.Results.BelowLaws.{ends-within}
+use Rattle.dwarf_entries.proofs.Results.TreeParts.{after-tree, scope-at, scopes_in}
+use Rattle.dwarf_entries.proofs.ScopePasses.SiteLaws.{IsSiteAt, first-all}
+use Rattle.dwarf_walk.specs.Sections.{Sections}
+
+numbered : (m total : ℕ) (ss : List Scope) → m + length ss ≡ total
+    → ((i : ℕ) (s : Scope) → slice_get ss i ≡ Some s
+    → (s.number ≡ m + i) × (s.number < s.«end») × (s.«end» ≤ total)) → AreNumbered m total ss
+numbered m total [] size at = omega (arith, size)
+numbered m total (s ∷ ss) size at =
+    let here = at 0 s refl in (
+      omega (arith, here.0),
+      omega (arith, here.0, here.1),
+      here.2,
+      numbered (suc m) total ss (omega (arith, size)) (λ i t found.
+          let later = at (suc i) t found in (omega (arith, later.0), later.1, later.2)),
+    )
+
+nested : (ss : List Scope) → ((i j : ℕ) (s t : Scope) → slice_get ss i ≡ Some s
+    → slice_get ss j ≡ Some t → i < j → t.number < s.«end» → t.«end» ≤ s.«end») → AreNested ss
+nested [] at = tt
+nested (s ∷ ss) at = (
+  recursion_from_All (λ (t : Scope). t.number < s.«end» → t.«end» ≤ s.«end») ss (λ k d lt.
+      at 0 (suc k) s (get_or ss k d) refl (slice_get-get_or ss k d lt) (omega arith)),
+  nested ss (λ i j t u first second lt. at (suc i) (suc j) t u first second (omega (arith, lt))),
+)
+
+-- A scope that starts inside another one also ends inside it.
+sites-nest : {us : List CompilationUnit} {n m : ℕ} {p q : ScopeSite} (a : IsSiteAt us n p)
+    (b : IsSiteAt us m q) → n < m → m < n + 1 + p.inside → m + 1 + q.inside ≤ n + 1 + p.inside
+sites-nest {p = p} {q = q} a b lt within =
+    let under = (sites-below a b).1 (lt, within) in
+    let here = in-unit-of a a refl in
+    let there = in-unit-of a b under.0 in
+    let ends = ends-within p.member.unit.dies a.is.index b.is.index p.member.die q.member.die
+    here.there there.there (ap is_some a.is.kind_is) (ap is_some b.is.kind_is) under.1 in
+    omega (arith, ends, here.number_is, here.inside_is, there.number_is, there.inside_is)
+
+pub scopes-in-order : (s : Sections) (tree : Tree) → tree_of s ≡ Ok tree → AreInOrder tree.scopes
+scopes-in-order s tree h = after-tree s tree h (λ tree. AreInOrder tree.scopes)
+    (λ us parsed us_are parsed_are.
+    let scopes : List Scope = scopes_in parsed in
+    let at = scope-at s us parsed parsed_are in
+    let all = first-all us (length us) (omega arith) in
+    let size = each-length (parse_scope s us) [] (all_sites us) parsed parsed_are in
+    let same = length-map parsed (λ (j : ParsedScope). j.scope) in
+    record {
+      numbered = numbered 0 (length scopes) scopes (omega arith) (λ i t found.
+          let x = at i t found in
+          let last = (before-later x.place (length us)
+          (slice_get_within us x.place.unit x.site.member.unit x.place.unit_is)).1 in (
+            omega (arith, x.number_is),
+            omega (arith, x.number_is, x.end_is),
+            omega (arith, x.end_is, last, all, size, same),
+          ));
+      nested = nested scopes (λ i k t u first second lt inside.
+          let x = at i t first in
+          let y = at k u second in
+          let ends = sites-nest x.place y.place lt
+          (omega (arith, inside, y.number_is, x.end_is)) in
+          omega (arith, ends, y.end_is, x.end_is));
+    })
