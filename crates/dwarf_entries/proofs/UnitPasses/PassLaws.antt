@@ -7,7 +7,6 @@ use Rattle.std.proofs.lemmas.List.{take_more, take_all, take-append-drop}
 use Rattle.std.proofs.lemmas.Option.{slice_get_within, get_or_from_slice_get, slice_get_read}
 use Rattle.std.proofs.lemmas.Option.{slice_get_past}
 use Rattle.dwarf_bytes.specs.declared.fault.Cause.{Cause}
-use Rattle.dwarf_bytes.specs.declared.fault.Section.{Section}
 use Rattle.dwarf_bytes.specs.declared.fault.Section.TheVariants as names
 use Rattle.dwarf_bytes.specs.declared.fault.LoadFault.{LoadFault}
 use Rattle.dwarf_bytes.specs.Bind.{◌>>=◌}
@@ -87,12 +86,6 @@ item-fault r cause at bad = grind arith
 abbrev pub Faults : {X : Type 0} → LoadFault → Result X At → Type 0
 Faults fault r = (fault ≡ memory_fault) ⊎ (in_section names.DebugInfo r ≡ Err fault)
 
--- If a read succeeds, its only fault is that memory ran out.
-pub only-memory : {X : Type 0} (section : Section) (r : Result X At) (x : X) (fault : LoadFault)
-    → r ≡ Ok x → (fault ≡ memory_fault) ⊎ (in_section section r ≡ Err fault)
-    → fault ≡ memory_fault
-only-memory section r x fault is bad = grind arith
-
 -- The fault of the first of two steps.
 pub first-fault : {X Y : Type 0} {fault : LoadFault} (r : Result X At) (f : X → Result Y At)
     → Faults fault r → Faults fault (r >>= f)
@@ -101,10 +94,6 @@ first-fault r f bad = grind arith
 -- A step that succeeds has no fault.
 abbrev pub done : {Y : Type 0} → Y → Result Y At
 done y = Ok y
-
-pub before-done : {X Y : Type 0} {fault : LoadFault} (r : Result X At) (f : X → Y)
-    → Faults fault (r >>= λ x. done (f x)) → Faults fault r
-before-done r f bad = grind arith
 
 pub after-done : {X Y : Type 0} (r : Result X At) (f : X → Y) (y : Y)
     → in_section names.DebugInfo (r >>= λ x. done (f x)) ≡ Ok y

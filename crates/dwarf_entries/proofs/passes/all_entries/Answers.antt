@@ -26,9 +26,8 @@ use Rattle.dwarf_entries.specs.Units.{CompilationUnit}
 use Rattle.dwarf_ranges.specs.Bases.{no_bases}
 use Rattle.dwarf_entries.specs.Private.EntryOffsets.{stored_unit_of, all_offsets, dies_of}
 use Rattle.dwarf_entries.specs.Private.Passes.{all_entries}
-use Rattle.dwarf_entries.proofs.UnitPasses.PassLaws.{Faults, first-fault, before-done, after-done}
-use Rattle.dwarf_entries.proofs.UnitPasses.PassLaws.{pass-none, pass-next, pass-end, pass-fault}
-use Rattle.dwarf_entries.proofs.UnitPasses.PassLaws.{only-memory, done, exit}
+use Rattle.dwarf_entries.proofs.UnitPasses.PassLaws.{Faults, after-done, pass-none, pass-next}
+use Rattle.dwarf_entries.proofs.UnitPasses.PassLaws.{pass-end, pass-fault, done, exit}
 use Rattle.dwarf_bytes.specs.Bind.{◌>>=◌}
 use Rattle.dwarf_entries.proofs.passes.all_entries.Invariants.{EntriesSoFar}
 use Rattle.dwarf_entries.proofs.passes.all_entries.Goals as goal
@@ -62,8 +61,8 @@ module _ {info : List ℕ} {headers : List UnitHeader} {tables : List (List Decl
   entries-table-fault : (fault : LoadFault) → (fault ≡ memory_fault)
       ⊎ (in_section names.DebugAbbrev (declarations_of declarations_limit section
       (get_or headers index d).abbreviations) ≡ Err fault) → fault ≡ memory_fault
-  entries-table-fault fault bad = only-memory names.DebugAbbrev _ (get_or tables index []) fault
-      (table_is section headers tables index d all within) bad
+  entries-table-fault fault bad =
+      let read = table_is section headers tables index d all within in grind arith
 
   module _ (table : List Declaration) (table_read : in_section names.DebugAbbrev (declarations_of
       declarations_limit section (get_or headers index d).abbreviations) ≡ Ok table) where
@@ -108,9 +107,7 @@ module _ {info : List ℕ} {headers : List UnitHeader} {tables : List (List Decl
     entries-fault : {fault : LoadFault}
         → Faults fault (stored_entries info (get_or headers index d) table)
         → Faults fault (all_entries info headers tables)
-    entries-fault bad = pass-fault so_far.passed (get_or headers index d, table) pair-at
-        (first-fault _ _ (before-done (entries_of info (get_or headers index d) table)
-        (stored_unit (get_or headers index d)) bad))
+    entries-fault bad = pass-fault so_far.passed (get_or headers index d, table) pair-at (grind arith)
 
 entries-end : {info : List ℕ} {headers : List UnitHeader} {tables : List (List Declaration)}
     {bitmap marked : EntryBitmap} {index : ℕ} {stored : List UnitEntries}
