@@ -107,7 +107,8 @@ module _ {info : List ℕ} {headers : List UnitHeader} {tables : List (List Decl
     entries-fault : {fault : LoadFault}
         → Faults fault (stored_entries info (get_or headers index d) table)
         → Faults fault (all_entries info headers tables)
-    entries-fault bad = pass-fault so_far.passed (get_or headers index d, table) pair-at (grind arith)
+    entries-fault bad =
+        pass-fault so_far.passed (get_or headers index d, table) pair-at (grind arith)
 
 entries-end : {info : List ℕ} {headers : List UnitHeader} {tables : List (List Declaration)}
     {bitmap marked : EntryBitmap} {index : ℕ} {stored : List UnitEntries}
