@@ -1,6 +1,5 @@
 pub mod SetLaws
 pub mod ListLaws
+pub mod MapLaws
 pub mod MemoLaws
-pub mod MemoPuts
-pub mod MemoCount
 pub mod SharedTableLaws

@@ -1,27 +1,27 @@
--- Attribute lists with a memoized rest, and the memoized lists while more are appended.
-use Rattle.std.proofs.Common.{◌≡◌, ℕ, ◌<◌, List, [], ◌∷◌, ◌++◌, length, false, refl}
-use Rattle.std.specs.Prelude.{Option, Some, None, Ok, ◌==◌}
+-- Attribute lists by their first attributes and the rest.
+use Rattle.std.proofs.Common.{◌≡◌, ℕ, ◌<◌, ◌≤◌, List, [], ◌∷◌, ◌++◌, length, false, refl, ap, sym}
+use Rattle.std.proofs.Common.{◌∙◌, subst, arith, append_assoc}
+use Rattle.std.specs.Prelude.{Option, Some, None, IfSome, Ok, Err, ◌==◌}
 use Rattle.std.specs.List.{list_any}
-use Rattle.std.proofs.Math.ListN.{get_or-append}
-use Rattle.dwarf_bytes.specs.Items.{Item, End}
+use Rattle.std.proofs.lemmas.List.Folds.{list_any-append}
+use Rattle.dwarf_bytes.specs.declared.fault.Cause.{Cause}
+use Rattle.dwarf_bytes.specs.Items.{Item, End, Lists}
+use Rattle.dwarf_bytes.specs.Position.{Position}
+use Rattle.dwarf_bytes.specs.Refusals.{ReadsNext}
+use Rattle.dwarf_bytes.proofs.Items.ItemLaws.{items_from-Lists}
 use Rattle.dwarf_bytes.proofs.Items.Turns.{SoFar, so-far-none, so-far-item, so-far-end}
+use Rattle.dwarf_bytes.proofs.Numbers.Moves.{same-item}
 use Rattle.dwarf_forms.specs.declared.attribute.AttributeSpecification.{AttributeSpecification}
 use Rattle.dwarf_forms.specs.Tables.{attribute_at, attributes_at, shares_name}
-use Rattle.dwarf_forms.proofs.Moves.{attribute_at-advances, attributes-ok}
+use Rattle.dwarf_forms.proofs.Moves.{attribute_at-advances, attribute_at-ends, attributes_at-lists}
+use Rattle.dwarf_forms.proofs.Moves.{attributes_at-moves, attributes-ok}
+use Rattle.dwarf_forms.proofs.SuffixLaws.{attribute-again, attribute-new, either, end-again, named}
 use Rattle.dwarf_forms.proofs.SuffixLists.{append-ok, so-far-append}
-use Rattle.abbreviation_memo.specs.Lists.{MemoizedAttribute, IsMemoized, attributes_from}
-use Rattle.abbreviation_memo.specs.Lists.{rest_attributes}
+use Rattle.abbreviation_memo.specs.Lists.{IsListAt, first_of, list_at, list_from, listed}
 
-pub from-stays : (memoized more : List MemoizedAttribute) (number : ℕ) → number < length memoized
-    → attributes_from (memoized ++ more) number ≡ attributes_from memoized number
-unfolding attributes_from
-from-stays memoized more number lt = get_or-append memoized more [] number lt
-
-pub rest-stays : (memoized more : List MemoizedAttribute) (next : Option ℕ)
-    → IsMemoized memoized next
-    → rest_attributes (memoized ++ more) next ≡ rest_attributes memoized next
-rest-stays memoized more None is = refl
-rest-stays memoized more (Some number) is = from-stays memoized more number is
+pub list-read : (section : List ℕ) (at : ℕ) (xs : List AttributeSpecification) (after : ℕ)
+    → attributes_at section at ≡ Ok (xs, after) → list_at section at ≡ xs
+list-read section at xs after read = ap listed read
 
 -- a list without the names of the attributes before it continues them
 pub list-continues : (section : List ℕ) (first : ℕ) (own : List AttributeSpecification) (at : ℕ)
@@ -50,3 +50,93 @@ list-ends section at after ends =
     attributes-ok section at ([], after)
     (so-far-end (length section) (attribute_at section) (attribute_at-advances section) at [] at
     after (so-far-none (length section) (attribute_at section) at) ends)
+
+-- ---- the first attribute of a valid list
+
+pub is-list : (section : List ℕ) (at : ℕ) (xs : List AttributeSpecification) (after : ℕ)
+    → attributes_at section at ≡ Ok (xs, after) → IsListAt section at
+is-list section at xs after read = (after, rw (list-read section at xs after read) read)
+
+-- a list that is read after other attributes is also read without them
+lists-alone : (section : List ℕ) (own before : List AttributeSpecification) (at : ℕ)
+    (xs : List AttributeSpecification) (next : ℕ)
+    → Lists (attribute_at section) (own ++ before) at xs next
+    → Lists (attribute_at section) before at xs next
+lists-alone section own before at [] next listed =
+    end-again section (own ++ before) before at next listed
+lists-alone section own before at (x ∷ xs) next listed =
+    let new = either (list_any (named x.name) own) (list_any (named x.name) before)
+    (sym (list_any-append (named x.name) own before)
+    ∙ attribute-new section (own ++ before) at x listed.0 listed.1) in (
+      listed.0,
+      attribute-again section (own ++ before) before at x listed.0 listed.1 new.1,
+      lists-alone section own (before ++ x ∷ []) listed.0 xs next
+          (subst (λ (ys : List AttributeSpecification). Lists (attribute_at section) ys listed.0 xs
+          next) (append_assoc own before (x ∷ [])) listed.2),
+    )
+
+-- the list at an offset, by what is read first
+pub record StartsAt (section : List ℕ) (place : ℕ) (first : Option AttributeSpecification)
+    (rest : ℕ) : Type 0 where
+  pub list : list_at section place ≡ list_from section first rest
+  pub after : IfSome first (λ _. (place < rest) × IsListAt section rest)
+
+pub starts-at : (section : List ℕ) (place : ℕ) (first : Option AttributeSpecification) (rest : ℕ)
+    → IsListAt section place → attribute_at section [] place ≡ Ok (first_of first rest)
+    → StartsAt section place first rest
+starts-at section place None rest is read = record {
+  list = list-read section place [] rest (list-ends section place rest read);
+  after = tt;
+}
+starts-at section place (Some x) rest is read = by_list (list_at section place) refl
+    (attributes_at-lists section place (list_at section place, is.0) is.1)
+  where
+    by_list : (xs : List AttributeSpecification) → list_at section place ≡ xs
+        → Lists (attribute_at section) [] place xs is.0 → StartsAt section place (Some x) rest
+    by_list [] list listed = cc
+    by_list (y ∷ ys) list listed =
+        let same = same-item y x listed.0 rest (sym listed.1 ∙ read) in
+        let others : attributes_at section listed.0 ≡ Ok (ys, is.0) =
+        attributes-ok section listed.0 (ys, is.0)
+        (items_from-Lists (length section) (attribute_at section) (attribute_at-advances section)
+        [] listed.0 ys is.0 (lists-alone section (y ∷ []) [] listed.0 ys is.0 listed.2)) in
+        let moved = attribute_at-advances section [] place x rest read in
+        subst (λ (z : AttributeSpecification). StartsAt section place (Some z) rest) same.0
+        (subst (λ (k : ℕ). StartsAt section place (Some y) k) same.1 (record {
+          list = list ∙ ap (λ (zs : List AttributeSpecification). y ∷ zs)
+              (sym (list-read section listed.0 ys is.0 others));
+          after = (omega (arith, same.1, moved.0), is-list section listed.0 ys is.0 others);
+        }))
+
+-- ---- reading the start of a list
+
+pub start-next : (section : List ℕ) (place : ℕ) (old new : Position)
+    (found : Option AttributeSpecification) → old ≡ record { bytes = section; place = place }
+    → ReadsNext (Ok found) (λ bytes. attribute_at bytes []) old new
+    → attribute_at section [] place ≡ Ok (first_of found new.place)
+start-next section place old new None at read =
+    subst (λ (p : Position). attribute_at p.bytes [] p.place ≡ Ok (End new.place)) at read.0
+start-next section place old new (Some x) at read =
+    subst (λ (p : Position). attribute_at p.bytes [] p.place ≡ Ok (Item x new.place)) at read.0
+
+pub start-later : (section : List ℕ) (place : ℕ) (first : Option AttributeSpecification) (rest : ℕ)
+    → attribute_at section [] place ≡ Ok (first_of first rest)
+    → (place < rest) × (rest ≤ length section)
+start-later section place None rest read = attribute_at-ends section [] place rest read
+start-later section place (Some x) rest read = attribute_at-advances section [] place x rest read
+
+-- a valid list has a valid start
+pub start-valid : {X : Type 0} (section : List ℕ) (place : ℕ) (cause : Cause)
+    → IsListAt section place → attribute_at section [] place ≡ Err cause → X
+start-valid {X = X} section place cause is fault = by_list (list_at section place)
+    (attributes_at-lists section place (list_at section place, is.0) is.1)
+  where
+    by_list : (xs : List AttributeSpecification)
+        → Lists (attribute_at section) [] place xs is.0 → X
+    by_list [] listed = cc (listed, fault)
+    by_list (y ∷ ys) listed = cc (listed.1, fault)
+
+pub list-within : (section : List ℕ) (place : ℕ) → IsListAt section place → place < length section
+list-within section place is =
+    let moved = attributes_at-moves section place (list_at section place, is.0) is.1 in
+    omega (arith, moved.0, moved.1)

@@ -1,114 +1,21 @@
--- The lists and the names of memoized attributes.
-use Rattle.std.proofs.Common.{◌≡◌, ◌⊎◌, inl, inr, ℕ, ◌<◌, ◌≤◌, List, [], ◌∷◌, length, drop}
-use Rattle.std.proofs.Common.{get_or, Bool, refl, ap, sym, ◌∙◌, subst, arith}
-use Rattle.std.specs.Prelude.{Option, Some, None, IfSome, Ok, slice_get, ◌==◌, ◌||◌}
+-- The memos of lists, and the names of their attributes.
+use Rattle.std.proofs.Common.{◌≡◌, ℕ, ◌<◌, List, [], ◌∷◌, length, Bool, false, refl, ap, sym, ◌∙◌}
+use Rattle.std.proofs.Common.{arith}
+use Rattle.std.specs.Prelude.{Some, Ok, ◌==◌, ◌||◌}
 use Rattle.std.specs.List.{list_any}
-use Rattle.std.specs.Option.{option_map}
 use Rattle.std.specs.Ordering.{nat_cmp}
 use Rattle.std.specs.BTreeMap.{BTreeMap, get}
-use Rattle.std.proofs.lemmas.List.{length-map}
-use Rattle.std.proofs.lemmas.Option.{slice_get_within, slice_get_read}
-use Rattle.std.proofs.lemmas.Option.{slice_get_cases, slice_get-map, get_or_from_slice_get}
+use Rattle.dwarf_bytes.specs.Items.{Item, End}
 use Rattle.dwarf_forms.specs.declared.attribute.AttributeSpecification.{AttributeSpecification}
-use Rattle.dwarf_forms.specs.Tables.{attributes_at, shares_name}
+use Rattle.dwarf_forms.specs.Tables.{attribute_at, attributes_at, shares_name}
 use Rattle.abbreviation_memo.specs.declared.memoized_lists.Memo.{Memo}
 use Rattle.abbreviation_memo.specs.declared.name_sets.Branch.{Branch}
-use Rattle.abbreviation_memo.specs.Lists.{MemoizedAttributes, IsMemoized}
-use Rattle.abbreviation_memo.specs.Lists.{attributes_from, rest_attributes}
-use Rattle.abbreviation_memo.specs.Private.Memo.{AreMemoized, HasNames, list_at}
-use Rattle.abbreviation_memo.specs.Private.Memo.{IsListAt, listed, lists_of, names_from}
+use Rattle.abbreviation_memo.specs.Lists.{list_at}
+use Rattle.abbreviation_memo.specs.Private.Memo.{AreMemos, HasNames, IsMemo}
 use Rattle.abbreviation_memo.specs.Private.NameSets.{SetsStay, is_in}
+use Rattle.abbreviation_memo.proofs.ListLaws.{attribute-before, list-ends, list-read}
+use Rattle.abbreviation_memo.proofs.MapLaws.{Puts, entries-put}
 use Rattle.abbreviation_memo.proofs.SetLaws.{HasMore}
-
--- ---- lists
-
-pub list-read : (section : List ℕ) (at : ℕ) (xs : List AttributeSpecification) (after : ℕ)
-    → attributes_at section at ≡ Ok (xs, after) → list_at section at ≡ xs
-list-read section at xs after read = ap listed read
-
-pub item-at : {X : Type 0} (xs : List X) (n : ℕ) → n < length xs
-    → (x : X) × (slice_get xs n ≡ Some x)
-item-at {X = X} xs n lt = by_case (slice_get_cases xs n).1
-  where
-    by_case : ((x : X) × (n < length xs) × (slice_get xs n ≡ Some x) × (get_or xs n x ≡ x))
-        ⊎ ((length xs ≤ n) × (slice_get xs n ≡ None)) → (x : X) × (slice_get xs n ≡ Some x)
-    by_case (inl found) = (found.0, found.2)
-    by_case (inr past) = absurd (omega (arith, past.0, lt))
-
--- the list with an index
-pub list-is : (section : List ℕ) (memos : List Memo) (number : ℕ) (k : Memo)
-    → slice_get memos number ≡ Some k
-    → attributes_from (lists_of section memos) number ≡ list_at section k.place
-unfolding attributes_from
-list-is section memos number k at =
-    get_or_from_slice_get (lists_of section memos) number (list_at section k.place) []
-    (slice_get-map (λ (z : Memo). list_at section z.place) memos number
-    ∙ ap (option_map (λ (z : Memo). list_at section z.place)) at)
-
--- a memoized attribute and its successor
-pub record IsStep (lists : MemoizedAttributes) (number : ℕ) (k : Memo) : Type 0 where
-  pub list : attributes_from lists.memoized number
-      ≡ k.attribute ∷ rest_attributes lists.memoized k.next
-  pub read : attributes_at lists.section k.place
-      ≡ Ok (attributes_from lists.memoized number, k.after)
-  pub before : IfSome k.next (λ next. next < number)
-
-pub step-is : (section : List ℕ) (memos : List Memo) (places : BTreeMap ℕ ℕ) (sets : List Branch)
-    (seen : MemoizedAttributes) (number : ℕ) (k : Memo) → AreMemoized section memos places sets
-    → record { section = section; memoized = lists_of section memos } ≡ seen
-    → slice_get memos number ≡ Some k → IsStep seen number k
-step-is section memos places sets seen number k are view at =
-    let good = are.each number k at in
-    let list : attributes_from (lists_of section memos) number
-    ≡ k.attribute ∷ rest_attributes (lists_of section memos) k.next =
-    list-is section memos number k at ∙ list-read section k.place _ k.after good.read in
-    subst (λ (l : MemoizedAttributes). IsStep l number k) view
-    (record { list = list; read = rw list good.read; before = good.before })
-
-pub step-at : (section : List ℕ) (memos : List Memo) (places : BTreeMap ℕ ℕ) (sets : List Branch)
-    (seen : MemoizedAttributes) (number : ℕ) (k : Memo) → AreMemoized section memos places sets
-    → record { section = section; memoized = lists_of section memos } ≡ seen
-    → number < length seen.memoized → k ≡ get_or memos number k → IsStep seen number k
-step-at section memos places sets seen number k are view lt is =
-    let within : number < length memos =
-    omega (
-      arith,
-      lt,
-      ap (λ (l : MemoizedAttributes). length l.memoized) view,
-      length-map memos (λ (z : Memo). list_at section z.place),
-    ) in
-    step-is section memos places sets seen number k are view
-    (slice_get_read memos (length memos) number k refl within is)
-
--- the list at an offset that the map has
-pub listed-at : (section : List ℕ) (memos : List Memo) (places : BTreeMap ℕ ℕ) (sets : List Branch)
-    (seen : MemoizedAttributes) (number place at after : ℕ) (k : Memo)
-    → AreMemoized section memos places sets
-    → record { section = section; memoized = lists_of section memos } ≡ seen
-    → get nat_cmp places place ≡ Some number → k ≡ get_or memos number k → place ≡ at
-    → after ≡ k.after → IsListAt seen (Some number) at after
-listed-at section memos places sets seen number place at after k are view found is same ends =
-    let there = are.placed place number found in
-    let one : there.0 ≡ k = sym (get_or_from_slice_get memos number there.0 k there.1) ∙ sym is in
-    let here : slice_get memos number ≡ Some k = there.1 ∙ ap (λ (z : Memo). Some z) one in
-    let step = step-is section memos places sets seen number k are view here in
-    let offset : at ≡ k.place = sym same ∙ (sym there.2 ∙ ap (λ (z : Memo). z.place) one) in (
-      omega (
-        arith,
-        slice_get_within memos number k here,
-        ap (λ (l : MemoizedAttributes). length l.memoized) view,
-        length-map memos (λ (z : Memo). list_at section z.place),
-      ),
-      rw (offset, ends) step.read,
-    )
-
-pub head-is : (xs rest : List AttributeSpecification) (x : AttributeSpecification) → xs ≡ x ∷ rest
-    → xs ≡ x ∷ drop 1 xs
-head-is xs rest x is = is ∙ ap (λ (ys : List AttributeSpecification). x ∷ drop 1 ys) (sym is)
-
-pub rest-is : (xs rest : List AttributeSpecification) (x : AttributeSpecification) → xs ≡ x ∷ rest
-    → rest ≡ drop 1 xs
-rest-is xs rest x is = sym (ap (λ (ys : List AttributeSpecification). drop 1 ys) is)
 
 -- ---- names
 
@@ -138,23 +45,53 @@ names-more old new set more x xs has within with_more = record {
     same : (a b : ℕ) → (a == b) ≡ (b == a)
     same a b = grind arith
 
-pub names-after : (section : List ℕ) (memos : List Memo) (places : BTreeMap ℕ ℕ)
-    (sets : List Branch) (next : Option ℕ) → AreMemoized section memos places sets
-    → IsMemoized (lists_of section memos) next
-    → HasNames sets (names_from memos next) (rest_attributes (lists_of section memos) next)
-names-after section memos places sets None are is = are.empty
-names-after section memos places sets (Some number) are is =
-    let k = item-at memos number
-    (omega (arith, is, length-map memos (λ (z : Memo). list_at section z.place))) in
-    rw (k.1, list-is section memos number k.0 k.1) (are.each number k.0 k.1).named
+-- ---- memos
 
-pub names-known : (section : List ℕ) (memos : List Memo) (places : BTreeMap ℕ ℕ)
-    (sets : List Branch) (seen : MemoizedAttributes) (next : Option ℕ) (set : ℕ)
-    → AreMemoized section memos places sets
-    → record { section = section; memoized = lists_of section memos } ≡ seen
-    → IsMemoized seen.memoized next → set ≡ names_from memos next
-    → HasNames sets set (rest_attributes seen.memoized next)
-names-known section memos places sets seen next set are view is set_is =
-    subst (λ (l : MemoizedAttributes). IsMemoized l.memoized next
-    → HasNames sets set (rest_attributes l.memoized next)) view
-    (λ here. rw set_is (names-after section memos places sets next are here)) is
+memo-of : (section : List ℕ) (sets : List Branch) (place : ℕ) (memo : Memo)
+    (xs : List AttributeSpecification) → attributes_at section place ≡ Ok (xs, memo.after)
+    → HasNames sets memo.names xs → IsMemo section sets place memo
+memo-of section sets place memo xs read named =
+    let same : list_at section place ≡ xs = list-read section place xs memo.after read in
+    record { read = rw same read; named = rw same named }
+
+-- the memo of an empty list
+pub memo-end : (section : List ℕ) (memos : BTreeMap ℕ Memo) (sets : List Branch) (place after : ℕ)
+    → AreMemos section memos sets → attribute_at section [] place ≡ Ok (End after)
+    → IsMemo section sets place (record { names = 0; after = after })
+memo-end section memos sets place after are ends =
+    memo-of section sets place (record { names = 0; after = after }) []
+    (list-ends section place after ends) are.empty
+
+-- the memo of a list whose rest is memoized
+pub memo-item : (section : List ℕ) (memos : BTreeMap ℕ Memo) (old new : List Branch)
+    (place at : ℕ) (x : AttributeSpecification) (rest : Memo) (names : ℕ)
+    → AreMemos section memos old → get nat_cmp memos at ≡ Some rest
+    → attribute_at section [] place ≡ Ok (Item x at) → is_in old rest.names x.name ≡ false
+    → names < length new → HasMore old new rest.names names x.name
+    → IsMemo section new place (record { names = names; after = rest.after })
+memo-item section memos old new place at x rest names are found first fresh within more =
+    let memo = are.each at rest found in
+    memo-of section new place (record { names = names; after = rest.after })
+    (x ∷ list_at section at)
+    (attribute-before section place at rest.after x (list_at section at) first memo.read
+    (sym (memo.named.names x.name) ∙ fresh))
+    (names-more old new rest.names names x (list_at section at) memo.named within more)
+
+pub memos-stay : (section : List ℕ) (memos : BTreeMap ℕ Memo) (old new : List Branch)
+    → SetsStay old new → AreMemos section memos old → AreMemos section memos new
+memos-stay section memos old new stay are = record {
+  each = λ place memo at. record {
+    read = (are.each place memo at).read;
+    named = names-stay old new memo.names _ stay (are.each place memo at).named;
+  };
+  empty = names-stay old new 0 [] stay are.empty;
+}
+
+pub memos-put : (section : List ℕ) (old new : BTreeMap ℕ Memo) (sets more : List Branch)
+    (place : ℕ) (memo : Memo) → Puts old new place memo → IsMemo section more place memo
+    → SetsStay sets more → AreMemos section old sets → AreMemos section new more
+memos-put section old new sets more place memo puts here stay are =
+    let before = memos-stay section old sets more stay are in record {
+      each = entries-put (IsMemo section more) old new place memo puts here before.each;
+      empty = before.empty;
+    }

@@ -1,32 +1,34 @@
--- The memoized attributes of `.debug_abbrev`. Each is the first of a list of attributes.
-use Rattle.std.specs.Prelude.{◌≡◌, ℕ, ◌<◌, List, [], ◌++◌, length, get_or, Option, None, Some}
-use Rattle.std.specs.Prelude.{IfSome}
+-- Attribute lists by their offset in `.debug_abbrev`.
+use Rattle.std.specs.Prelude.{◌≡◌, ℕ, List, [], ◌∷◌, Option, None, Some, Result, Ok, Err}
+use Rattle.dwarf_bytes.specs.declared.fault.Cause.{Cause}
+use Rattle.dwarf_bytes.specs.Items.{Next, Item, End}
 use Rattle.dwarf_forms.specs.declared.attribute.AttributeSpecification.{AttributeSpecification}
+use Rattle.dwarf_forms.specs.Tables.{attributes_at}
 
--- a memoized attribute and the ones after it in its list
-abbrev pub MemoizedAttribute : Type 0
-MemoizedAttribute = List AttributeSpecification
+-- the attributes of a list that is read; empty if it is invalid
+abbrev pub listed : Result (List AttributeSpecification × ℕ) Cause → List AttributeSpecification
+listed (Ok read) = read.0
+listed (Err cause) = []
 
--- the memoized attributes of a section, by index
-pub record MemoizedAttributes : Type 0 where
-  pub section : List ℕ
-  pub memoized : List MemoizedAttribute
+-- the attributes of the list at an offset
+abbrev pub list_at : List ℕ → ℕ → List AttributeSpecification
+list_at section at = listed (attributes_at section at)
 
--- the attribute with an index and the ones after it in its list
-unfoldable pub attributes_from : List MemoizedAttribute → ℕ → List AttributeSpecification
-attributes_from memoized number = get_or memoized number []
+-- a valid list is at the offset
+abbrev pub IsListAt : List ℕ → ℕ → Type 0
+IsListAt section at = (after : ℕ) × (attributes_at section at ≡ Ok (list_at section at, after))
 
--- the attributes from an optional index on; empty if there is no index
-abbrev pub rest_attributes : List MemoizedAttribute → Option ℕ → List AttributeSpecification
-rest_attributes memoized None = []
-rest_attributes memoized (Some number) = attributes_from memoized number
+-- the attributes from an optional offset on; empty if there is no offset
+abbrev pub rest_attributes : List ℕ → Option ℕ → List AttributeSpecification
+rest_attributes section None = []
+rest_attributes section (Some at) = list_at section at
 
--- a memoized attribute has the optional index
-abbrev pub IsMemoized : List MemoizedAttribute → Option ℕ → Type 0
-IsMemoized memoized next = IfSome next (λ number. number < length memoized)
+-- the first attribute of a list, if it has one, and the offset after it or after the list
+abbrev pub first_of : Option AttributeSpecification → ℕ → Next AttributeSpecification
+first_of None rest = End rest
+first_of (Some attribute) rest = Item attribute rest
 
--- The section and the memoized attributes do not change, except that attributes may be appended.
-pub record Grows (old new : MemoizedAttributes) : Type 0 where
-  pub section : new.section ≡ old.section
-  pub more : List MemoizedAttribute
-  pub memoized : new.memoized ≡ old.memoized ++ more
+-- the attributes of a list with this first attribute and the others at an offset
+abbrev pub list_from : List ℕ → Option AttributeSpecification → ℕ → List AttributeSpecification
+list_from section None rest = []
+list_from section (Some attribute) rest = attribute ∷ list_at section rest

@@ -8,7 +8,6 @@ ghost use Rattle.dwarf_bytes.specs.declared.fault.Section.TheVariants as section
 ghost use Rattle.dwarf_bytes.specs.Refusals.{Decodes, in_section, memory_fault, ReadsNext};
 ghost use Rattle.dwarf_forms.specs.Tables.{declarations_of};
 ghost use Rattle.dwarf_forms.specs.Tables.{head_at};
-ghost use Rattle.abbreviation_memo.specs.Lists.{Grows};
 ghost use Rattle.abbreviation_memo.specs.Declarations.{AreShared, full_declarations};
 ghost use Rattle.dwarf_forms.specs.Steps.{ExtendsTable};
 
@@ -51,13 +50,12 @@ impl AbbreviationTable {
         offset: u64,
         left: &mut u64,
     ) -> Result<AbbreviationTable, LoadFault>
-        ensures decodes { Decodes (full_declarations lists.new.memoized) result
-            (in_section sections.DebugAbbrev
-            (declarations_of left.old lists.old.section offset)) }
+        ensures decodes { Decodes (full_declarations lists.old) result
+            (in_section sections.DebugAbbrev (declarations_of left.old lists.old offset)) }
         ensures counted { IfOk result (λ table. left.new + length table ≡ left.old) }
         ensures unchanged { OnErr result (left.new ≡ left.old) }
-        ensures memoized { IfOk result (AreShared lists.new.memoized) }
-        ensures grows { Grows lists.old lists.new }
+        ensures shared { IfOk result (AreShared lists.old) }
+        ensures section { lists.new ≡ lists.old }
     {
         match AbbreviationTable::parse(alloc, lists, offset, *left) {
             Ok(table) => {
@@ -121,11 +119,10 @@ impl AbbreviationTable {
         budget: u64,
     ) -> Result<AbbreviationTable, Cause>
         ensures table { IfOk result (λ table. in_section sections.DebugAbbrev
-            (declarations_of budget lists.old.section offset)
-            ≡ Ok (full_declarations lists.new.memoized table)) }
+            (declarations_of budget lists.old offset) ≡ Ok (full_declarations lists.old table)) }
         ensures few { IfOk result (λ table. length table ≤ budget) }
-        ensures memoized { IfOk result (AreShared lists.new.memoized) }
-        ensures grows { Grows lists.old lists.new }
+        ensures shared { IfOk result (AreShared lists.old) }
+        ensures section { lists.new ≡ lists.old }
     {
         let mut cursor = Cursor::new(lists.section());
         cursor.seek(offset as usize)?;
@@ -143,13 +140,13 @@ impl AbbreviationTable {
         budget: u64,
         cursor: &mut Cursor,
     ) -> Result<bool, Cause>
-        requires bytes { cursor.old.bytes ≡ lists.old.section }
-        requires resolved { AreShared lists.old.memoized self.old }
+        requires bytes { cursor.old.bytes ≡ lists.old }
+        requires shared { AreShared lists.old self.old }
         ensures table { IfOk result (λ more. ExtendsTable (Ok more) budget
-            (full_declarations lists.new.memoized self.old)
-            (full_declarations lists.new.memoized self.new) cursor.old cursor.new) }
-        ensures resolved { OnOk result (AreShared lists.new.memoized self.new) }
-        ensures grows { Grows lists.old lists.new }
+            (full_declarations lists.old self.old) (full_declarations lists.old self.new)
+            cursor.old cursor.new) }
+        ensures shared { OnOk result (AreShared lists.old self.new) }
+        ensures section { lists.new ≡ lists.old }
     {
         let Some(head) = self.next_head(budget, cursor)? else {
             return Ok(false);

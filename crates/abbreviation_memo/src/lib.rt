@@ -1,10 +1,11 @@
-//! A memo of abbreviation attributes by their offset in `.debug_abbrev` (DWARF 5, 7.5.3), for
-//! tables that overlap: all tables together take time and memory linear, but for a logarithm, in
+//! A memo of attribute lists by their offset in `.debug_abbrev` (DWARF 5, 7.5.3), for tables that
+//! overlap: all tables together take time and memory linear, but for a logarithm, in
 //! the bytes of the section and the declarations that are read.
 #![tactic(auto)]
 
 mod abbreviation_declaration;
 mod abbreviation_table;
+mod list_start;
 mod memoize;
 mod memoized_lists;
 mod name_sets;
@@ -12,5 +13,6 @@ mod shared;
 
 pub use abbreviation_declaration::AbbreviationDeclaration;
 pub use abbreviation_table::AbbreviationTable;
+pub use list_start::ListStart;
 pub use memoized_lists::MemoizedLists;
 pub use shared::{SharedList, UNSHARED};

@@ -1,13 +1,14 @@
-//! Memoized attribute specifications of a section, by their offsets.
+//! Memoized attribute lists of a section, by their offsets (DWARF 5, 7.5.3).
 
-ghost use Rattle.std.specs.Prelude.{◌≡◌, ◌<◌, ◌≤◌, ◌∷◌, [], drop, length, IfOk, IfSome, Some};
-ghost use Rattle.std.specs.List.{list_any};
-ghost use Rattle.dwarf_forms.specs.Tables.{shares_name};
-ghost use Rattle.abbreviation_memo.specs.Lists.{Grows, IsMemoized, attributes_from};
-ghost use Rattle.abbreviation_memo.specs.Lists.{rest_attributes};
-ghost use Rattle.abbreviation_memo.specs.Private.Memo.{IsFollowed, IsListAt, Skips, names_from};
-ghost use Rattle.abbreviation_memo.specs.Private.NameSets.{is_in};
+ghost use Rattle.std.specs.Prelude.{◌≡◌, false, IfOk, Ok};
+ghost use Rattle.std.specs.List.{All, list_any};
+ghost use Rattle.std.specs.BTreeMap.{BTreeMap as Map};
+ghost use Rattle.dwarf_forms.specs.Tables.{attributes_at, shares_name};
+ghost use Rattle.abbreviation_memo.specs.Lists.{IsListAt, list_at};
+ghost use Rattle.abbreviation_memo.specs.Private.Memo.{AreMemos, IsMemo};
+ghost use Rattle.abbreviation_memo.specs.Private.NameSets.{SetsStay, is_in};
 
+use crate::list_start::ListStart;
 use crate::name_sets::{EMPTY, NameSets};
 use dwarf_bytes::{Cause, Cursor};
 use dwarf_forms::AttributeSpecification;
@@ -15,154 +16,138 @@ use std::alloc::{AllocError, Global};
 use std::collections::BTreeMap;
 use std::marker::Model;
 
-/// A memoized attribute specification. The rest of its list, up to the two zeros, is memoized too.
+/// What is memoized of the list at an offset.
 #[derive(Clone, Copy)]
 pub(crate) struct Memo {
-    place: usize,
-    attribute: AttributeSpecification,
-    /// The index of the next attribute of the list.
-    next: Option<usize>,
-    /// The set of the names from this attribute on.
+    /// The set of the names of its attributes.
     names: u32,
-    /// The offset after the two zeros that end the list.
+    /// The offset after the two zeros that end it.
     after: usize,
 }
 
-/// The memoized attribute lists of a section. No offset is memoized twice, even if several lists
-/// contain it.
+/// The memoized attribute lists of a section. The rest of a memoized list is memoized too.
 #[derive(Drop)]
 pub struct MemoizedLists<'a> {
     section: &'a [u8],
-    memos: Vec<Memo>,
-    /// The index of each memoized attribute, by its offset.
-    places: BTreeMap<usize, usize>,
+    memos: BTreeMap<usize, Memo>,
     names: NameSets,
+    /// The memoized offsets. The rest of a list is before the list.
+    places: Vec<usize>,
 }
 
 impl<'a> Model for MemoizedLists<'a> {
-    ghost use Rattle.abbreviation_memo.specs.Lists.{MemoizedAttributes};
-    ghost use Rattle.abbreviation_memo.specs.Private.Memo.{AreMemoized, lists_of};
+    ghost use Rattle.std.specs.Prelude.{ℕ, List};
+    ghost use Rattle.std.specs.List.{All};
+    ghost use Rattle.abbreviation_memo.specs.Lists.{IsListAt};
+    ghost use Rattle.abbreviation_memo.specs.Private.Memo.{AreMemos};
 
-    ghost Value = { MemoizedAttributes };
+    ghost Value = { List ℕ };
 
-    ghost view = { λ l. record {
-      section = l.section.now;
-      memoized = lists_of l.section.now l.memos.items;
-    } };
+    ghost view = { λ l. l.section.now };
 
-    ghost invariant = { λ l. AreMemoized l.section.now l.memos.items l.places l.names };
+    ghost invariant = { λ l. AreMemos l.section.now l.memos l.names
+        × All (IsListAt l.section.now) l.places.items };
 }
 
 impl<'a> MemoizedLists<'a> {
     pub fn new(alloc: Global, section: &'a [u8]) -> Result<MemoizedLists<'a>, AllocError>
-        ensures { IfOk result (λ lists. lists ≡ record { section = section.now; memoized = [] }) }
+        ensures { IfOk result (λ lists. lists ≡ section.now) }
     {
         Ok(MemoizedLists {
             section,
-            memos: Vec::new(alloc),
-            places: BTreeMap::new(alloc),
+            memos: BTreeMap::new(alloc),
             names: NameSets::new(alloc)?,
+            places: Vec::new(alloc),
         })
     }
 
     /// Returns the bytes of the section.
-    pub(crate) fn section(&self) -> &'a [u8]
-        ensures { result.now ≡ self.now.section }
+    pub fn section(&self) -> &'a [u8]
+        ensures { result.now ≡ self.now }
     {
         self.section
     }
 
-    /// Returns the number of memoized attributes. It is at most the number of bytes of the section.
-    pub fn len(&self) -> usize
-        ensures value { result ≡ length self.now.memoized }
-        ensures few { result ≤ length self.now.section }
+    /// Returns the offsets of the memoized lists. New ones are appended, and the rest of a list is
+    /// before the list.
+    pub fn places(&self) -> &[usize]
+        ensures { All (IsListAt self.now) result.now }
     {
-        self.memos.len()
+        &self.places
     }
 
-    /// Returns the attribute with an index.
-    pub fn attribute(&self, number: usize) -> &AttributeSpecification
-        requires { number < length self.now.memoized }
-        ensures { attributes_from self.now.memoized number
-            ≡ result.now ∷ drop 1 (attributes_from self.now.memoized number) }
-    {
-        &self.memos[number].attribute
+    /// Returns whether the list at an offset is memoized.
+    pub(crate) fn contains(&self, place: usize) -> bool {
+        self.memos.contains_key(&place)
     }
 
-    /// Returns the index of the next attribute of the list, which is less than `number`.
-    pub fn next(&self, number: usize) -> Option<usize>
-        requires { number < length self.now.memoized }
-        ensures list { rest_attributes self.now.memoized result
-            ≡ drop 1 (attributes_from self.now.memoized number) }
-        ensures before { IfSome result (λ next. next < number) }
+    /// Moves the cursor after the list at its offset. Fails if the list is not memoized, or if it
+    /// has the name of one of the attributes `own`.
+    pub(crate) fn skip(
+        &self,
+        own: &[AttributeSpecification],
+        cursor: &mut Cursor,
+    ) -> Result<(), Cause>
+        requires { cursor.old.bytes ≡ self.now }
+        ensures list { IfOk result (λ _. attributes_at self.now cursor.old.place
+            ≡ Ok (list_at self.now cursor.old.place, cursor.new.place)) }
+        ensures apart { IfOk result (λ _. shares_name own.now
+            (list_at self.now cursor.old.place) ≡ false) }
+        ensures bytes { IfOk result (λ _. cursor.new.bytes ≡ cursor.old.bytes) }
     {
-        self.memos[number].next
-    }
-
-    /// Moves the cursor after the memoized list at its offset. Returns the index of its first
-    /// attribute, or `None` if no list is memoized there.
-    pub(crate) fn skip(&self, cursor: &mut Cursor) -> Result<Option<usize>, Cause>
-        requires { cursor.old.bytes ≡ self.now.section }
-        ensures { IfOk result (λ found. Skips found self.now cursor.old cursor.new) }
-    {
-        let Some(number) = self.places.get(&cursor.place()) else {
-            return Ok(None);
+        let Some(memo) = self.memos.get(&cursor.place()) else {
+            return Err(Cause::Short);
         };
-        let number = *number;
-        cursor.seek(self.memos[number].after)?;
-        Ok(Some(number))
-    }
-
-    /// Whether a memoized list has the name of one of the attributes `own`.
-    pub(crate) fn shares_name(&self, own: &[AttributeSpecification], rest: Option<usize>) -> bool
-        requires { IsMemoized self.now.memoized rest }
-        ensures { result ≡ shares_name own.now (rest_attributes self.now.memoized rest) }
-    {
-        has_any(&self.names, names_from(&self.memos, rest), own)
-    }
-
-    /// Memoizes the attribute specification at `place`, its successor, and the offset after the
-    /// list. Returns its index. Fails if a later attribute has its name.
-    pub(crate) fn put(
-        &mut self,
-        place: usize,
-        attribute: AttributeSpecification,
-        next: Option<usize>,
-        after: usize,
-    ) -> Result<usize, Cause>
-        requires { IsFollowed self.old place attribute next after }
-        ensures ok { IfOk result (λ number. IsListAt self.new (Some number) place after) }
-        ensures grows { Grows self.old self.new }
-    {
-        let later = names_from(&self.memos, next);
-        if self.names.has(later, attribute.name) || self.places.contains_key(&place) {
+        if has_any(&self.names, memo.names, own) {
             return Err(Cause::AttrTwice);
         }
-        let names = self.names.with(later, attribute.name)?;
-        let number = self.memos.len();
-        self.memos.push(Memo {
-            place,
-            attribute,
-            next,
-            names,
-            after,
-        })?;
-        if let Err(error) = self.places.insert(place, number) {
-            let _ = self.memos.pop();
-            return Err(error.into());
-        }
-        Ok(number)
+        cursor.seek(memo.after)?;
+        Ok(())
+    }
+
+    /// Memoizes the list at an offset. Fails if its rest is not memoized, or if the rest has the
+    /// name of its first attribute.
+    pub(crate) fn put(&mut self, alloc: Global, place: usize) -> Result<(), Cause>
+        ensures { self.new ≡ self.old }
+    {
+        let memo = memo_at(alloc, self.section, &self.memos, &mut self.names, place)?;
+        self.memos.insert(place, memo)?;
+        self.places.push(place)?;
+        Ok(())
     }
 }
 
-/// Returns the set of the names from the attribute `next` on.
-fn names_from(memos: &[Memo], next: Option<usize>) -> u32
-    ensures { result ≡ names_from memos.now next }
+/// Returns the memo of the list at an offset.
+fn memo_at(
+    alloc: Global,
+    section: &[u8],
+    memos: &BTreeMap<usize, Memo>,
+    names: &mut NameSets,
+    place: usize,
+) -> Result<Memo, Cause>
+    requires { AreMemos section.now memos.now names.old }
+    ensures memo { IfOk result (IsMemo section.now names.new place) }
+    ensures stay { SetsStay names.old names.new }
 {
-    let Some(number) = next else {
-        return EMPTY;
+    let start = ListStart::read(alloc, section, place)?;
+    let after = start.rest;
+    let Some(attribute) = start.attribute else {
+        return Ok(Memo {
+            names: EMPTY,
+            after,
+        });
     };
-    memos.get(number).map_or(EMPTY, |memo| memo.names)
+    let Some(rest) = memos.get(&after) else {
+        return Err(Cause::Short);
+    };
+    if names.has(rest.names, attribute.name) {
+        return Err(Cause::AttrTwice);
+    }
+    let names = names.with(rest.names, attribute.name)?;
+    Ok(Memo {
+        names,
+        after: rest.after,
+    })
 }
 
 /// Whether a set contains the name of one of the attributes.

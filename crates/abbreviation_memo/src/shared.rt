@@ -4,7 +4,6 @@ ghost use Rattle.std.specs.Prelude.{◌≡◌, ◌==◌, [], IfOk, Ok};
 ghost use Rattle.std.specs.List.{list_any};
 ghost use Rattle.dwarf_forms.specs.Tables.{attributes_at};
 ghost use Rattle.abbreviation_memo.specs.Declarations.{IsShared, all_of};
-ghost use Rattle.abbreviation_memo.specs.Lists.{Grows};
 ghost use Rattle.abbreviation_memo.specs.Private.Memo.{StartsList};
 
 use crate::memoize::memoize;
@@ -42,7 +41,7 @@ impl SharedList {
         &self.own
     }
 
-    /// Returns the index of the memoized attribute that follows them.
+    /// Returns the offset in `.debug_abbrev` of the attributes after them, which are memoized.
     pub fn rest(&self) -> Option<usize>
         ensures { result ≡ self.now.rest }
     {
@@ -58,21 +57,21 @@ pub(crate) fn shared_attributes(
     lists: &mut MemoizedLists<'_>,
     cursor: &mut Cursor,
 ) -> Result<SharedList, Cause>
-    requires { cursor.old.bytes ≡ lists.old.section }
+    requires { cursor.old.bytes ≡ lists.old }
     ensures reads { IfOk result (λ list. attributes_at cursor.old.bytes cursor.old.place
-        ≡ Ok (all_of lists.new.memoized list, cursor.new.place)) }
+        ≡ Ok (all_of lists.old list, cursor.new.place)) }
     ensures bytes { IfOk result (λ _. cursor.new.bytes ≡ cursor.old.bytes) }
-    ensures list { IfOk result (IsShared lists.new.memoized) }
-    ensures grows { Grows lists.old lists.new }
+    ensures list { IfOk result (IsShared lists.old) }
+    ensures section { lists.new ≡ lists.old }
 {
     let mut own = Vec::new(alloc);
     if first_attributes(alloc, &mut own, cursor)? {
         return Ok(SharedList { own, rest: None });
     }
-    let rest = memoize(alloc, lists, cursor)?;
-    if lists.shares_name(&own, rest) {
-        return Err(Cause::AttrTwice);
-    }
+    let place = cursor.place();
+    memoize(alloc, lists, place)?;
+    lists.skip(&own, cursor)?;
+    let rest = Some(place);
     Ok(SharedList { own, rest })
 }
 

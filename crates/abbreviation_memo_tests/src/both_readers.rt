@@ -1,13 +1,13 @@
 //! A comparison of the reader of a single table and the one that shares attributes between tables.
 
 use crate::checks::are_equal;
-use abbreviation_memo::{AbbreviationDeclaration, AbbreviationTable, MemoizedLists};
+use abbreviation_memo::{AbbreviationDeclaration, AbbreviationTable, ListStart, MemoizedLists};
 use dwarf_forms::{Abbrevs, AttributeSpecification, Decl};
 use dwarf_samples::inlined;
 use std::process::Abort;
 use std::test::*;
 
-/// Returns the lists of a section, without a memoized attribute.
+/// Returns the lists of a section, with no list memoized.
 pub fn lists_of<'a>(rt: &(impl Abort + AllocGlobal), section: &'a [u8]) -> MemoizedLists<'a> {
     match MemoizedLists::new(rt.alloc(), section) {
         Ok(lists) => lists,
@@ -37,6 +37,22 @@ fn own_attributes(
     }
 }
 
+/// Appends the first attribute of the list at an offset. Returns the offset of the others, or
+/// `None` if the list is empty.
+fn add_first(
+    rt: &(impl Abort + AllocGlobal),
+    section: &[u8],
+    place: usize,
+    attributes: &mut Vec<AttributeSpecification>,
+) -> Option<usize> {
+    let Ok(start) = ListStart::read(rt.alloc(), section, place) else {
+        panic!(rt; "the list is refused");
+    };
+    let attribute = start.attribute?;
+    add(rt, attributes, attribute);
+    Some(start.rest)
+}
+
 /// Returns the attributes of a declaration, in order: its own, and then the memoized ones.
 pub fn attributes_of(
     rt: &(impl Abort + AllocGlobal),
@@ -45,12 +61,9 @@ pub fn attributes_of(
 ) -> Vec<AttributeSpecification> {
     let mut attributes = own_attributes(rt, declaration);
     let mut next = declaration.list().rest();
-    for _ in 0..lists.len() {
-        if let Some(number) = next {
-            if number < lists.len() {
-                add(rt, &mut attributes, *lists.attribute(number));
-                next = lists.next(number);
-            }
+    for _ in 0..lists.section().len() {
+        if let Some(place) = next {
+            next = add_first(rt, lists.section(), place, &mut attributes);
         }
     }
     attributes

@@ -58,39 +58,40 @@ fn first_of(
 }
 
 /// Checks that the table at an offset has a declaration with the attributes from a name on. Also
-/// checks the number of attributes that it stores itself and the number that are then memoized.
+/// checks the number of attributes that it stores itself and the number of memoized lists.
 fn is_shared(
     rt: &(impl Abort + AllocGlobal),
     lists: &mut MemoizedLists<'_>,
     offset: u64,
     first: u64,
     own: usize,
-    known: usize,
+    memoized: usize,
 ) {
     let (shared, count) = first_of(rt, lists, offset);
-    are_equal(rt, (count, lists.len()), (own, known));
+    are_equal(rt, (count, lists.places().len()), (own, memoized));
     let wanted = attributes_from(rt, first);
     are_equal(rt, shared.as_slice() == wanted.as_slice(), true);
 }
 
-/// Checks the same if no other attribute of the section is memoized.
+/// Checks the same if no other list of the section is memoized.
 fn is_alone(
     rt: &(impl Abort + AllocGlobal),
     section: &[u8],
     offset: u64,
     first: u64,
     own: usize,
-    known: usize,
+    memoized: usize,
 ) {
     let mut lists = lists_of(rt, section);
-    is_shared(rt, &mut lists, offset, first, own, known);
+    is_shared(rt, &mut lists, offset, first, own, memoized);
 }
 
 #[test]
 fn tables_within_one_list(rt: HostRuntime) {
     let section = one_list(&rt);
     let mut lists = lists_of(&rt, &section);
-    let later = 100 - UNSHARED;
+    // one list from each later attribute on, and the empty list at the end
+    let later = 100 - UNSHARED + 1;
     is_shared(&rt, &mut lists, 0, 0x80, UNSHARED, later);
     // from the forms of the attributes 9, 34 and 35: their tables have the attributes after the
     // next one
@@ -102,9 +103,9 @@ fn tables_within_one_list(rt: HostRuntime) {
 #[test]
 fn tables_within_one_list_alone(rt: HostRuntime) {
     let section = one_list(&rt);
-    is_alone(&rt, &section, 0, 0x80, UNSHARED, 100 - UNSHARED);
-    is_alone(&rt, &section, 32, 0x8b, UNSHARED, 89 - UNSHARED);
-    is_alone(&rt, &section, 107, 0xa4, UNSHARED, 0);
+    is_alone(&rt, &section, 0, 0x80, UNSHARED, 101 - UNSHARED);
+    is_alone(&rt, &section, 32, 0x8b, UNSHARED, 90 - UNSHARED);
+    is_alone(&rt, &section, 107, 0xa4, UNSHARED, 1);
     is_alone(&rt, &section, 110, 0xa5, 63, 0);
 }
 

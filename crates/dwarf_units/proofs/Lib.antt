@@ -19,8 +19,7 @@ pub mod StoredReads
 pub mod NodeShapes
 pub mod LinkLaws
 pub mod SharedTableLaws
-pub mod StoreLaws
-pub mod StoredTables
+pub mod IndexLaws
 pub mod NameLaws
 pub mod UsedLaws
 pub mod SlotLaws

@@ -3,7 +3,7 @@ use Rattle.std.proofs.Common.{◌≡◌, ℕ, ◌+◌, ◌<◌, ◌≤◌, ◌�
 use Rattle.std.proofs.Common.{false, cond, length, length-append, refl, ap, sym, ◌∙◌, subst, arith}
 use Rattle.std.specs.Prelude.{Option, Some, None, Result, Ok, Err, nat_lt, ◌==◌}
 use Rattle.dwarf_bytes.specs.declared.fault.Cause.{Cause}
-use Rattle.std.specs.Prelude.{drop, find, option_and_then, option_map, slice_get}
+use Rattle.std.specs.Prelude.{drop, option_and_then, option_map, slice_get}
 use Rattle.std.proofs.lemmas.Bool.{le-ltb, ltb-true, ne_eqb}
 use Rattle.std.proofs.lemmas.List.{drop_more}
 use Rattle.std.proofs.lemmas.Option.{get_or_from_slice_get, option_and_then_some, same_Some}
@@ -12,13 +12,10 @@ use Rattle.dwarf_bytes.specs.declared.format.Format.{Format}
 use Rattle.dwarf_bytes.specs.Bind.{◌>>=◌}
 use Rattle.dwarf_bytes.specs.Numbers.{uleb_at}
 use Rattle.dwarf_bytes.proofs.Numbers.LebEncodings.{uleb-again}
-use Rattle.abbreviation_memo.specs.Lists.{MemoizedAttribute}
 use Rattle.dwarf_forms.specs.Declarations.{Declaration}
 use Rattle.dwarf_forms.specs.declared.attribute.AttributeSpecification.{AttributeSpecification}
 use Rattle.abbreviation_memo.specs.declared.shared.TheConstants.{UNSHARED}
 use Rattle.dwarf_units.specs.declared.attributes.Attribute.{Attribute}
-use Rattle.abbreviation_memo.specs.Declarations.{AreShared, SharedDeclaration, full_declaration}
-use Rattle.abbreviation_memo.specs.Declarations.{full_declarations}
 use Rattle.dwarf_forms.proofs.Elements.{at-last}
 use Rattle.dwarf_units.specs.declared.node_shape.NodeShape.{NodeShape}
 use Rattle.dwarf_units.specs.Entries.{Entry, Null, attributes_at, declaration_of}
@@ -33,37 +30,23 @@ use Rattle.dwarf_units.specs.Private.AbbreviationTables.{Table}
 use Rattle.dwarf_bytes.proofs.Numbers.Moves.{same-ok}
 use Rattle.dwarf_units.proofs.FixedPositions.{block-there}
 use Rattle.dwarf_units.proofs.RunReads.{runs-read}
-use Rattle.dwarf_units.proofs.SharedTableLaws.{found-full}
 use Rattle.dwarf_units.proofs.StoredReads.{stored_all}
 
 -- ---- the shapes by code
 
-pub code-shape : (memoized : List MemoizedAttribute) (format : Format)
-    (ds : List SharedDeclaration) (code : ℕ) (found : Option SharedDeclaration)
-    → (code == 0) ≡ false → find (λ d. d.code == code) ds ≡ found
-    → shape_of_code format (full_declarations memoized ds) code
-    ≡ option_and_then (shape_of format) (option_map (full_declaration memoized) found)
-code-shape memoized format ds code found some is =
-    rw (some, found-full memoized code ds found is) refl
-
-pub shapes-more : (format : Format) (ds : List SharedDeclaration) (code : ℕ)
+pub shapes-more : (format : Format) (ds : List Declaration) (code : ℕ)
     (shapes : List (Option NodeShape)) (shape : Option NodeShape) → AreShapes format ds code shapes
-    → ((memoized : List MemoizedAttribute) → AreShared memoized ds
-    → shape ≡ shape_of_code format (full_declarations memoized ds) code)
-    → AreShapes format ds (code + 1) (shapes ++ shape ∷ [])
+    → shape ≡ shape_of_code format ds code → AreShapes format ds (code + 1) (shapes ++ shape ∷ [])
 shapes-more format ds code shapes shape so_far is = record {
   len = omega (arith, so_far.len, length-append shapes (shape ∷ []));
-  each = λ memoized are k other at. by_place memoized are k other (at-last shapes shape other k at);
+  each = λ k other at. by_place k other (at-last shapes shape other k at);
 }
   where
-    by_place : (memoized : List MemoizedAttribute) → AreShared memoized ds → (k : ℕ)
-        (other : Option NodeShape) → (slice_get shapes k ≡ Some other)
-        ⊎ ((k ≡ length shapes) × (shape ≡ other))
-        → other ≡ shape_of_code format (full_declarations memoized ds) k
-    by_place memoized are k other (inl before) = so_far.each memoized are k other before
-    by_place memoized are k other (inr last) = sym last.1 ∙ (is memoized are
-        ∙ ap (λ (n : ℕ). shape_of_code format (full_declarations memoized ds) n)
-        (sym (last.0 ∙ so_far.len)))
+    by_place : (k : ℕ) (other : Option NodeShape) → (slice_get shapes k ≡ Some other)
+        ⊎ ((k ≡ length shapes) × (shape ≡ other)) → other ≡ shape_of_code format ds k
+    by_place k other (inl before) = so_far.each k other before
+    by_place k other (inr last) = sym last.1 ∙ (is
+        ∙ ap (λ (n : ℕ). shape_of_code format ds n) (sym (last.0 ∙ so_far.len)))
 
 -- ---- a node with a shape
 

@@ -11,15 +11,11 @@ use Rattle.std.proofs.lemmas.List.Sums.{sum_by_push, sum_by-append}
 use Rattle.dwarf_units.specs.declared.unit_headers.UnitHeader.{UnitHeader}
 use Rattle.dwarf_units.specs.Private.AbbreviationTables.{Table, table_size}
 use Rattle.dwarf_units.specs.Private.Tables.{IsAdded, IsParsedFrom, IsAt, CachedTables}
-use Rattle.dwarf_units.specs.Private.Tables.{IsCachedOrTooLarge, with_table, size_limit}
+use Rattle.dwarf_units.specs.Private.Tables.{IsCachedOrTooLarge, StaysCached, size_limit}
+use Rattle.dwarf_units.specs.Private.Tables.{with_table}
 use Rattle.dwarf_units.specs.Units.{declarations_limit}
 use Rattle.dwarf_units.proofs.StoredLaws.{take_all, take-front}
 use Rattle.dwarf_units.proofs.TableLaws.{parsed-at, last-at}
-
--- Permanently cached tables are only appended to.
-abbrev pub Grows : CachedTables → CachedTables → Type 0
-Grows old new = (rest : List Table)
-    × (take new.permanent new.tables ≡ take old.permanent old.tables ++ rest)
 
 append-none : (xs : List Table) → xs ≡ xs ++ []
 append-none [] = refl
@@ -32,7 +28,7 @@ got-before (x ∷ xs) ys zero t at = at
 got-before (x ∷ xs) ys (suc i) t at = got-before xs ys i t at
 
 -- What holds for the table of a unit still holds after more tables are cached.
-pub stays-on : (old new : CachedTables) (unit : UnitHeader) → Grows old new
+pub stays-on : (old new : CachedTables) (unit : UnitHeader) → StaysCached old new
     → new.section ≡ old.section → IsCachedOrTooLarge old unit → IsCachedOrTooLarge new unit
 stays-on old new unit grows same (table, at, parsed, is) =
     (table, at, subst (λ (s : List ℕ). IsParsedFrom s table) (sym same) parsed, by_case is)
@@ -61,7 +57,7 @@ stays-on old new unit grows same (table, at, parsed, is) =
 pub stays-with : (old : CachedTables) (unit : UnitHeader) (table : Table)
     → old.permanent ≤ length old.tables → IsAt unit.format unit.abbreviations table
     → IsParsedFrom old.section table → IsCachedOrTooLarge (with_table old table) unit
-    × Grows old (with_table old table)
+    × StaysCached old (with_table old table)
 stays-with old unit table within at parsed =
     let before : List Table = take old.permanent old.tables in
     by_test before (length-take-le old.permanent old.tables within) refl
@@ -80,7 +76,7 @@ stays-with old unit table within at parsed =
           permanent =
               if b then length (before ++ table ∷ []) else old.permanent;
         } in
-        IsCachedOrTooLarge new unit × Grows old new)
+        IsCachedOrTooLarge new unit × StaysCached old new)
     by_test before len is true fits =
         let tables : List Table = before ++ table ∷ [] in
         let whole : take (length tables) tables ≡ tables = take_all tables in (
@@ -112,17 +108,17 @@ stays-with old unit table within at parsed =
 pub stays-parsed : (old new : CachedTables) (unit : UnitHeader) (budget left number : ℕ)
     → old.permanent ≤ length old.tables → budget ≤ declarations_limit
     → IsAdded unit.format unit.abbreviations budget left old new number
-    → IsCachedOrTooLarge new unit × Grows old new
+    → IsCachedOrTooLarge new unit × StaysCached old new
 stays-parsed old new unit budget left number within few added =
     let parsed : IsParsedFrom old.section added.table =
-    parsed-at old.section budget added.table unit.abbreviations added.at.0 added.read
+    parsed-at old.section budget added.table unit.abbreviations added.within added.at.0 added.read
     (omega (arith, added.counted, few)) in
-    subst (λ (k : CachedTables). IsCachedOrTooLarge k unit × Grows old k) (sym added.added)
+    subst (λ (k : CachedTables). IsCachedOrTooLarge k unit × StaysCached old k) (sym added.added)
     (stays-with old unit added.table within added.at parsed)
 
 -- It holds for the units up to the next index.
 pub stays-next : (old new : CachedTables) (units : List UnitHeader) (index : ℕ) (d : UnitHeader)
-    → Grows old new → new.section ≡ old.section → index < length units
+    → StaysCached old new → new.section ≡ old.section → index < length units
     → IsCachedOrTooLarge new (get_or units index d) → All (IsCachedOrTooLarge old)
     (take index units)
     → All (IsCachedOrTooLarge new) (take (index + 1) units)

@@ -16,6 +16,7 @@ use Rattle.dwarf_bytes.specs.Items.{At, each_from, each}
 use Rattle.dwarf_bytes.specs.Refusals.{memory_fault, in_section}
 use Rattle.dwarf_bytes.proofs.Items.EachLaws.{made_front, each-next, each-fault, each-end}
 use Rattle.dwarf_bytes.proofs.Items.EachPlaces.{each-place}
+use Rattle.dwarf_bytes.proofs.Numbers.Moves.{same-ok}
 use Rattle.dwarf_forms.specs.Declarations.{Declaration}
 use Rattle.dwarf_bytes.specs.Bind.{◌>>=◌}
 use Rattle.dwarf_forms.specs.Tables.{table_at, declarations_of}
@@ -175,39 +176,58 @@ table_is section headers tables index d all within =
     (omega (arith, few))
 
 -- A table that was parsed is the table at its offset.
-pub parsed-at : (section : List ℕ) (budget : ℕ) (table : Table) (offset : ℕ) → table.offset
-    ≡ offset
+pub parsed-at : (section : List ℕ) (budget : ℕ) (table : Table) (offset : ℕ)
+    → table.section ≡ section → table.offset ≡ offset
     → in_section sections.DebugAbbrev (declarations_of budget section offset)
     ≡ Ok table.declarations
     → length table.declarations ≤ declarations_limit → IsParsedFrom section table
-parsed-at section budget table offset same read few =
-    table-again budget declarations_limit section table.offset table.declarations
-    (in_section-ok sections.DebugAbbrev (declarations_of budget section table.offset)
-    table.declarations (subst (λ (k : ℕ). in_section sections.DebugAbbrev
-    (declarations_of budget section k) ≡ Ok table.declarations) (sym same) read)) few
+parsed-at section budget table offset in_same same read few = (
+  in_same,
+  table-again budget declarations_limit section table.offset table.declarations
+      (in_section-ok sections.DebugAbbrev (declarations_of budget section table.offset)
+      table.declarations (subst (λ (k : ℕ). in_section sections.DebugAbbrev
+      (declarations_of budget section k) ≡ Ok table.declarations) (sym same) read)) few,
+)
 
--- A cached table is the table at the offset that a unit names.
+-- A cached table is parsed from the section.
 pub cached-parsed : (section : List ℕ) (tables : List Table) (number : ℕ) (table : Table)
-    (offset : ℕ) → All (IsParsedFrom section) tables → slice_get tables number ≡ Some table
-    → table.offset ≡ offset → declarations_of declarations_limit section offset
-    ≡ Ok table.declarations
-cached-parsed section tables number table offset all at same =
-    let here : get_or tables number table ≡ table =
-    get_or_from_slice_get tables number table table at in
-    let parsed : IsParsedFrom section (get_or tables number table) =
-    all number table (slice_get_within tables number table at) in
-    subst (λ (k : ℕ). declarations_of declarations_limit section k ≡ Ok table.declarations) same
-    (subst (λ (t : Table). IsParsedFrom section t) here parsed)
+    → All (IsParsedFrom section) tables → slice_get tables number ≡ Some table
+    → IsParsedFrom section table
+cached-parsed section tables number table all at =
+    subst (IsParsedFrom section) (get_or_from_slice_get tables number table table at)
+    (all number table (slice_get_within tables number table at))
 
--- Parsing a cached table again succeeds if the budget is large enough.
-pub cached-again : (section : List ℕ) (tables : List Table) (number : ℕ) (table : Table)
-    (offset left : ℕ) → All (IsParsedFrom section) tables → slice_get tables number ≡ Some table
-    → table.offset ≡ offset → length table.declarations ≤ left
+-- A parsed table is parsed again with any budget that is large enough.
+pub parsed-again : (section : List ℕ) (table : Table) (offset left : ℕ)
+    → IsParsedFrom section table → table.offset ≡ offset → length table.declarations ≤ left
     → in_section sections.DebugAbbrev (declarations_of left section offset) ≡ Ok table.declarations
-cached-again section tables number table offset left all at same few =
+parsed-again section table offset left parsed same few =
     ap (λ (r : Result (List Declaration) At). in_section sections.DebugAbbrev r)
     (table-again declarations_limit left section offset table.declarations
-    (cached-parsed section tables number table offset all at same) few)
+    (subst (λ (k : ℕ). declarations_of declarations_limit section k ≡ Ok table.declarations) same
+    parsed.1) few)
+
+-- A parsed table with more declarations than the remaining budget is refused.
+pub parsed-too-long : {X : Type 0} (section : List ℕ) (table : Table) (offset left : ℕ)
+    (read : List Declaration) → IsParsedFrom section table → table.offset ≡ offset
+    → in_section sections.DebugAbbrev (declarations_of left section offset) ≡ Ok read
+    → left ≤ declarations_limit → left < length table.declarations → X
+parsed-too-long section table offset left read parsed same is_read few past =
+    let ok : declarations_of left section offset ≡ Ok read =
+    in_section-ok sections.DebugAbbrev (declarations_of left section offset) read is_read in
+    let short : length read ≤ left = table-few left section offset read ok in
+    let again : declarations_of declarations_limit section offset ≡ Ok read =
+    table-again left declarations_limit section offset read ok (omega (arith, short, few)) in
+    let here : declarations_of declarations_limit section offset ≡ Ok table.declarations =
+    subst (λ (k : ℕ). declarations_of declarations_limit section k ≡ Ok table.declarations) same
+    parsed.1 in
+    absurd (omega (
+      arith,
+      short,
+      past,
+      ap (λ (ds : List Declaration). length ds)
+          (same-ok table.declarations read (sym here ∙ again)),
+    ))
 
 -- The invariant holds for a shorter list of tables, and for one more table appended.
 pub parsed-before : (section : List ℕ) (tables after : List Table) (permanent : ℕ)

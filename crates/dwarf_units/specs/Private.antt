@@ -1,7 +1,6 @@
 pub mod AbbreviationTables
 pub mod StoredAttributes
 pub mod Links
-pub mod SharedTables
 pub mod Heads
 pub mod Rising
 pub mod Numbers

@@ -1,18 +1,17 @@
 //! A cached abbreviation table (DWARF 5, 7.5.3).
 
-ghost use Rattle.std.specs.Prelude.{◌≡◌, ◌<◌, ◌≤◌, ◌+◌, ◌-◌, ◌*◌, ◌^◌, ◌==◌, Some, None, length};
-ghost use Rattle.std.specs.Prelude.{List, find, sum_by, IsTrue, ◌↔◌, IfOk, IfNone, IfSome};
+ghost use Rattle.std.specs.Prelude.{◌≡◌, ℕ, ◌≤◌, ◌+◌, ◌-◌, ◌*◌, ◌^◌, None, length, List};
+ghost use Rattle.std.specs.Prelude.{sum_by, IsTrue, ◌↔◌, IfOk, IfNone, IfSome};
 ghost use Rattle.dwarf_bytes.specs.declared.fault.Section.TheVariants as sections;
+ghost use Rattle.dwarf_bytes.specs.declared.format.Format.{Format};
 ghost use Rattle.dwarf_bytes.specs.Refusals.{Decodes, in_section};
 ghost use Rattle.dwarf_forms.specs.Tables.{declarations_of};
-ghost use Rattle.abbreviation_memo.specs.Declarations.{full_declarations};
-ghost use Rattle.abbreviation_memo.specs.Lists.{Grows};
-ghost use Rattle.abbreviation_memo.specs.Lists.{MemoizedAttribute};
-ghost use Rattle.abbreviation_memo.specs.Declarations.{AreShared};
-ghost use Rattle.dwarf_units.specs.Private.Runs.{own_runs, runs_of};
-ghost use Rattle.dwarf_units.specs.Private.NodeShapes.{AreShapes, shape_at, shape_count};
-ghost use Rattle.dwarf_units.specs.Private.SharedTables.{IsReadable, own_size};
-ghost use Rattle.dwarf_units.specs.Private.SharedTables.{full_table};
+ghost use Rattle.abbreviation_memo.specs.Declarations.{AreShared, full_declarations};
+ghost use Rattle.dwarf_units.specs.Entries.{declaration_of};
+ghost use Rattle.dwarf_units.specs.Private.AbbreviationTables.{table_size};
+ghost use Rattle.dwarf_units.specs.Private.Runs.{IsDeclaration, own_runs};
+ghost use Rattle.dwarf_units.specs.Private.NodeShapes.{shape_at};
+ghost use Rattle.dwarf_units.specs.Private.Tables.{IsAt};
 
 use crate::attribute_runs::{AttributeRuns, own_runs};
 use crate::linked_lists::LinkedLists;
@@ -26,7 +25,8 @@ use std::marker::Model;
 /// An abbreviation table, its offset in `.debug_abbrev`, and what is computed from it for units of
 /// a format.
 #[derive(Drop)]
-pub(crate) struct CachedTable {
+pub(crate) struct CachedTable<'a> {
+    section: &'a [u8],
     offset: u64,
     format: Format,
     table: AbbreviationTable,
@@ -36,46 +36,49 @@ pub(crate) struct CachedTable {
     shapes: Vec<Option<NodeShape>>,
 }
 
-impl Model for CachedTable {
+impl<'a> Model for CachedTable<'a> {
     ghost use Rattle.std.specs.Prelude.{◌≡◌};
+    ghost use Rattle.abbreviation_memo.specs.Declarations.{AreShared, full_declarations};
+    ghost use Rattle.dwarf_units.specs.Private.AbbreviationTables.{Table};
     ghost use Rattle.dwarf_units.specs.Private.Runs.{own_runs};
     ghost use Rattle.dwarf_units.specs.Private.NodeShapes.{AreShapes, shape_count};
-    ghost use Rattle.dwarf_units.specs.Private.SharedTables.{SharedTable};
 
-    ghost Value = { SharedTable };
+    ghost Value = { Table };
 
     ghost view = { λ t. record {
+      section = t.section.now;
       offset = t.offset;
       format = t.format;
-      declarations = t.table;
+      declarations = full_declarations t.section.now t.table;
     } };
 
-    ghost invariant = { λ t. (t.runs.items ≡ own_runs t.format t.table)
-        × AreShapes t.format t.table (shape_count t.table) t.shapes.items };
+    ghost invariant = { λ t. AreShared t.section.now t.table
+        × (t.runs.items ≡ own_runs t.format t.table)
+        × AreShapes t.format (full_declarations t.section.now t.table) (shape_count t.table)
+        t.shapes.items };
 }
 
-impl CachedTable {
+impl<'a> CachedTable<'a> {
     /// Parses the table at an offset, as `AbbreviationTable::read` does.
     pub(crate) fn read(
         alloc: Global,
-        lists: &mut LinkedLists<'_>,
+        lists: &mut LinkedLists<'a>,
         format: Format,
         offset: u64,
         left: &mut u64,
-    ) -> Result<CachedTable, LoadFault>
-        ensures decodes { Decodes (λ table. full_declarations lists.new.places.memoized
-            table.declarations) result
-            (in_section sections.DebugAbbrev
-            (declarations_of left.old lists.old.places.section offset)) }
+    ) -> Result<CachedTable<'a>, LoadFault>
+        ensures decodes { Decodes (λ table. table.declarations) result
+            (in_section sections.DebugAbbrev (declarations_of left.old lists.old offset)) }
         ensures counted { IfOk result (λ table. left.new + length table.declarations ≡ left.old) }
-        ensures place { IfOk result (λ table. (table.offset ≡ offset) × (table.format ≡ format)) }
-        ensures readable { IfOk result (IsReadable lists.new) }
-        ensures grows { Grows lists.old.places lists.new.places }
+        ensures at { IfOk result (λ table. (table.section ≡ lists.old) × IsAt format offset table) }
+        ensures section { lists.new ≡ lists.old }
     {
+        let section = lists.section();
         let table = lists.table(alloc, offset, left)?;
         let runs = own_runs(alloc, format, &table)?;
         let shapes = shapes(alloc, &table, &runs)?;
         Ok(CachedTable {
+            section,
             offset,
             format,
             table,
@@ -99,11 +102,9 @@ impl CachedTable {
 
     /// Returns the declaration of a code and its unshared attributes.
     pub(crate) fn find(&self, code: u64) -> Option<(&AbbreviationDeclaration, &AttributeRuns)>
-        ensures some { IfSome result (λ found. (find
-            (λ declaration. declaration.code == code) self.now.declarations ≡ Some found.0.now)
-            × (found.1.now ≡ runs_of self.now.format found.0.now.list.own)) }
-        ensures none { IfNone result (find
-            (λ declaration. declaration.code == code) self.now.declarations ≡ None) }
+        ensures some { IfSome result (λ found. IsDeclaration self.now.section self.now.format
+            self.now.declarations code found.0.now found.1.now) }
+        ensures none { IfNone result (declaration_of self.now.declarations code ≡ None) }
     {
         declaration_and_runs(&self.table, &self.runs, code)
     }
@@ -112,8 +113,7 @@ impl CachedTable {
     // Inlined: called for each entry.
     #[inline(always)]
     pub(crate) fn shape(&self, code: u8) -> Option<NodeShape>
-        ensures { (memoized : List MemoizedAttribute) → AreShared memoized self.now.declarations
-            → result ≡ shape_at (full_table memoized self.now) code }
+        ensures { result ≡ shape_at self.now code }
     {
         *self.shapes.get(usize::from(code))?
     }
@@ -128,31 +128,30 @@ impl CachedTable {
     /// Returns the size of the table: its declarations, their unshared attributes, and a position
     /// for each of these.
     pub(crate) fn size(&self) -> u128
-        ensures { result ≡ own_size self.now }
+        ensures { result ≡ table_size self.now }
     {
         u128::from(self.len()) + 2 * attribute_count(self.table.declarations())
     }
 
     /// Returns whether a unit uses this table: the offset and the format are equal.
     pub(crate) fn is_of(&self, header: &UnitHeader) -> bool
-        ensures { IsTrue result ↔ ((self.now.offset ≡ header.now.abbreviations)
-            × (self.now.format ≡ header.now.format)) }
+        ensures { IsTrue result ↔ IsAt header.now.format header.now.abbreviations self.now }
     {
         self.offset == header.abbreviations && self.format == header.format
     }
 }
 
 /// Returns the declaration of a code and its runs. `runs` is parallel to the declarations.
-fn declaration_and_runs<'a>(
+pub(crate) fn declaration_and_runs<'a>(
     table: &'a AbbreviationTable,
     runs: &'a [AttributeRuns],
     code: u64,
 ) -> Option<(&'a AbbreviationDeclaration, &'a AttributeRuns)>
-    ensures some { (format : Format) → runs.now ≡ own_runs format table.now
-        → IfSome result (λ found. (find (λ declaration. declaration.code == code) table.now
-        ≡ Some found.0.now) × (found.1.now ≡ runs_of format found.0.now.list.own)) }
-    ensures none { (format : Format) → runs.now ≡ own_runs format table.now
-        → IfNone result (find (λ declaration. declaration.code == code) table.now ≡ None) }
+    ensures some { (section : List ℕ) (format : Format) → AreShared section table.now
+        → runs.now ≡ own_runs format table.now → IfSome result (λ found. IsDeclaration section
+        format (full_declarations section table.now) code found.0.now found.1.now) }
+    ensures none { (section : List ℕ) (format : Format) → runs.now ≡ own_runs format table.now
+        → IfNone result (declaration_of (full_declarations section table.now) code ≡ None) }
 {
     let place = table.position(code)?;
     let declaration = table.declarations().get(place)?;

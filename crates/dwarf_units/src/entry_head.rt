@@ -1,9 +1,9 @@
 //! Reading entries and null entries of a unit (DWARF 5, 2.3, 7.5.2 and 7.5.3).
 
-ghost use Rattle.std.specs.Prelude.{◌≡◌, ◌≤◌, IsSome, IfOk};
+ghost use Rattle.std.specs.Prelude.{◌≡◌, ◌≤◌, IsSome, IfOk, IfSome};
 ghost use Rattle.dwarf_bytes.specs.Refusals.{ReadsField};
 ghost use Rattle.abbreviation_memo.specs.Declarations.{full_declaration};
-ghost use Rattle.abbreviation_memo.specs.Lists.{IsMemoized};
+ghost use Rattle.abbreviation_memo.specs.Lists.{IsListAt};
 ghost use Rattle.dwarf_units.specs.Entries.{depth_limit};
 ghost use Rattle.dwarf_units.specs.Private.Runs.{runs_of};
 ghost use Rattle.dwarf_units.specs.Private.Heads.{head_at, used_entry_at, ReturnsAndFills};
@@ -32,9 +32,9 @@ pub struct EntryHead<'a> {
 }
 
 impl<'a> Model for EntryHead<'a> {
-    ghost use Rattle.std.specs.Prelude.{◌≡◌};
+    ghost use Rattle.std.specs.Prelude.{◌≡◌, IfSome};
     ghost use Rattle.abbreviation_memo.specs.Declarations.{full_declaration};
-    ghost use Rattle.abbreviation_memo.specs.Lists.{IsMemoized};
+    ghost use Rattle.abbreviation_memo.specs.Lists.{IsListAt};
     ghost use Rattle.dwarf_units.specs.Private.Heads.{Head};
     ghost use Rattle.dwarf_units.specs.Private.Runs.{runs_of};
 
@@ -42,11 +42,11 @@ impl<'a> Model for EntryHead<'a> {
 
     ghost view = { λ h. record {
       format = h.format;
-      declaration = full_declaration h.lists.now.places.memoized h.declaration.now;
+      declaration = full_declaration h.lists.now h.declaration.now;
     } };
 
     ghost invariant = { λ h. (h.runs.now ≡ runs_of h.format h.declaration.now.list.own)
-        × IsMemoized h.lists.now.places.memoized h.declaration.now.list.rest };
+        × IfSome h.declaration.now.list.rest (IsListAt h.lists.now) };
 }
 
 impl UnitTable<'_> {
@@ -100,10 +100,10 @@ impl<'a> EntryHead<'a> {
         lists: &'a LinkedLists<'a>,
     ) -> EntryHead<'a>
         requires runs { runs.now ≡ runs_of format declaration.now.list.own }
-        requires memoized { IsMemoized lists.now.places.memoized declaration.now.list.rest }
+        requires valid { IfSome declaration.now.list.rest (IsListAt lists.now) }
         ensures { result ≡ record {
           format = format;
-          declaration = full_declaration lists.now.places.memoized declaration.now;
+          declaration = full_declaration lists.now declaration.now;
         } }
     {
         EntryHead {

@@ -1,13 +1,12 @@
-//! The memoized attributes of `.debug_abbrev`, with links that skip attributes of no bytes.
+//! The attribute lists that declarations share, with links that skip attributes of no bytes.
 
-ghost use Rattle.std.specs.Prelude.{◌≡◌, ◌<◌, ◌≤◌, ◌+◌, [], ℕ, Some, IfOk, IfSome, OnOk, length};
+ghost use Rattle.std.specs.Prelude.{◌≡◌, ◌+◌, IfOk, IfSome, IsOk, length};
 ghost use Rattle.dwarf_bytes.specs.declared.fault.Section.TheVariants as sections;
 ghost use Rattle.dwarf_bytes.specs.Refusals.{Decodes, in_section};
 ghost use Rattle.dwarf_forms.specs.Tables.{declarations_of};
-ghost use Rattle.abbreviation_memo.specs.Lists.{Grows, IsMemoized, rest_attributes};
+ghost use Rattle.abbreviation_memo.specs.Lists.{IsListAt, list_at, rest_attributes};
 ghost use Rattle.abbreviation_memo.specs.Declarations.{AreShared, full_declarations};
-ghost use Rattle.dwarf_units.specs.Private.Links.{AreLinked, IsLink, is_empty_unused};
-ghost use Rattle.dwarf_units.specs.Private.Links.{linked_attributes};
+ghost use Rattle.dwarf_units.specs.Private.Links.{AreLinks, IsLink, is_empty_unused};
 ghost use Rattle.dwarf_units.specs.Private.StoredAttributes.{Fills, stored_attributes_at};
 ghost use Rattle.dwarf_units.specs.Private.Used.{used_after};
 
@@ -15,138 +14,186 @@ use crate::attribute_run::read_one;
 use crate::attributes::is_used;
 use crate::fixed_sizes::fixed_len;
 use crate::used_attributes::UsedAttributes;
-use abbreviation_memo::{AbbreviationTable, MemoizedLists};
+use abbreviation_memo::{AbbreviationTable, ListStart, MemoizedLists};
 use dwarf_bytes::{Cause, Cursor, Format, LoadFault};
 use dwarf_forms::AttributeSpecification;
 use std::alloc::{AllocError, Global};
+use std::collections::BTreeMap;
 use std::marker::Model;
 
-/// The memoized attributes of a section, each stored once, with their links. The links bound the
-/// time of entries whose declaration has many attributes of no bytes.
+/// The memoized lists of a section and their links. A link is the first attribute of a list that
+/// is used or may have bytes, and the offset of the attributes after it. Links bound the time of
+/// entries whose declaration has many attributes of no bytes.
 #[derive(Drop)]
 pub(crate) struct LinkedLists<'a> {
+    alloc: Global,
     lists: MemoizedLists<'a>,
-    /// For each memoized attribute, the index of the first attribute from there on that is used or
-    /// may have bytes.
-    links: Vec<Option<usize>>,
+    /// The links by the offsets of the lists.
+    links: BTreeMap<usize, ListStart>,
+    /// The number of memoized lists that have links.
+    linked: usize,
 }
 
 impl<'a> Model for LinkedLists<'a> {
-    ghost use Rattle.std.specs.Prelude.{length};
-    ghost use Rattle.dwarf_units.specs.Private.Links.{AreLinked, LinkedPlaces};
+    ghost use Rattle.std.specs.Prelude.{ℕ, List};
+    ghost use Rattle.dwarf_units.specs.Private.Links.{AreLinks};
 
-    ghost Value = { LinkedPlaces };
+    ghost Value = { List ℕ };
 
-    ghost view = { λ l. record { places = l.lists; linked = length l.links.items } };
+    ghost view = { λ l. l.lists };
 
-    ghost invariant = { λ l. AreLinked l.lists.memoized l.links.items };
+    ghost invariant = { λ l. AreLinks l.lists l.links };
 }
 
 impl<'a> LinkedLists<'a> {
     pub(crate) fn new(alloc: Global, section: &'a [u8]) -> Result<LinkedLists<'a>, AllocError>
-        ensures { IfOk result (λ lists. lists ≡ record {
-          places = record { section = section.now; memoized = [] };
-          linked = 0;
-        }) }
+        ensures { IfOk result (λ lists. lists ≡ section.now) }
     {
         Ok(LinkedLists {
+            alloc,
             lists: MemoizedLists::new(alloc, section)?,
-            links: Vec::new(alloc),
+            links: BTreeMap::new(alloc),
+            linked: 0,
         })
     }
 
-    /// Parses the table at an offset, as `AbbreviationTable::read` does, and links all memoized
-    /// attributes.
+    /// Returns the bytes of the section.
+    pub(crate) fn section(&self) -> &'a [u8]
+        ensures { result.now ≡ self.now }
+    {
+        self.lists.section()
+    }
+
+    /// Parses the table at an offset, as `AbbreviationTable::read` does, and links the lists that
+    /// it memoizes.
     pub(crate) fn table(
         &mut self,
         alloc: Global,
         offset: u64,
         left: &mut u64,
     ) -> Result<AbbreviationTable, LoadFault>
-        ensures decodes { Decodes (full_declarations self.new.places.memoized) result (in_section
-            sections.DebugAbbrev (declarations_of left.old self.old.places.section offset)) }
+        ensures decodes { Decodes (full_declarations self.old) result
+            (in_section sections.DebugAbbrev (declarations_of left.old self.old offset)) }
         ensures counted { IfOk result (λ table. left.new + length table ≡ left.old) }
-        ensures memoized { IfOk result (AreShared self.new.places.memoized) }
-        ensures linked { IfOk result (λ _. self.new.linked ≡ length self.new.places.memoized) }
-        ensures grows { Grows self.old.places self.new.places }
+        ensures shared { IfOk result (AreShared self.old) }
+        ensures section { self.new ≡ self.old }
     {
         let table = AbbreviationTable::read(alloc, &mut self.lists, offset, left)?;
-        link_all(&self.lists, &mut self.links)?;
+        // The lists are valid, so only an allocation can fail.
+        if link_all(alloc, &self.lists, self.linked, &mut self.links).is_err() {
+            return Err(AllocError.into());
+        }
+        self.linked = self.lists.places().len();
         Ok(table)
     }
 
-    /// Reads the attributes of a list from its memoized attribute `first` on, which start at the
-    /// cursor. Adds the used ones to `found` if `keep` is set.
+    /// Reads the attributes of an entry from the offset `rest` of their declarations on. They start
+    /// at the cursor. Adds the used ones to `found` if `keep` is set.
     // Inlined: called for each entry.
     #[inline(always)]
     pub(crate) fn read(
         &self,
         keep: bool,
         format: Format,
-        first: Option<usize>,
+        rest: Option<usize>,
         cursor: &mut Cursor,
         found: &mut UsedAttributes,
     ) -> Result<(), Cause>
-        requires { IsMemoized self.now.places.memoized first }
+        requires { IfSome rest (IsListAt self.now) }
         ensures { Fills result found.new (λ bytes at. used_after found.old (stored_attributes_at
-            keep format (rest_attributes self.now.places.memoized first) bytes at))
-            cursor.old cursor.new }
+            keep format (rest_attributes self.now rest) bytes at)) cursor.old cursor.new }
+    {
+        let Some(place) = rest else {
+            return Ok(());
+        };
+        let mut copy = cursor.fork();
+        self.read_list(keep, format, place, &mut copy, found)?;
+        *cursor = copy;
+        Ok(())
+    }
+
+    // Not inlined: compilers share no attributes.
+    #[inline(never)]
+    fn read_list(
+        &self,
+        keep: bool,
+        format: Format,
+        place: usize,
+        cursor: &mut Cursor,
+        found: &mut UsedAttributes,
+    ) -> Result<(), Cause>
+        requires { IsListAt self.now place }
+        ensures { Fills result found.new (λ bytes at. used_after found.old (stored_attributes_at
+            keep format (list_at self.now place) bytes at)) cursor.old cursor.new }
     {
         // The contract of `place` is needed: the offset is within the bytes or at their end.
         let _ = cursor.place();
-        let mut next = self.linked(first);
-        while let Some(number) = next {
-            let attribute = self.lists.attribute(number);
-            let mut copy = cursor.fork();
-            read_one(keep, format, attribute, &mut copy, found)?;
-            *cursor = copy;
+        let mut link = self.link(place)?;
+        while let Some(attribute) = link.attribute {
+            read_one(keep, format, &attribute, cursor, found)?;
             let _ = cursor.place();
-            next = self.linked(self.lists.next(number));
+            link = self.link(link.rest)?;
         }
         Ok(())
     }
 
-    /// Returns the index of the first attribute that is read of a list that starts at a memoized
-    /// attribute. If this attribute has no link, because memory ran out, it is the first.
-    fn linked(&self, first: Option<usize>) -> Option<usize>
-        requires { IsMemoized self.now.places.memoized first }
-        ensures list { rest_attributes self.now.places.memoized result
-            ≡ linked_attributes self.now first }
-        ensures before { IfSome result (λ next. (number : ℕ) × (first ≡ Some number)
-            × (next ≤ number)) }
-        ensures memoized { IsMemoized self.now.places.memoized result }
+    /// Returns the link of the list at an offset. Without a link in the map, because memory ran
+    /// out, the list is read from the offset on.
+    fn link(&self, place: usize) -> Result<ListStart, Cause>
+        requires { IsListAt self.now place }
+        ensures ok { IsOk result }
+        ensures link { IfOk result (IsLink self.now place) }
     {
-        let number = first?;
-        match self.links.get(number) {
-            Some(link) => *link,
-            None => first,
+        match self.links.get(&place) {
+            Some(link) => Ok(*link),
+            None => link_of(self.alloc, self.lists.section(), &self.links, place),
         }
     }
 }
 
-/// Links the memoized attributes that have no links yet.
-fn link_all(lists: &MemoizedLists<'_>, links: &mut Vec<Option<usize>>) -> Result<(), AllocError>
-    requires { AreLinked lists.now.memoized links.old.items }
-    ensures links { AreLinked lists.now.memoized links.new.items }
-    ensures all { OnOk result (length links.new.items ≡ length lists.now.memoized) }
+/// Links the memoized lists from index `linked` on.
+fn link_all(
+    alloc: Global,
+    lists: &MemoizedLists<'_>,
+    linked: usize,
+    links: &mut BTreeMap<usize, ListStart>,
+) -> Result<(), Cause>
+    requires { AreLinks lists.now links.old }
+    ensures { AreLinks lists.now links.new }
 {
-    while links.len() < lists.len() {
-        links.push(link_of(lists, links))?;
+    let places = lists.places();
+    for index in linked..places.len() {
+        let place = places[index];
+        let link = link_of(alloc, lists.section(), links, place)?;
+        links.insert(place, link)?;
     }
     Ok(())
 }
 
-/// Returns the link of the first memoized attribute that has none.
-fn link_of(lists: &MemoizedLists<'_>, links: &[Option<usize>]) -> Option<usize>
-    requires few { length links.now < length lists.now.memoized }
-    requires linked { AreLinked lists.now.memoized links.now }
-    ensures { IsLink lists.now.memoized (length links.now) result }
+/// Returns the link of the list at an offset. The list after an attribute that is skipped must
+/// have its link.
+fn link_of(
+    alloc: Global,
+    section: &[u8],
+    links: &BTreeMap<usize, ListStart>,
+    place: usize,
+) -> Result<ListStart, Cause>
+    requires valid { IsListAt section.now place }
+    requires links { AreLinks section.now links.now }
+    ensures ok { IsOk result }
+    ensures link { IfOk result (IsLink section.now place) }
 {
-    let number = links.len();
-    if !is_empty_unused(lists.attribute(number)) {
-        return Some(number);
+    let start = ListStart::read(alloc, section, place)?;
+    let Some(attribute) = start.attribute else {
+        return Ok(start);
+    };
+    if !is_empty_unused(&attribute) {
+        return Ok(start);
     }
-    links[lists.next(number)?]
+    match links.get(&start.rest) {
+        Some(link) => Ok(*link),
+        None => Ok(start),
+    }
 }
 
 /// Returns whether an attribute is unused and has no bytes.

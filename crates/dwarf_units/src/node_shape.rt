@@ -1,8 +1,7 @@
 //! Nodes of a fixed size: null entries, and entries whose attributes all have a fixed size (DWARF
 //! 5, 7.5.2 and 7.5.3).
 
-ghost use Rattle.std.specs.Prelude.{◌≡◌, List, IfOk, IfSome};
-ghost use Rattle.abbreviation_memo.specs.Lists.{MemoizedAttribute};
+ghost use Rattle.std.specs.Prelude.{◌≡◌, ℕ, List, IfOk};
 ghost use Rattle.abbreviation_memo.specs.Declarations.{IsShared};
 ghost use Rattle.abbreviation_memo.specs.Declarations.{AreShared, full_declaration};
 ghost use Rattle.abbreviation_memo.specs.Declarations.{full_declarations};
@@ -13,6 +12,7 @@ ghost use Rattle.dwarf_units.specs.Private.NodeShapes.{AreShapes};
 ghost use Rattle.dwarf_units.specs.Private.NodeShapes.{shape_of, shape_of_code, shape_count};
 
 use crate::attribute_runs::AttributeRuns;
+use crate::cached_table::declaration_and_runs;
 use abbreviation_memo::{AbbreviationDeclaration, AbbreviationTable, UNSHARED};
 use std::alloc::{AllocError, Global};
 
@@ -45,10 +45,9 @@ impl NodeShape {
 
     /// Returns the shape of the entries of a declaration, if their size is fixed.
     fn of(declaration: &AbbreviationDeclaration, runs: &AttributeRuns) -> Option<NodeShape>
-        ensures { (memoized : List MemoizedAttribute) (format : Format)
-            → IsShared memoized declaration.now.list
+        ensures { (section : List ℕ) (format : Format) → IsShared section declaration.now.list
             → runs.now ≡ runs_of format declaration.now.list.own
-            → result ≡ shape_of format (full_declaration memoized declaration.now) }
+            → result ≡ shape_of format (full_declaration section declaration.now) }
     {
         let len = runs.fixed_size()?;
         if declaration.list().own().len() >= UNSHARED {
@@ -70,8 +69,10 @@ pub(crate) fn shapes(
     table: &AbbreviationTable,
     runs: &[AttributeRuns],
 ) -> Result<Vec<Option<NodeShape>>, AllocError>
-    ensures { IfOk result (λ shapes. (format : Format) → runs.now ≡ own_runs format table.now
-        → AreShapes format table.now (shape_count table.now) shapes.items) }
+    ensures { IfOk result (λ shapes. (section : List ℕ) (format : Format)
+        → AreShared section table.now → runs.now ≡ own_runs format table.now
+        → AreShapes format (full_declarations section table.now) (shape_count table.now)
+        shapes.items) }
 {
     let mut shapes = Vec::new(alloc);
     for code in 0..table.declarations().len().min(CODE_LIMIT) + 1 {
@@ -82,14 +83,13 @@ pub(crate) fn shapes(
 
 /// Returns the shape of the nodes with a code, if their size is fixed.
 fn shape_of_code(table: &AbbreviationTable, runs: &[AttributeRuns], code: u64) -> Option<NodeShape>
-    ensures { (memoized : List MemoizedAttribute) (format : Format) → AreShared memoized table.now
+    ensures { (section : List ℕ) (format : Format) → AreShared section table.now
         → runs.now ≡ own_runs format table.now
-        → result ≡ shape_of_code format (full_declarations memoized table.now) code }
+        → result ≡ shape_of_code format (full_declarations section table.now) code }
 {
     if code == 0 {
         return Some(NodeShape::null());
     }
-    let place = table.position(code)?;
-    let declaration = table.declarations().get(place)?;
-    NodeShape::of(declaration, runs.get(place)?)
+    let (declaration, runs) = declaration_and_runs(table, runs, code)?;
+    NodeShape::of(declaration, runs)
 }

@@ -1,72 +1,116 @@
 //! The cache of abbreviation tables, indexed by number.
 
-ghost use Rattle.std.specs.Prelude.{◌≡◌, ◌++◌, ◌∷◌, [], None, Some, take, length, slice_get, IfOk};
-ghost use Rattle.std.specs.Prelude.{IfNone, IfSome, OnErr};
-ghost use Rattle.dwarf_units.specs.Private.Links.{LinkedPlaces};
-ghost use Rattle.dwarf_units.specs.Private.SharedTables.{SharedTable, full_table};
-ghost use Rattle.dwarf_units.specs.Private.Tables.{AreStored, AreElsewhere, IsAt, IsNew, seen};
-ghost use Rattle.dwarf_units.specs.Private.Tables.{with_table};
-ghost use Rattle.dwarf_units.specs.Private.Numbers.{number_at};
-ghost use Rattle.dwarf_bytes.specs.declared.format.Format.{Format};
+ghost use Rattle.std.specs.Prelude.{◌≡◌, ◌++◌, ◌∷◌, ◌<◌, [], Some, take, length, nat_lt};
+ghost use Rattle.std.specs.Prelude.{slice_get, IsTrue, IfOk, IfNone, IfSome, OnErr, ◌↔◌};
+ghost use Rattle.dwarf_units.specs.Private.Tables.{AreElsewhere, IsCachedOrTooLarge, IsIndexOf};
+ghost use Rattle.dwarf_units.specs.Private.Tables.{IsTableAt};
+ghost use Rattle.dwarf_units.specs.Private.Tables.{IsParsedFrom, IsWithinLimit, with_table};
 
 use crate::cached_table::CachedTable;
 use crate::numbers::Numbers;
 use crate::unit_headers::UnitHeader;
 use std::alloc::{AllocError, Global};
+use std::marker::Model;
 
 /// The cached tables that fit the budget, followed by at most one temporary table: the last table
 /// that did not fit.
 #[derive(Drop)]
-pub(crate) struct TableStore {
-    pub(crate) tables: Vec<CachedTable>,
+pub(crate) struct TableStore<'a> {
+    section: &'a [u8],
+    tables: Vec<CachedTable<'a>>,
     /// The number of tables that are cached permanently. A table after them is temporary.
-    pub(crate) permanent: usize,
+    permanent: usize,
     /// The remaining budget: the number of declarations, attributes and positions that can still be
     /// cached.
-    pub(crate) budget: u128,
-    pub(crate) numbers: Numbers,
+    budget: u128,
+    numbers: Numbers,
 }
 
-impl TableStore {
-    pub(crate) fn new(alloc: Global, budget: u128) -> TableStore
-        ensures tables { result.tables.items ≡ [] }
-        ensures permanent { result.permanent ≡ 0 }
-        ensures budget { result.budget ≡ budget }
+impl<'a> Model for TableStore<'a> {
+    ghost use Rattle.dwarf_units.specs.Private.Tables.{AreCached, CachedTables};
+
+    ghost Value = { CachedTables };
+
+    ghost view = { λ s. record {
+      section = s.section.now;
+      tables = s.tables.items;
+      permanent = s.permanent;
+    } };
+
+    ghost invariant = { λ s. AreCached s.section.now s.tables.items s.permanent s.budget
+        s.numbers };
+}
+
+impl<'a> TableStore<'a> {
+    pub(crate) fn new(alloc: Global, section: &'a [u8]) -> TableStore<'a>
+        ensures { result ≡ record { section = section.now; tables = []; permanent = 0 } }
     {
         TableStore {
+            section,
             tables: Vec::new(alloc),
             permanent: 0,
-            budget,
+            budget: 3 * section.len() as u128 + 65_536,
             numbers: Numbers::new(alloc),
         }
     }
 
-    /// Returns the index of the table of a unit, if it is cached.
-    pub(crate) fn cached_index(&self, unit: &UnitHeader) -> Option<usize>
-        ensures none { IfNone result ((lists : LinkedPlaces) → AreStored lists self.now
-            → AreElsewhere unit.now.format unit.now.abbreviations (seen lists self.now).tables) }
-        ensures some { IfSome result (λ number. (table : SharedTable)
-            × (slice_get self.now.tables.items number ≡ Some table)
-            × (table.offset ≡ unit.now.abbreviations) × (table.format ≡ unit.now.format)) }
+    /// Returns the table at an index.
+    pub(crate) fn table(&self, number: usize) -> &CachedTable<'a>
+        requires { number < length self.now.tables }
+        ensures found { slice_get self.now.tables number ≡ Some result.now }
+        ensures section { result.now.section ≡ self.now.section }
     {
+        &self.tables[number]
+    }
+
+    /// Returns whether the table at an index is cached permanently.
+    pub(crate) fn stays(&self, number: usize) -> bool
+        ensures { result ≡ nat_lt number self.now.permanent }
+    {
+        number < self.permanent
+    }
+
+    /// Returns the index of the table of a unit, if it is cached. Tries the index `guess` first.
+    pub(crate) fn index(&self, unit: &UnitHeader, guess: usize) -> Option<usize>
+        ensures none { IfNone result (AreElsewhere unit.now.format unit.now.abbreviations
+            self.now.tables) }
+        ensures some { IfSome result (IsIndexOf self.now unit.now) }
+        ensures stays { IfSome result (λ _. IsCachedOrTooLarge self.now unit.now) }
+        ensures limit { IsWithinLimit self.now }
+    {
+        if self.is_index(unit, guess) {
+            return Some(guess);
+        }
         let number = self.numbers.get(unit.format, unit.abbreviations)?;
-        if self.tables.get(number)?.is_of(unit) {
+        if self.is_index(unit, number) {
             return Some(number);
         }
         None
     }
 
+    /// Returns whether the table at an index is the table of a unit.
+    fn is_index(&self, unit: &UnitHeader, number: usize) -> bool
+        ensures some { IsTrue result → IsIndexOf self.now unit.now number }
+        ensures stays { IsTrue result → IsCachedOrTooLarge self.now unit.now }
+        ensures none { IsTableAt unit.now.format unit.now.abbreviations self.now.tables number
+            → IsTrue result }
+        ensures limit { IsWithinLimit self.now }
+    {
+        let Some(table) = self.tables.get(number) else {
+            return false;
+        };
+        table.is_of(unit)
+    }
+
     /// Caches a table and returns its index. A table that exceeds the budget is cached only until
     /// the next table is added.
-    pub(crate) fn add_table(&mut self, table: CachedTable) -> Result<usize, AllocError>
-        ensures stored { (lists : LinkedPlaces) → AreStored lists self.old
-            → IsNew lists self.old table → AreStored lists self.new }
-        ensures ok { IfOk result (λ number. (lists : LinkedPlaces) → AreStored lists self.old
-            → IsNew lists self.old table
-            → (seen lists self.new
-            ≡ with_table (seen lists self.old) (full_table lists.places.memoized table))
-            × (slice_get (seen lists self.new).tables number
-            ≡ Some (full_table lists.places.memoized table))) }
+    pub(crate) fn add(&mut self, table: CachedTable<'a>) -> Result<usize, AllocError>
+        requires parsed { IsParsedFrom self.old.section table }
+        requires new { AreElsewhere table.format table.offset self.old.tables }
+        ensures added { IfOk result (λ number. (self.new ≡ with_table self.old table.entry)
+            × (slice_get self.new.tables number ≡ Some table.entry)) }
+        ensures section { self.new.section ≡ self.old.section }
+        ensures limit { IsWithinLimit self.new }
     {
         let size = table.size();
         self.numbers
@@ -81,13 +125,13 @@ impl TableStore {
 }
 
 /// Truncates the list to `permanent` tables, appends a table, and returns its index.
-fn truncate_and_push(
-    tables: &mut Vec<CachedTable>,
+fn truncate_and_push<'a>(
+    tables: &mut Vec<CachedTable<'a>>,
     permanent: usize,
-    table: CachedTable,
+    table: CachedTable<'a>,
 ) -> Result<usize, AllocError>
     ensures ok { IfOk result (λ number.
-        (tables.new.items ≡ take permanent tables.old.items ++ table ∷ [])
+        (tables.new.items ≡ take permanent tables.old.items ++ table.entry ∷ [])
         × (number ≡ length (take permanent tables.old.items))) }
     ensures err { OnErr result (tables.new.items ≡ take permanent tables.old.items) }
 {

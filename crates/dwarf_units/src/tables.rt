@@ -1,6 +1,6 @@
 //! A cache of the abbreviation tables of all units (DWARF 5, 7.5.3).
 
-ghost use Rattle.std.specs.Prelude.{◌≡◌, ℕ, ◌+◌, ◌<◌, ◌≤◌, ◌++◌, [], take, List, Some, Ok, length};
+ghost use Rattle.std.specs.Prelude.{◌≡◌, ℕ, ◌+◌, ◌<◌, ◌≤◌, [], List, Some, Ok, length};
 ghost use Rattle.std.specs.Prelude.{nat_lt, slice_get, IfOk, OnOk, IfSome, IfNone};
 ghost use Rattle.std.specs.List.{All};
 ghost use Rattle.dwarf_bytes.specs.declared.fault.Section.TheVariants as sections;
@@ -10,7 +10,7 @@ ghost use Rattle.dwarf_units.specs.Units.{declarations_limit, tables_of};
 ghost use Rattle.dwarf_units.specs.Private.AbbreviationTables.{Table};
 ghost use Rattle.dwarf_units.specs.Private.Tables.{AreElsewhere, IsAdded, IsAt, IsNumberOf};
 ghost use Rattle.dwarf_units.specs.Private.Tables.{IsWithinLimit, Refuses, IsCachedOrTooLarge};
-ghost use Rattle.dwarf_units.specs.Private.Tables.{table_read, with_table};
+ghost use Rattle.dwarf_units.specs.Private.Tables.{StaysCached, table_read, with_table};
 
 use crate::cached_table::CachedTable;
 use crate::linked_lists::LinkedLists;
@@ -28,17 +28,18 @@ const DECLARATIONS_LIMIT: u64 = 4_194_304;
 #[derive(Drop)]
 pub struct Tables<'a> {
     lists: LinkedLists<'a>,
-    store: TableStore,
+    store: TableStore<'a>,
 }
 
 impl<'a> Model for Tables<'a> {
-    ghost use Rattle.dwarf_units.specs.Private.Tables.{AreStored, CachedTables, seen};
+    ghost use Rattle.std.specs.Prelude.{◌≡◌};
+    ghost use Rattle.dwarf_units.specs.Private.Tables.{CachedTables};
 
     ghost Value = { CachedTables };
 
-    ghost view = { λ t. seen t.lists t.store };
+    ghost view = { λ t. t.store };
 
-    ghost invariant = { λ t. AreStored t.lists t.store };
+    ghost invariant = { λ t. t.lists ≡ t.store.section };
 }
 
 impl<'a> Tables<'a> {
@@ -74,7 +75,7 @@ impl<'a> Tables<'a> {
     {
         Ok(Tables {
             lists: LinkedLists::new(alloc, section)?,
-            store: TableStore::new(alloc, 3 * section.len() as u128 + 65_536),
+            store: TableStore::new(alloc, section),
         })
     }
 
@@ -92,17 +93,10 @@ impl<'a> Tables<'a> {
             × (left.new + length table ≡ left.old)) }
         ensures err { Refuses result (table_read left.old self.old.section unit.now) }
         ensures section { self.new.section ≡ self.old.section }
-        ensures memoized { (number : ℕ) (table : Table) → slice_get self.old.tables number
-            ≡ Some table
-            → IsAt unit.now.format unit.now.abbreviations table → self.new ≡ self.old }
         ensures limit { IsWithinLimit self.new }
         ensures stays { OnOk result (IsCachedOrTooLarge self.new unit.now) }
-        ensures grows { OnOk result ((rest : List Table) × (take self.new.permanent self.new.tables
-            ≡ take self.old.permanent self.old.tables ++ rest)) }
+        ensures grows { OnOk result (StaysCached self.old self.new) }
     {
-        // Using a field gives the prover the invariant of the type, which bounds the cached tables.
-        // It is needed if no table is read.
-        let _ = &self.store;
         if let Some(len) = self.cached_len(unit, *left) {
             *left -= len;
             return Ok(());
@@ -122,9 +116,10 @@ impl<'a> Tables<'a> {
             × (table_read left self.now.section unit.now ≡ Ok table)
             × (length table ≡ len) × (len ≤ left)) }
         ensures stays { IfSome result (λ _. IsCachedOrTooLarge self.now unit.now) }
+        ensures limit { IsWithinLimit self.now }
     {
-        let number = self.store.cached_index(unit)?;
-        let len = self.store.tables[number].len();
+        let number = self.store.index(unit, 0)?;
+        let len = self.store.table(number).len();
         if len > left {
             return None;
         }
@@ -148,11 +143,7 @@ impl<'a> Tables<'a> {
             × (self.new ≡ with_table self.old table)) }
         ensures limit { IsWithinLimit self.new }
     {
-        if let Some(number) = self.store.cached_index(unit) {
-            return Ok(number);
-        }
-        let mut left = DECLARATIONS_LIMIT;
-        self.add(alloc, unit, &mut left)
+        self.number_by(alloc, unit, 0)
     }
 
     /// Returns the index of the table of a unit, like `number_of`, but tries the index `guess`
@@ -177,10 +168,11 @@ impl<'a> Tables<'a> {
             × (self.new ≡ with_table self.old table)) }
         ensures limit { IsWithinLimit self.new }
     {
-        match self.store.tables.get(guess) {
-            Some(table) if table.is_of(unit) => Ok(guess),
-            _ => self.number_of(alloc, unit),
+        if let Some(number) = self.store.index(unit, guess) {
+            return Ok(number);
         }
+        let mut left = DECLARATIONS_LIMIT;
+        self.add(alloc, unit, &mut left)
     }
 
     /// Returns the table at an index.
@@ -188,7 +180,7 @@ impl<'a> Tables<'a> {
         requires { number < length self.now.tables }
         ensures { slice_get self.now.tables number ≡ Some result }
     {
-        UnitTable::new(&self.store.tables[number], &self.lists)
+        UnitTable::new(self.store.table(number), &self.lists)
     }
 
     /// Returns whether the table at an index is cached permanently. A temporary table is replaced
@@ -196,27 +188,25 @@ impl<'a> Tables<'a> {
     pub fn stays(&self, number: usize) -> bool
         ensures { result ≡ nat_lt number self.now.permanent }
     {
-        number < self.store.permanent
+        self.store.stays(number)
     }
 
     /// Parses the table of a unit, which must not be cached, and caches it. Returns its index.
     /// Subtracts its declarations from `left`.
     fn add(&mut self, alloc: Global, unit: &UnitHeader, left: &mut u64) -> Result<usize, LoadFault>
         requires few { left.old ≤ declarations_limit }
-        requires fresh { (table : List Declaration)
+        requires new { (table : List Declaration)
             → table_read left.old self.old.section unit.now ≡ Ok table
             → AreElsewhere unit.now.format unit.now.abbreviations self.old.tables }
+        requires limit { IsWithinLimit self.old }
         ensures ok { IfOk result (λ number. IsAdded unit.now.format unit.now.abbreviations
             left.old left.new self.old self.new number) }
         ensures err { Refuses result (table_read left.old self.old.section unit.now) }
         ensures section { self.new.section ≡ self.old.section }
-        ensures memoized { (number : ℕ) (table : Table) → slice_get self.old.tables number
-            ≡ Some table
-            → IsAt unit.now.format unit.now.abbreviations table → self.new ≡ self.old }
         ensures limit { IsWithinLimit self.new }
     {
         let place = unit.abbreviations;
         let table = CachedTable::read(alloc, &mut self.lists, unit.format, place, left)?;
-        Ok(self.store.add_table(table)?)
+        Ok(self.store.add(table)?)
     }
 }

@@ -5,7 +5,6 @@ ghost use Rattle.dwarf_units.specs.Entries.{declaration_of, depth_limit};
 ghost use Rattle.dwarf_units.specs.Private.Heads.{head_in};
 ghost use Rattle.dwarf_units.specs.Private.NodeShapes.{IsFixedSizeNode, fixed_size_node_at};
 ghost use Rattle.dwarf_units.specs.Private.NodeShapes.{shape_at};
-ghost use Rattle.dwarf_units.specs.Private.SharedTables.{IsReadable, full_table};
 
 use crate::cached_table::CachedTable;
 use crate::entry_head::{DEPTH_LIMIT, EntryHead};
@@ -13,28 +12,28 @@ use crate::linked_lists::LinkedLists;
 use crate::node_shape::NodeShape;
 use std::marker::Model;
 
-/// A cached abbreviation table, together with the memoized attributes that its declarations share.
+/// A cached abbreviation table, together with the attribute lists that its declarations share.
 #[derive(Drop)]
 pub struct UnitTable<'a> {
-    table: &'a CachedTable,
+    table: &'a CachedTable<'a>,
     lists: &'a LinkedLists<'a>,
 }
 
 impl<'a> Model for UnitTable<'a> {
+    ghost use Rattle.std.specs.Prelude.{◌≡◌};
     ghost use Rattle.dwarf_units.specs.Private.AbbreviationTables.{Table};
-    ghost use Rattle.dwarf_units.specs.Private.SharedTables.{IsReadable, full_table};
 
     ghost Value = { Table };
 
-    ghost view = { λ t. full_table t.lists.now.places.memoized t.table.now };
+    ghost view = { λ t. t.table.now };
 
-    ghost invariant = { λ t. IsReadable t.lists.now t.table.now };
+    ghost invariant = { λ t. t.table.now.section ≡ t.lists.now };
 }
 
 impl<'a> UnitTable<'a> {
-    pub(crate) fn new(table: &'a CachedTable, lists: &'a LinkedLists<'a>) -> UnitTable<'a>
-        requires { IsReadable lists.now table.now }
-        ensures { result ≡ full_table lists.now.places.memoized table.now }
+    pub(crate) fn new(table: &'a CachedTable<'a>, lists: &'a LinkedLists<'a>) -> UnitTable<'a>
+        requires { table.now.section ≡ lists.now }
+        ensures { result ≡ table.now }
     {
         UnitTable { table, lists }
     }

@@ -1,6 +1,6 @@
 //! Reads the abbreviation tables of an object's units, and the values of their entries.
 
-use abbreviation_memo::{AbbreviationDeclaration, AbbreviationTable, MemoizedLists};
+use abbreviation_memo::{AbbreviationDeclaration, AbbreviationTable, ListStart, MemoizedLists};
 use dwarf_bytes::{Cause, Cursor, Format, LoadFault, Object, Section};
 use dwarf_forms::{AttributeSpecification, value};
 use std::alloc::Global;
@@ -41,7 +41,7 @@ pub fn read(alloc: Global, bytes: &[u8]) -> Result<Counts, LoadFault> {
     for unit in &units(alloc, info)? {
         let table = AbbreviationTable::read(alloc, &mut lists, unit.abbreviations, &mut left)?;
         counts.units = counts.units.wrapping_add(1);
-        read_entries(info, unit, &table, &lists, &mut counts);
+        read_entries(alloc, info, unit, &table, &lists, &mut counts);
     }
     counts.declarations = DECLARATIONS.saturating_sub(left);
     Ok(counts)
@@ -129,6 +129,7 @@ fn read_unit(info: &[u8], place: usize) -> Result<Unit, Cause> {
 
 /// Reads the values of a unit's entries, up to its end or a fault.
 fn read_entries(
+    alloc: Global,
     info: &[u8],
     unit: &Unit,
     table: &AbbreviationTable,
@@ -146,7 +147,7 @@ fn read_entries(
         };
         if let Some(declaration) = declaration {
             counts.entries = counts.entries.wrapping_add(1);
-            if read_values(&mut cursor, unit.format, declaration, lists, counts).is_err() {
+            if read_values(alloc, &mut cursor, unit.format, declaration, lists, counts).is_err() {
                 break;
             }
         }
@@ -168,8 +169,9 @@ fn next_declaration<'a>(
     Ok(table.declarations().get(place))
 }
 
-/// Reads the values of a declaration's own attributes, and of the memoized attributes after them.
+/// Reads the values of a declaration's own attributes, and of the shared attributes after them.
 fn read_values(
+    alloc: Global,
     cursor: &mut Cursor<'_>,
     format: Format,
     declaration: &AbbreviationDeclaration,
@@ -179,16 +181,17 @@ fn read_values(
     for attribute in declaration.list().own() {
         read_value(cursor, format, attribute, counts)?;
     }
-    let mut next = declaration.list().rest();
-    for _ in 0..lists.len() {
-        let Some(number) = next else {
+    let Some(rest) = declaration.list().rest() else {
+        return Ok(());
+    };
+    let mut place = rest;
+    for _ in 0..lists.section().len() {
+        let start = ListStart::read(alloc, lists.section(), place)?;
+        let Some(attribute) = start.attribute else {
             break;
         };
-        if number >= lists.len() {
-            break;
-        }
-        read_value(cursor, format, lists.attribute(number), counts)?;
-        next = lists.next(number);
+        read_value(cursor, format, &attribute, counts)?;
+        place = start.rest;
     }
     Ok(())
 }

@@ -5,8 +5,9 @@ use Rattle.dwarf_forms.specs.declared.attribute.AttributeSpecification.{Attribut
 use Rattle.abbreviation_memo.specs.declared.shared.TheConstants.{UNSHARED}
 use Rattle.dwarf_forms.specs.Declarations.{Declaration}
 
--- The table of declarations at an offset, for units of a format.
+-- The table of declarations at an offset of `.debug_abbrev`, for units of a format.
 pub record Table : Type 0 where
+  pub section : List ℕ
   pub offset : ℕ
   pub format : Format
   pub declarations : List Declaration

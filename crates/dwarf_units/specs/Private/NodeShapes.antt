@@ -3,10 +3,8 @@ use Rattle.std.specs.Prelude.{◌≡◌, ℕ, ◌+◌, min, List, length, true, 
 use Rattle.std.specs.Prelude.{◌||◌, nat_lt, Option, Some, None, Ok, if◌then◌else◌}
 use Rattle.std.specs.Prelude.{option_and_then, option_map, slice_get}
 use Rattle.dwarf_bytes.specs.declared.format.Format.{Format}
-use Rattle.abbreviation_memo.specs.Lists.{MemoizedAttribute}
 use Rattle.abbreviation_memo.specs.declared.shared.TheConstants.{UNSHARED}
 use Rattle.dwarf_forms.specs.Declarations.{Declaration}
-use Rattle.abbreviation_memo.specs.Declarations.{AreShared, SharedDeclaration, full_declarations}
 use Rattle.dwarf_units.specs.declared.node_shape.NodeShape.{NodeShape}
 use Rattle.dwarf_units.specs.Entries.{Node, declaration_of, depth_limit, node_at_depth}
 use Rattle.dwarf_units.specs.NodeShapes.{HasShape, null_shape}
@@ -38,12 +36,11 @@ abbrev pub shape_count : {D : Type 0} → List D → ℕ
 shape_count declarations = min (length declarations) code_limit + 1
 
 -- The list contains the shapes of the first codes, from 0 on.
-pub record AreShapes (format : Format) (declarations : List SharedDeclaration) (count : ℕ)
+pub record AreShapes (format : Format) (declarations : List Declaration) (count : ℕ)
     (shapes : List (Option NodeShape)) : Type 0 where
   pub len : length shapes ≡ count
-  pub each : (memoized : List MemoizedAttribute) → AreShared memoized declarations → (code : ℕ)
-      (shape : Option NodeShape) → slice_get shapes code ≡ Some shape
-      → shape ≡ shape_of_code format (full_declarations memoized declarations) code
+  pub each : (code : ℕ) (shape : Option NodeShape) → slice_get shapes code ≡ Some shape
+      → shape ≡ shape_of_code format declarations code
 
 -- The shape of the nodes with a code, if it is precomputed.
 abbrev pub shape_at : Table → ℕ → Option NodeShape

@@ -1,6 +1,6 @@
 -- The attributes of a declaration in runs: attributes of a fixed size, and the attribute after
 -- them.
-use Rattle.std.specs.Prelude.{ℕ, List, [], ◌∷◌, ◌++◌, length, ◌==◌, map, Option, Some, None, Result}
+use Rattle.std.specs.Prelude.{◌≡◌, ℕ, List, [], ◌∷◌, ◌++◌, length, ◌==◌, map, Option, Some, None, Result}
 use Rattle.std.specs.Prelude.{Ok}
 use Rattle.std.specs.Prelude.{Bool, true, false, ◌&&◌, if◌then◌else◌}
 use Rattle.std.specs.Option.{option_map_or, option_to_list}
@@ -18,12 +18,14 @@ use Rattle.dwarf_bytes.specs.Forms.{form_of}
 use Rattle.dwarf_bytes.specs.Items.{reading}
 use Rattle.dwarf_bytes.specs.Numbers.{block_at}
 use Rattle.dwarf_forms.specs.declared.attribute.AttributeSpecification.{AttributeSpecification}
-use Rattle.abbreviation_memo.specs.Declarations.{SharedDeclaration}
+use Rattle.dwarf_forms.specs.Declarations.{Declaration}
+use Rattle.abbreviation_memo.specs.Declarations.{IsShared, SharedDeclaration, full_declaration}
 use Rattle.dwarf_units.specs.declared.attributes.Attribute.{Attribute}
 use Rattle.dwarf_units.specs.declared.attribute_run.LastAttribute.{LastAttribute}
 use Rattle.dwarf_units.specs.declared.attribute_run.LastAttribute.TheVariants.{Checked, Unchecked}
 use Rattle.dwarf_units.specs.declared.used_position.UsedPosition.{UsedPosition}
 use Rattle.dwarf_units.specs.Attributes.{accepts, is_used}
+use Rattle.dwarf_units.specs.Entries.{declaration_of}
 use Rattle.dwarf_units.specs.Private.FixedSizes.{attributes_in, end_of, used_position}
 use Rattle.dwarf_units.specs.Private.StoredAttributes.{stored_attributes_at}
 
@@ -87,6 +89,13 @@ runs_of format declared = runs_from format 0 [] declared
 -- The runs of the unshared attributes of each declaration.
 abbrev pub own_runs : Format → List SharedDeclaration → List Runs
 own_runs format declarations = map (λ declaration. runs_of format declaration.list.own) declarations
+
+-- The declaration of a code as it is stored, with the runs of its unshared attributes.
+pub record IsDeclaration (section : List ℕ) (format : Format) (declarations : List Declaration)
+    (code : ℕ) (declaration : SharedDeclaration) (stored : Runs) : Type 0 where
+  pub declared : declaration_of declarations code ≡ Some (full_declaration section declaration)
+  pub shared : IsShared section declaration.list
+  pub runs : stored ≡ runs_of format declaration.list.own
 
 -- The size of all attributes, if it is fixed.
 abbrev pub fixed_size : Runs → Option ℕ

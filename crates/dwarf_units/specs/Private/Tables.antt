@@ -13,10 +13,7 @@ use Rattle.dwarf_units.specs.declared.unit_headers.UnitHeader.{UnitHeader}
 use Rattle.dwarf_units.specs.declared.numbers.Numbers.{Numbers}
 use Rattle.dwarf_units.specs.Units.{declarations_limit}
 use Rattle.dwarf_units.specs.Private.Numbers.{number_at}
-use Rattle.dwarf_units.specs.declared.table_store.TableStore.{TableStore}
 use Rattle.dwarf_units.specs.Private.AbbreviationTables.{Table, table_size}
-use Rattle.dwarf_units.specs.Private.Links.{LinkedPlaces}
-use Rattle.dwarf_units.specs.Private.SharedTables.{IsReadable, SharedTable, full_table, full_tables}
 
 -- The tables of a section by index, and the number of those that are cached permanently. A table
 -- after them is the last one that was parsed.
@@ -34,14 +31,19 @@ table_read budget section unit =
 abbrev pub Refuses : {X Y : Type 0} → Result X LoadFault → Result Y LoadFault → Type 0
 Refuses result outcome = IfErr result (λ fault. (fault ≡ memory_fault) ⊎ (outcome ≡ Err fault))
 
--- A table has the declarations that are parsed at its offset.
+-- A table has the declarations that are parsed at its offset of the section.
 abbrev pub IsParsedFrom : List ℕ → Table → Type 0
-IsParsedFrom section table =
-    declarations_of declarations_limit section table.offset ≡ Ok table.declarations
+IsParsedFrom section table = (table.section ≡ section)
+    × (declarations_of declarations_limit section table.offset ≡ Ok table.declarations)
 
 -- A table is at an offset, for units of a format.
 abbrev pub IsAt : Format → ℕ → Table → Type 0
 IsAt format offset table = (table.offset ≡ offset) × (table.format ≡ format)
+
+-- The table at an index is at an offset, for units of a format.
+abbrev pub IsTableAt : Format → ℕ → List Table → ℕ → Type 0
+IsTableAt format offset tables number = (table : Table)
+    × (slice_get tables number ≡ Some table) × IsAt format offset table
 
 -- The table at an index is the table of a unit, as it is parsed from the section.
 abbrev pub IsNumberOf : List ℕ → UnitHeader → List Table → ℕ → Type 0
@@ -62,7 +64,7 @@ size_limit section = 3 * length section + 65536
 -- The permanently cached tables are within the limit, and at most one table is temporary.
 abbrev pub IsWithinLimit : CachedTables → Type 0
 IsWithinLimit k = (sum_by table_size (take k.permanent k.tables) ≤ size_limit k.section)
-    × (length k.tables ≤ k.permanent + 1)
+    × (k.permanent ≤ length k.tables) × (length k.tables ≤ k.permanent + 1)
 
 -- The table of a unit is cached permanently, or it would exceed the limit in addition to those
 -- that are.
@@ -71,6 +73,11 @@ IsCachedOrTooLarge k unit = (table : Table) × IsAt unit.format unit.abbreviatio
     × IsParsedFrom k.section table
     × (((number : ℕ) × (slice_get (take k.permanent k.tables) number ≡ Some table))
     ⊎ (size_limit k.section < sum_by table_size (take k.permanent k.tables) + table_size table))
+
+-- The permanently cached tables are still cached, at the same indexes.
+abbrev pub StaysCached : CachedTables → CachedTables → Type 0
+StaysCached old new = (rest : List Table)
+    × (take new.permanent new.tables ≡ take old.permanent old.tables ++ rest)
 
 -- The cache after one more table is added. The table is permanent if all of them are within the
 -- limit.
@@ -97,35 +104,21 @@ pub record AreCached (section : List ℕ) (tables : List Table) (permanent budge
   pub one : length tables ≤ permanent + 1
   pub past : (table : Table) → slice_get tables permanent ≡ Some table → budget < table_size table
 
--- ---- tables whose declarations share attributes
-
--- The cache as a list of tables with all attributes, given the memoized attributes.
-abbrev pub seen : LinkedPlaces → TableStore → CachedTables
-seen lists store = record {
-  section = lists.places.section;
-  tables = full_tables lists.places.memoized store.tables.items;
-  permanent = store.permanent;
-}
-
-pub record AreStored (lists : LinkedPlaces) (store : TableStore) : Type 0 where
-  pub permanent : AreCached lists.places.section
-      (full_tables lists.places.memoized store.tables.items)
-      store.permanent store.budget store.numbers
-  pub readable : All (IsReadable lists) store.tables.items
-
--- A table may be cached: it is parsed from the section, and no cached table has its format and
--- offset.
-pub record IsNew (lists : LinkedPlaces) (store : TableStore) (table : SharedTable) : Type 0 where
-  pub readable : IsReadable lists table
-  pub parsed : IsParsedFrom lists.places.section (full_table lists.places.memoized table)
-  pub fresh : AreElsewhere table.format table.offset
-      (full_tables lists.places.memoized store.tables.items)
+-- The table of a unit is cached at this index only.
+pub record IsIndexOf (cached : CachedTables) (unit : UnitHeader) (number : ℕ) : Type 0 where
+  pub table : Table
+  pub found : slice_get cached.tables number ≡ Some table
+  pub at : IsAt unit.format unit.abbreviations table
+  pub parsed : IsParsedFrom cached.section table
+  pub only : (other : ℕ) (same : Table) → slice_get cached.tables other ≡ Some same
+      → IsAt unit.format unit.abbreviations same → number ≡ other
 
 -- The table at an offset is parsed with a budget of `budget` declarations and added at this index.
 -- `left` is the rest of that budget.
 pub record IsAdded (format : Format) (offset budget left : ℕ) (old new : CachedTables) (number : ℕ)
     : Type 0 where
   pub table : Table
+  pub within : table.section ≡ old.section
   pub at : IsAt format offset table
   pub read : in_section sections.DebugAbbrev (declarations_of budget old.section offset)
       ≡ Ok table.declarations

@@ -1,20 +1,19 @@
-use Rattle.std.proofs.Common.{◌<◌, length, subst, arith}
-use Rattle.std.proofs.Common.{List, Option, ℕ}
+use Rattle.abbreviation_memo.proofs.MapLaws.{entries-put, entries-same}
 use Rattle.dwarf_units.specs.Private.Links.{IsLink}
-use Rattle.dwarf_units.proofs.LinkLaws.{linked-push}
 use Rattle.dwarf_units.proofs.linked_lists.link_all.Goals as goal
 
-pub loop-links-preserved : goal.loop-links-preserved
-loop-links-preserved c =
-    let links = c.loop-links.links.items in
-    let lt : length links < length c.args.lists.now.memoized =
-    omega (
-      arith,
-      c.len.ensures,
-      c.len-in-loop-links.ensures.value,
-      c.loop-links-test.true,
-    ) in
-    linked-push c.args.lists.now.memoized links c.push.new.self.items c.link_of.result
-    c.loop-links.invariant lt
-    (subst (λ (l : List (Option ℕ)). IsLink c.args.lists.now.memoized (length l) c.link_of.result)
-    c.deref.ensures.value c.link_of.ensures) c.in_ok-push.ensures.items
+pub link_of-requires-clause-valid : goal.link_of-requires-clause-valid
+link_of-requires-clause-valid c =
+    rw c.section.ensures (c.places-places.ensures c.loop-index.index 0 c.loop-index-test.true)
+
+pub link_of-requires-clause-links : goal.link_of-requires-clause-links
+link_of-requires-clause-links c = rw c.section.ensures c.loop-index.invariant
+
+pub returns-in_err-insert : goal.returns-in_err-insert
+returns-in_err-insert c = entries-same (IsLink c.args.lists.now) c.loop-index.links
+    c.insert.new.self c.in_err-insert.ensures.err c.loop-index.invariant
+
+pub loop-index-preserved : goal.loop-index-preserved
+loop-index-preserved c = entries-put (IsLink c.args.lists.now) c.loop-index.links
+    c.insert.new.self _ c.in_ok-link.link c.in_ok-insert.ensures.updates.0
+    (rw c.section.ensures at c.in_ok-link.ensures.link) c.loop-index.invariant

@@ -1,15 +1,23 @@
-use Rattle.std.proofs.Common.{◌<◌, length, sym, ◌∙◌}
-use Rattle.std.specs.Prelude.{None}
-use Rattle.std.proofs.lemmas.Option.{slice_get-get_or}
-use Rattle.dwarf_units.proofs.LinkLaws.{link-next}
+use Rattle.std.proofs.Common.{sym, ◌∙◌}
+use Rattle.dwarf_units.proofs.LinkLaws.{link-next, link-start}
 use Rattle.dwarf_units.proofs.linked_lists.link_of.Goals as goal
 
-pub returns : goal.returns
-returns c =
-    let links = c.args.links.now in
-    let next = c.in_ok-next.field-0 in
-    let before : next < length links = c.in_ok-next.ensures.before in
-    link-next c.args.lists.now.memoized (length links) next c.attribute.result.now _ _
-    c.attribute.ensures (sym c.is_empty_unused.ensures ∙ c.if-not-is_empty_unused.false)
-    (sym c.in_ok-next.ensures.list) before
-    (c.requires.linked.each next _ (slice_get-get_or links next None before))
+pub returns-in_default-clause-link : goal.returns-in_default-clause-link
+returns-in_default-clause-link c = link-start c.args.section.now c.args.place c.in_ok-start.start
+    c.requires.valid c.in_ok-start.ensures.start
+
+pub returns-then-not-is_empty_unused-clause-link : goal.returns-then-not-is_empty_unused-clause-link
+returns-then-not-is_empty_unused-clause-link c = link-start c.args.section.now c.args.place
+    c.in_ok-start.start c.requires.valid c.in_ok-start.ensures.start
+
+pub returns-in-Some-get-clause-link : goal.returns-in-Some-get-clause-link
+returns-in-Some-get-clause-link c =
+    link-next c.args.section.now c.args.place c.in_ok-start.start.rest c.in-Some.attribute
+    c.in-Some-get.link.now c.requires.valid (rw c.in-Some.is at c.in_ok-start.ensures.start)
+    (sym c.is_empty_unused.ensures ∙ c.if-not-is_empty_unused.false)
+    (c.requires.links c.in_ok-start.start.rest c.in-Some-get.link.now
+    (sym c.in-Some-get.ensures.value))
+
+pub returns-in-None-clause-link : goal.returns-in-None-clause-link
+returns-in-None-clause-link c = link-start c.args.section.now c.args.place c.in_ok-start.start
+    c.requires.valid c.in_ok-start.ensures.start

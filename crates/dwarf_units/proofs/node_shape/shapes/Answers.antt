@@ -1,13 +1,24 @@
-use Rattle.std.proofs.Common.{◌+◌, List, Option, subst, sym}
-use Rattle.dwarf_units.specs.declared.node_shape.NodeShape.{NodeShape}
-use Rattle.dwarf_units.specs.Private.NodeShapes.{AreShapes}
+use Rattle.std.proofs.Common.{◌≡◌, ◌+◌, ℕ, List, length, ap, ◌∙◌, subst, arith}
+use Rattle.std.specs.Prelude.{min}
+use Rattle.abbreviation_memo.specs.Declarations.{SharedDeclaration, full_declarations}
+use Rattle.dwarf_units.specs.Private.NodeShapes.{AreShapes, shape_count}
 use Rattle.dwarf_units.proofs.NodeShapes.{shapes-more}
 use Rattle.dwarf_units.proofs.node_shape.shapes.Goals as goal
 
 pub loop-code-preserved : goal.loop-code-preserved
-loop-code-preserved c format are =
-    subst (λ (shapes : List (Option NodeShape)). AreShapes format c.args.table.now
-    (c.loop-code.code + 1) shapes) (sym c.in_ok-push.ensures.items)
-    (shapes-more format c.args.table.now c.loop-code.code c.loop-code.shapes.items
-    c.shape_of_code.result (c.loop-code.invariant format are)
-    (λ memoized shared. c.shape_of_code.ensures memoized format shared are))
+loop-code-preserved c section format shared are =
+    let table = full_declarations section c.args.table.now in
+    rw c.in_ok-push.ensures.items
+    (shapes-more format table c.loop-code.code c.loop-code.shapes.items c.shape_of_code.result
+    (c.loop-code.invariant section format shared are)
+    (c.shape_of_code.ensures section format shared are))
+
+pub returns : goal.returns
+returns c section format shared are =
+    let count : c.min-code-end.result + 1 ≡ shape_count c.args.table.now =
+    ap (λ (k : ℕ). k + 1) (c.min-code-end.ensures
+    ∙ ap (λ (ds : List SharedDeclaration). min (length ds) 127) c.declarations.ensures) in
+    let all : c.loop-code.code ≡ shape_count c.args.table.now =
+    omega (arith, c.loop-code-test.false, c.loop-code.auto.code-end, count) in
+    subst (λ (n : ℕ). AreShapes format (full_declarations section c.args.table.now) n
+    c.loop-code.shapes.items) all (c.loop-code.invariant section format shared are)

@@ -1,8 +1,13 @@
 use Rattle.std.proofs.Common.{◌∙◌}
+use Rattle.abbreviation_memo.specs.Declarations.{AreShared}
 use Rattle.dwarf_units.proofs.cached_table.CachedTable.read.Goals as goal
 
 pub invariant_of-result : goal.invariant_of-result
-invariant_of-result c = (
-  c.in_ok-runs.ensures,
-  c.in_ok-shapes.ensures c.args.format (c.deref.ensures.value ∙ c.in_ok-runs.ensures),
-)
+invariant_of-result c =
+    let shared : AreShared c.section-section.result.now c.in_ok-table.table =
+    rw c.section-section.ensures (c.in_ok-table.ensures.shared) in (
+      shared,
+      c.in_ok-runs.ensures,
+      c.in_ok-shapes.ensures c.section-section.result.now c.args.format shared
+          (c.deref.ensures.value ∙ c.in_ok-runs.ensures),
+    )

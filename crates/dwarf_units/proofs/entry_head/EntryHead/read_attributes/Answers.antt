@@ -17,7 +17,7 @@ returns-in_err-read c =
     (rw (← c.self.view_is)
     (next-fault _ _ _ c.in_err-read.field-0.0 _
     (own-rest c.args.keep inside.format list.own
-    (rest_attributes inside.lists.now.places.memoized list.rest) c.args.cursor.now.bytes
+    (rest_attributes inside.lists.now list.rest) c.args.cursor.now.bytes
     c.args.cursor.now.place within)
     (rw (c.self.invariant.0, c.clear.ensures) at c.in_err-read.ensures)))
 
@@ -30,11 +30,11 @@ returns c =
     let shared = c.rest-rest.ensures ∙ ap (λ l. l.rest) c.list.ensures in
     rw (← c.self.view_is)
     (last-read c.read.new.found c.read-2.new.found (stored_attributes_at c.args.keep inside.format
-    (rest_attributes inside.lists.now.places.memoized list.rest)) _ c.args.cursor.now
+    (rest_attributes inside.lists.now list.rest)) _ c.args.cursor.now
     c.read.new.cursor c.read-2.new.cursor c.read-2.result c.in_ok-read.ensures.1
     (next-read _ c.read.new.found _ _ c.read.new.cursor.place _
     (own-rest c.args.keep inside.format list.own
-    (rest_attributes inside.lists.now.places.memoized list.rest) c.args.cursor.now.bytes
+    (rest_attributes inside.lists.now list.rest) c.args.cursor.now.bytes
     c.args.cursor.now.place within)
     (rw (c.self.invariant.0, c.clear.ensures) at c.in_ok-read.ensures.0))
     (rw shared at c.read-2.ensures))

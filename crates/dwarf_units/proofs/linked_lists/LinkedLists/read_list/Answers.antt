@@ -1,0 +1,51 @@
+use Rattle.std.proofs.Common.{◌≡◌, ℕ, ◌≤◌, List, length, refl, ap, subst, ◌∙◌, arith}
+use Rattle.std.proofs.lemmas.Result.{err_from_is_err_and}
+use Rattle.dwarf_units.specs.Private.Used.{used_after}
+use Rattle.dwarf_units.proofs.LinkLaws.{link-smaller, link-valid}
+use Rattle.dwarf_units.proofs.StoredReads.{next-fault, next-read, stored-end, stored-left}
+use Rattle.dwarf_units.proofs.linked_lists.LinkedLists.read_list.Goals as goal
+
+pub returns-in_err-read_one : goal.returns-in_err-read_one
+returns-in_err-read_one c =
+    let p = err_from_is_err_and c.from_residual-in_err-read_one.result
+    c.from_residual-in_err-read_one.ensures.1 in
+    let loop = c.loop-link in
+    rw (p.1, p.2)
+    (next-fault loop.found _ _ c.in_err-read_one.field-0.0 _
+    (stored-left c.args.keep c.args.format c.in-Some.attribute _ _ c.args.cursor.now.bytes
+    loop.found loop.cursor.place _ refl (rw c.in-Some.is at loop.invariant.stored))
+    (rw loop.invariant.bytes at c.in_err-read_one.ensures))
+
+pub loop-link-smaller : goal.loop-link-smaller
+loop-link-smaller c =
+    rw c.in-Some.is (link-smaller c.args.self.now c.loop-link.link.rest c.in_ok-link-2.link
+    (rw c.in-Some.is at c.loop-link.invariant.valid) c.in_ok-link-2.ensures.link)
+
+pub loop-link-preserved : goal.loop-link-preserved
+loop-link-preserved c =
+    let loop = c.loop-link in
+    let same : c.read_one.new.cursor.bytes ≡ c.args.cursor.now.bytes =
+    c.in_ok-read_one.ensures.1 ∙ loop.invariant.bytes in
+    let within : c.read_one.new.cursor.place ≤ length c.args.cursor.now.bytes =
+    subst (λ (b : List ℕ). c.read_one.new.cursor.place ≤ length b) same
+    (omega (arith, c.place-in-Some.ensures.place, c.place-in-Some.ensures.within)) in
+    record {
+      valid = link-valid c.args.self.now loop.link.rest c.in_ok-link-2.link
+          c.in_ok-link-2.ensures.link;
+      bytes = same;
+      stored =
+          ap (used_after c.read_one.new.found) (c.in_ok-link-2.ensures.link.stored c.args.keep
+          c.args.format c.args.cursor.now.bytes c.read_one.new.cursor.place within)
+          ∙ next-read loop.found c.read_one.new.found _ _ c.read_one.new.cursor.place _
+          (stored-left c.args.keep c.args.format c.in-Some.attribute _ _ c.args.cursor.now.bytes
+          loop.found loop.cursor.place _ refl (rw c.in-Some.is at loop.invariant.stored))
+          (rw loop.invariant.bytes at c.in_ok-read_one.ensures.0);
+    }
+
+pub returns : goal.returns
+returns c =
+    let loop = c.loop-link in (
+      stored-end c.args.keep c.args.format _ c.args.cursor.now.bytes loop.found loop.cursor.place _
+          (rw c.in_default.is refl) loop.invariant.stored,
+      loop.invariant.bytes,
+    )

@@ -1,0 +1,42 @@
+use Rattle.std.proofs.Common.{◌≡◌, List, ap, sym, ◌∙◌, subst}
+use Rattle.std.specs.Prelude.{Some, slice_get, option_copied}
+use Rattle.std.proofs.lemmas.Option.{none-some, same_Some}
+use Rattle.dwarf_forms.proofs.Codes.{got}
+use Rattle.dwarf_units.specs.Private.AbbreviationTables.{Table}
+use Rattle.dwarf_units.specs.Private.Tables.{CachedTables, IsAt}
+use Rattle.dwarf_units.proofs.IndexLaws.{index-some, index-stays}
+use Rattle.dwarf_units.proofs.table_store.TableStore.is_index.Goals as goal
+
+pub returns-in_default-clause-none : goal.returns-in_default-clause-none
+returns-in_default-clause-none c is =
+    absurd (none-some is.0 (sym (ap (λ r. option_copied r) c.in_default.is)
+    ∙ (got c.deref.result.now c.args.number c.get.result c.get.ensures.lookup.0
+    c.get.ensures.lookup.1
+    ∙ (ap (λ (ts : List Table). slice_get ts c.args.number) c.deref.ensures.value
+    ∙ (ap (λ (k : CachedTables). slice_get k.tables c.args.number) c.self.view_is ∙ is.1)))))
+
+there : (c : goal.After-is_of) → slice_get c.self.inside.tables.items c.args.number
+    ≡ Some c.in-Some.table.now
+there c =
+    ap (λ (ts : List Table). slice_get ts c.args.number) (sym c.deref.ensures.value)
+    ∙ (sym (got c.deref.result.now c.args.number c.get.result c.get.ensures.lookup.0
+    c.get.ensures.lookup.1) ∙ ap (λ r. option_copied r) c.in-Some.is)
+
+pub returns-clause-some : goal.returns-clause-some
+returns-clause-some c is =
+    rw (← c.self.view_is) (index-some c.self.inside.section.now c.self.inside.tables.items
+    c.self.inside.permanent c.self.inside.budget c.args.number c.self.inside.numbers
+    c.args.unit.now c.self.invariant (c.in-Some.table.now, there c, c.is_of.ensures.0 is))
+
+pub returns-clause-stays : goal.returns-clause-stays
+returns-clause-stays c is =
+    rw (← c.self.view_is) (index-stays c.self.inside.section.now c.self.inside.tables.items
+    c.self.inside.permanent c.self.inside.budget c.args.number c.self.inside.numbers
+    c.args.unit.now c.self.invariant (c.in-Some.table.now, there c, c.is_of.ensures.0 is))
+
+pub returns-clause-none : goal.returns-clause-none
+returns-clause-none c is =
+    let same : is.0 ≡ c.in-Some.table.now = same_Some is.0 c.in-Some.table.now (sym is.1
+    ∙ (ap (λ (k : CachedTables). slice_get k.tables c.args.number) (sym c.self.view_is)
+    ∙ there c)) in
+    c.is_of.ensures.1 (subst (IsAt c.args.unit.now.format c.args.unit.now.abbreviations) same is.2)
