@@ -36,7 +36,7 @@ pub(crate) fn all_entries(
 {
     let mut units = Vec::new(alloc);
     for header in headers {
-        let number = tables.number_of(alloc, header)?;
+        let number = tables.number_of(alloc, header, 0)?;
         let table = tables.table(number);
         let unit = entries(alloc, sections.debug_info, *header, &table, bitmap)?;
         units.push(unit)?;

@@ -28,7 +28,7 @@ fn is_read(
     let Some(header) = headers.first() else {
         panic!(rt; "no unit");
     };
-    let Ok(number) = tables.number_of(rt.alloc(), header) else {
+    let Ok(number) = tables.number_of(rt.alloc(), header, 0) else {
         panic!(rt; "no table");
     };
     is_entry(rt, &tables.table(number), &info, name, high_pc, end);

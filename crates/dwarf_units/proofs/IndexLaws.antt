@@ -16,12 +16,9 @@ use Rattle.dwarf_units.specs.Private.Numbers.{number_at}
 use Rattle.dwarf_units.specs.Private.Tables.{AreCached, AreElsewhere, CachedTables}
 use Rattle.dwarf_units.specs.Private.Tables.{IsCachedOrTooLarge, IsIndexOf, IsNumberOf}
 use Rattle.dwarf_units.specs.Private.Tables.{IsTableAt, size_limit, table_read}
+use Rattle.dwarf_units.proofs.MoreTables.{cached}
 use Rattle.dwarf_units.proofs.TableLaws.{cached-parsed, parsed-again, parsed-too-long}
 use Rattle.dwarf_units.proofs.TableLaws.{table-few}
-
-abbrev cached : List ℕ → List Table → ℕ → CachedTables
-cached section tables permanent =
-    record { section = section; tables = tables; permanent = permanent }
 
 -- The map has the index of a table.
 number-is : (section : List ℕ) (tables : List Table) (permanent budget : ℕ) (numbers : Numbers)

@@ -1,31 +1,22 @@
 -- The permanently cached tables, as one more table is added.
-use Rattle.std.proofs.Common.{◌≡◌, ◌⊎◌, inl, inr, Bool, get_or, ℕ, suc, zero, ◌+◌, ◌<◌, ◌≤◌, List}
+use Rattle.std.proofs.Common.{◌≡◌, ◌⊎◌, inl, inr, Bool, get_or, ℕ, ◌+◌, ◌<◌, ◌≤◌, List}
 use Rattle.std.proofs.Common.{[], ◌∷◌, ◌++◌, length, take, length-take-le, true, false, refl, ap}
-use Rattle.std.proofs.Common.{sym, ◌∙◌, subst, arith}
+use Rattle.std.proofs.Common.{sym, ◌∙◌, subst, arith, append-nil}
 use Rattle.std.specs.Prelude.{Some, slice_get, sum_by, nat_le, if◌then◌else◌}
 use Rattle.std.specs.List.{All}
+use Rattle.std.proofs.Math.Seq.{take-append_seam, take-length}
 use Rattle.std.proofs.lemmas.Grind.{common_steps}
 use Rattle.std.proofs.lemmas.List.{get_or-take, take_more, length-take}
-use Rattle.std.proofs.lemmas.List.Elements.{All-append, All-cons, All-nil}
+use Rattle.std.proofs.lemmas.List.Elements.{All-push}
 use Rattle.std.proofs.lemmas.List.Sums.{sum_by_push, sum_by-append}
+use Rattle.dwarf_forms.proofs.Elements.{at-front}
 use Rattle.dwarf_units.specs.declared.unit_headers.UnitHeader.{UnitHeader}
 use Rattle.dwarf_units.specs.Private.AbbreviationTables.{Table, table_size}
 use Rattle.dwarf_units.specs.Private.Tables.{IsAdded, IsParsedFrom, IsAt, CachedTables}
 use Rattle.dwarf_units.specs.Private.Tables.{IsCachedOrTooLarge, StaysCached, size_limit}
 use Rattle.dwarf_units.specs.Private.Tables.{with_table}
 use Rattle.dwarf_units.specs.Units.{declarations_limit}
-use Rattle.dwarf_units.proofs.StoredLaws.{take_all, take-front}
 use Rattle.dwarf_units.proofs.TableLaws.{parsed-at, last-at}
-
-append-none : (xs : List Table) → xs ≡ xs ++ []
-append-none [] = refl
-append-none (x ∷ xs) = ap (λ (ys : List Table). x ∷ ys) (append-none xs)
-
-got-before : (xs ys : List Table) (i : ℕ) (t : Table) → slice_get xs i ≡ Some t
-    → slice_get (xs ++ ys) i ≡ Some t
-got-before [] ys i t at = cc
-got-before (x ∷ xs) ys zero t at = at
-got-before (x ∷ xs) ys (suc i) t at = got-before xs ys i t at
 
 -- What holds for the table of a unit still holds after more tables are cached.
 pub stays-on : (old new : CachedTables) (unit : UnitHeader) → StaysCached old new
@@ -42,7 +33,7 @@ stays-on old new unit grows same (table, at, parsed, is) =
     by_case (inl there) = inl (
       there.0,
       ap (λ (ts : List Table). slice_get ts there.0) grows.1
-          ∙ got-before (take old.permanent old.tables) grows.0 there.0 table there.1,
+          ∙ at-front (take old.permanent old.tables) grows.0 there.0 table there.1,
     )
     by_case (inr large) =
         let sum : sum_by table_size (take new.permanent new.tables)
@@ -79,7 +70,7 @@ stays-with old unit table within at parsed =
         IsCachedOrTooLarge new unit × StaysCached old new)
     by_test before len is true fits =
         let tables : List Table = before ++ table ∷ [] in
-        let whole : take (length tables) tables ≡ tables = take_all tables in (
+        let whole : take (length tables) tables ≡ tables = take-length tables in (
           (
             table,
             at,
@@ -95,13 +86,13 @@ stays-with old unit table within at parsed =
     by_test before len is false past =
         let tables : List Table = before ++ table ∷ [] in
         let front : take old.permanent tables ≡ before =
-        subst (λ (k : ℕ). take k tables ≡ before) len (take-front before (table ∷ [])) in
+        subst (λ (k : ℕ). take k tables ≡ before) len (take-append_seam before (table ∷ [])) in
         let sum : sum_by table_size (take old.permanent tables) ≡ sum_by table_size before =
         ap (λ (ts : List Table). sum_by table_size ts) front in
         let large : size_limit old.section < sum_by table_size tables =
         gt (sum_by table_size tables) (size_limit old.section) past in (
           (table, at, parsed, inr (omega (arith, sum, large, sum_by_push table_size before table))),
-          ([], front ∙ (is ∙ append-none (take old.permanent old.tables))),
+          ([], front ∙ (is ∙ sym (append-nil (take old.permanent old.tables)))),
         )
 
 -- The same for a table that was parsed for the unit.
@@ -125,10 +116,8 @@ pub stays-next : (old new : CachedTables) (units : List UnitHeader) (index : ℕ
 stays-next old new units index d grows same within here all =
     subst (λ (us : List UnitHeader). All (IsCachedOrTooLarge new) us)
     (sym (take_more units index d within))
-    (All-append (IsCachedOrTooLarge new) (take index units) (get_or units index d ∷ [])
-    (λ k u lt. stays-on old new (get_or (take index units) k u) grows same (all k u lt))
-    (All-cons (IsCachedOrTooLarge new) (get_or units index d) [] here
-    (All-nil (IsCachedOrTooLarge new))))
+    (All-push (IsCachedOrTooLarge new) (take index units) (get_or units index d)
+    (λ k u lt. stays-on old new (get_or (take index units) k u) grows same (all k u lt)) here)
 
 pub stays-end : (tables : CachedTables) (units : List UnitHeader) (index : ℕ) → length units ≤ index
     → All (IsCachedOrTooLarge tables) (take index units) → All (IsCachedOrTooLarge tables) units

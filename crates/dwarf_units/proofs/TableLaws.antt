@@ -1,12 +1,11 @@
 -- The iterations of the loop over the tables of the units.
 use Rattle.std.proofs.Common.{◌≡◌, ℕ, ◌+◌, ◌-◌, ◌<◌, ◌≤◌, ◌⊎◌, inl, inr, List, [], ◌∷◌, ◌++◌}
-use Rattle.std.proofs.Common.{length, length-append, take, drop, get_or, refl, ap, sym, ◌∙◌, subst}
+use Rattle.std.proofs.Common.{length, take, drop, get_or, refl, ap, sym, ◌∙◌, subst}
 use Rattle.std.proofs.Common.{arith, drop-cons, add-one}
 use Rattle.std.specs.Prelude.{Some, Result, Ok, Err, slice_get, sum_by}
 use Rattle.std.specs.List.{All}
-use Rattle.std.proofs.Math.Seq.{get_or-append_seam}
-use Rattle.std.proofs.lemmas.List.Elements.{All-take, All-append, All-cons, All-nil}
-use Rattle.std.proofs.lemmas.Option.{slice_get-get_or, slice_get_within, get_or_from_slice_get}
+use Rattle.std.proofs.lemmas.List.Elements.{All-push, All-take}
+use Rattle.std.proofs.lemmas.Option.{slice_get_within, get_or_from_slice_get}
 use Rattle.std.proofs.lemmas.List.Sums.{sum_by-append}
 use Rattle.std.proofs.lemmas.List.{drop_all}
 use Rattle.dwarf_bytes.specs.declared.fault.Section.{Section}
@@ -20,6 +19,7 @@ use Rattle.dwarf_bytes.proofs.Numbers.Moves.{same-ok}
 use Rattle.dwarf_forms.specs.Declarations.{Declaration}
 use Rattle.dwarf_bytes.specs.Bind.{◌>>=◌}
 use Rattle.dwarf_forms.specs.Tables.{table_at, declarations_of}
+use Rattle.dwarf_forms.proofs.Elements.{at-end}
 use Rattle.dwarf_forms.proofs.EncodedTables.{table-encoded, table_read}
 use Rattle.dwarf_units.specs.declared.unit_headers.UnitHeader.{UnitHeader}
 use Rattle.dwarf_units.specs.Private.AbbreviationTables.{Table}
@@ -234,23 +234,17 @@ pub parsed-before : (section : List ℕ) (tables after : List Table) (permanent 
     → All (IsParsedFrom section) tables → after ≡ take permanent tables
     → All (IsParsedFrom section) after
 parsed-before section tables after permanent all is =
-    subst (λ (ts : List Table). All (IsParsedFrom section) ts) (sym is)
+    subst (All (IsParsedFrom section)) (sym is)
     (All-take (IsParsedFrom section) permanent tables all)
 
 pub parsed-after : (section : List ℕ) (tables after : List Table) (permanent : ℕ) (table : Table)
-    → All (IsParsedFrom section) tables → IsParsedFrom section table → after ≡ take permanent tables
-    ++ table
-    ∷ [] → All (IsParsedFrom section) after
+    → All (IsParsedFrom section) tables → IsParsedFrom section table
+    → after ≡ take permanent tables ++ table ∷ [] → All (IsParsedFrom section) after
 parsed-after section tables after permanent table all one is =
-    subst (λ (ts : List Table). All (IsParsedFrom section) ts) (sym is)
-    (All-append (IsParsedFrom section) (take permanent tables) (table ∷ [])
-    (All-take (IsParsedFrom section) permanent tables all)
-    (All-cons (IsParsedFrom section) table [] one (All-nil (IsParsedFrom section))))
+    subst (All (IsParsedFrom section)) (sym is)
+    (All-push (IsParsedFrom section) (take permanent tables) table
+    (All-take (IsParsedFrom section) permanent tables all) one)
 
 pub last-at : (before after : List Table) (number : ℕ) (table : Table)
     → after ≡ before ++ table ∷ [] → number ≡ length before → slice_get after number ≡ Some table
-last-at before after number table is at =
-    rw (is, at)
-    (slice_get-get_or (before ++ table ∷ []) (length before) table
-    (omega (arith, length-append before (table ∷ [])))
-    ∙ ap (λ (t : Table). Some t) (get_or-append_seam before table [] table))
+last-at before after number table is at = rw is (at-end before table number at)

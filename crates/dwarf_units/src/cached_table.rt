@@ -74,7 +74,7 @@ impl<'a> CachedTable<'a> {
         ensures section { lists.new ≡ lists.old }
     {
         let section = lists.section();
-        let table = lists.table(alloc, offset, left)?;
+        let table = lists.table(offset, left)?;
         let runs = own_runs(alloc, format, &table)?;
         let shapes = shapes(alloc, &table, &runs)?;
         Ok(CachedTable {

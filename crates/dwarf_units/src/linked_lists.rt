@@ -68,7 +68,6 @@ impl<'a> LinkedLists<'a> {
     /// it memoizes.
     pub(crate) fn table(
         &mut self,
-        alloc: Global,
         offset: u64,
         left: &mut u64,
     ) -> Result<AbbreviationTable, LoadFault>
@@ -78,9 +77,9 @@ impl<'a> LinkedLists<'a> {
         ensures shared { IfOk result (AreShared self.old) }
         ensures section { self.new ≡ self.old }
     {
-        let table = AbbreviationTable::read(alloc, &mut self.lists, offset, left)?;
+        let table = AbbreviationTable::read(self.alloc, &mut self.lists, offset, left)?;
         // The lists are valid, so only an allocation can fail.
-        if link_all(alloc, &self.lists, self.linked, &mut self.links).is_err() {
+        if link_all(self.alloc, &self.lists, self.linked, &mut self.links).is_err() {
             return Err(AllocError.into());
         }
         self.linked = self.lists.places().len();

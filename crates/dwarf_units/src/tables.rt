@@ -126,40 +126,20 @@ impl<'a> Tables<'a> {
         Some(len)
     }
 
-    /// Returns the index of the table of a unit, which is valid until the next call. A table that
-    /// is not cached is re-parsed and replaces the previous temporary table.
-    pub fn number_of(&mut self, alloc: Global, unit: &UnitHeader) -> Result<usize, LoadFault>
-        ensures ok { IfOk result (IsNumberOf self.old.section unit.now self.new.tables) }
-        ensures err { Refuses result
-            (table_read declarations_limit self.old.section unit.now) }
-        ensures section { self.new.section ≡ self.old.section }
-        ensures memoized { (number : ℕ) (table : Table) → slice_get self.old.tables number
-            ≡ Some table
-            → IsAt unit.now.format unit.now.abbreviations table
-            → (result ≡ Ok number) × (self.new ≡ self.old) }
-        ensures added { AreElsewhere unit.now.format unit.now.abbreviations self.old.tables
-            → IfOk result (λ number. (table : Table)
-            × (slice_get self.new.tables number ≡ Some table)
-            × (self.new ≡ with_table self.old table)) }
-        ensures limit { IsWithinLimit self.new }
-    {
-        self.number_by(alloc, unit, 0)
-    }
-
-    /// Returns the index of the table of a unit, like `number_of`, but tries the index `guess`
-    /// first.
-    pub fn number_by(
+    /// Returns the index of the table of a unit, which is valid until the next call. Tries the
+    /// index `guess` first. A table that is not cached is re-parsed and replaces the previous
+    /// temporary table.
+    pub fn number_of(
         &mut self,
         alloc: Global,
         unit: &UnitHeader,
         guess: usize,
     ) -> Result<usize, LoadFault>
         ensures ok { IfOk result (IsNumberOf self.old.section unit.now self.new.tables) }
-        ensures err { Refuses result
-            (table_read declarations_limit self.old.section unit.now) }
+        ensures err { Refuses result (table_read declarations_limit self.old.section unit.now) }
         ensures section { self.new.section ≡ self.old.section }
-        ensures memoized { (number : ℕ) (table : Table) → slice_get self.old.tables number
-            ≡ Some table
+        ensures memoized { (number : ℕ) (table : Table)
+            → slice_get self.old.tables number ≡ Some table
             → IsAt unit.now.format unit.now.abbreviations table
             → (result ≡ Ok number) × (self.new ≡ self.old) }
         ensures added { AreElsewhere unit.now.format unit.now.abbreviations self.old.tables

@@ -81,7 +81,7 @@ impl<'a> EntryReader<'a> {
             → len_at header.now.format table (take header.now.«end» self.old.info.now) offset
             ≡ Ok self.new.len) }
     {
-        let number = match self.tables.number_by(self.alloc, header, self.number) {
+        let number = match self.tables.number_of(self.alloc, header, self.number) {
             Ok(number) => number,
             Err(fault) => return Err(fault.cause),
         };

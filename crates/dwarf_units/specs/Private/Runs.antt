@@ -1,8 +1,7 @@
 -- The attributes of a declaration in runs: attributes of a fixed size, and the attribute after
 -- them.
-use Rattle.std.specs.Prelude.{◌≡◌, ℕ, List, [], ◌∷◌, ◌++◌, length, ◌==◌, map, Option, Some, None, Result}
-use Rattle.std.specs.Prelude.{Ok}
-use Rattle.std.specs.Prelude.{Bool, true, false, ◌&&◌, if◌then◌else◌}
+use Rattle.std.specs.Prelude.{◌≡◌, ℕ, List, [], ◌∷◌, ◌++◌, length, ◌==◌, map, Option, Some, None}
+use Rattle.std.specs.Prelude.{Result, Ok, Bool, true, false, ◌&&◌, if◌then◌else◌}
 use Rattle.std.specs.Option.{option_map_or, option_to_list}
 use Rattle.dwarf_bytes.specs.declared.fault.Cause.{Cause}
 use Rattle.dwarf_bytes.specs.declared.format.Format.{Format}

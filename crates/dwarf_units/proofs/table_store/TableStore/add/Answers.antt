@@ -1,6 +1,6 @@
-use Rattle.std.proofs.Common.{◌∙◌, take}
-use Rattle.dwarf_units.proofs.MoreTables.{cached-permanent, seen-permanent, seen-temporary}
-use Rattle.dwarf_units.proofs.StoredLaws.{cached-temporary, cached-truncated, sets-as}
+use Rattle.std.proofs.Common.{inl, inr, refl, ◌∙◌, take}
+use Rattle.dwarf_units.proofs.MoreTables.{cached-permanent, cached-temporary, contents-added}
+use Rattle.dwarf_units.proofs.StoredLaws.{cached-truncated, sets-as}
 use Rattle.dwarf_units.proofs.TableLaws.{last-at}
 use Rattle.dwarf_units.proofs.table_store.TableStore.add.Goals as goal
 
@@ -47,10 +47,13 @@ pub returns-then-size-self-clause-added : goal.returns-then-size-self-clause-add
 returns-then-size-self-clause-added c =
     let inside = c.self.inside in
     let after = c.truncate_and_push.new.tables.items in (
-      seen-permanent c.args.self.now inside.section.now inside.tables.items after inside.permanent
+      contents-added c.args.self.now inside.section.now inside.tables.items after inside.permanent
           inside.budget c.len-self-inside.result c.size-size.result inside.numbers c.args.table
-          c.self.view_is c.in_ok-number.ensures.ok.0 c.size-size.ensures c.if-size-self.true
-          (c.len-self-inside.ensures ∙ c.truncate_and_push.new.tables.ok.0) c.self.invariant,
+          c.self.view_is c.in_ok-number.ensures.ok.0 c.size-size.ensures c.self.invariant (inl (
+            c.if-size-self.true,
+            c.len-self-inside.ensures
+                ∙ c.truncate_and_push.new.tables.ok.0,
+          )),
       last-at (take inside.permanent inside.tables.items) after c.in_ok-number.number c.args.table
           c.in_ok-number.ensures.ok.0 c.in_ok-number.ensures.ok.1,
     )
@@ -59,9 +62,10 @@ pub returns-else-size-self-clause-added : goal.returns-else-size-self-clause-add
 returns-else-size-self-clause-added c =
     let inside = c.self.inside in
     let after = c.truncate_and_push.new.tables.items in (
-      seen-temporary c.args.self.now inside.section.now inside.tables.items after inside.permanent
-          inside.budget c.size-size.result inside.numbers c.args.table c.self.view_is
-          c.in_ok-number.ensures.ok.0 c.size-size.ensures c.if-size-self.false c.self.invariant,
+      contents-added c.args.self.now inside.section.now inside.tables.items after inside.permanent
+          inside.budget inside.permanent c.size-size.result inside.numbers c.args.table
+          c.self.view_is c.in_ok-number.ensures.ok.0 c.size-size.ensures c.self.invariant
+          (inr (c.if-size-self.false, refl)),
       last-at (take inside.permanent inside.tables.items) after c.in_ok-number.number c.args.table
           c.in_ok-number.ensures.ok.0 c.in_ok-number.ensures.ok.1,
     )
