@@ -136,7 +136,8 @@ pub checked-one : (format : Format) (n : ℕ) (used : List UsedPosition) (s : At
 checked-one format n used s keep bytes first le = rw (block-there n bytes first le).1 refl
 
 pub unchecked-one : (format : Format) (n : ℕ) (used : List UsedPosition)
-    (s : AttributeSpecification) (layout : ValueLayout) → unchecked_layout s ≡ Some layout → ReadsLast format n used s (record {
+    (s : AttributeSpecification) (layout : ValueLayout) → unchecked_layout s ≡ Some layout
+    → ReadsLast format n used s (record {
       stretch = record { len = n; used = used ++ option_to_list (used_position n s) };
       last = Unchecked layout;
     })

@@ -1,12 +1,9 @@
 //! Reading entries and null entries of a unit (DWARF 5, 2.3, 7.5.2 and 7.5.3).
 
-ghost use Rattle.std.specs.Prelude.{◌≡◌, ◌≤◌, IsSome, IfOk, IfSome};
+ghost use Rattle.std.specs.Prelude.{◌≡◌, ◌≤◌, IsSome, IfOk, option_map};
 ghost use Rattle.dwarf_bytes.specs.Refusals.{ReadsField};
-ghost use Rattle.abbreviation_memo.specs.Declarations.{full_declaration};
-ghost use Rattle.abbreviation_memo.specs.Lists.{IsListAt};
-ghost use Rattle.dwarf_units.specs.Entries.{depth_limit};
-ghost use Rattle.dwarf_units.specs.Private.Runs.{runs_of};
-ghost use Rattle.dwarf_units.specs.Private.Heads.{head_at, used_entry_at, ReturnsAndFills};
+ghost use Rattle.dwarf_units.specs.Entries.{declaration_of, depth_limit};
+ghost use Rattle.dwarf_units.specs.Private.Heads.{head_at, head_in, used_entry_at, ReturnsAndFills};
 ghost use Rattle.dwarf_units.specs.Private.StoredAttributes.{Fills};
 ghost use Rattle.dwarf_units.specs.Private.Used.{used_attributes_at};
 
@@ -49,7 +46,21 @@ impl<'a> Model for EntryHead<'a> {
         × IfSome h.declaration.now.list.rest (IsListAt h.lists.now) };
 }
 
-impl UnitTable<'_> {
+impl<'a> UnitTable<'a> {
+    /// Returns the head of the entries with a code, if the code is declared.
+    fn find(&self, code: u64) -> Option<EntryHead<'a>>
+        ensures { result
+            ≡ option_map (head_in self.now) (declaration_of self.now.declarations code) }
+    {
+        let (declaration, runs) = self.table.find(code)?;
+        Some(EntryHead {
+            format: self.table.format(),
+            declaration,
+            runs,
+            lists: self.lists,
+        })
+    }
+
     /// Reads the code of the entry at the cursor and returns its head, or `None` for a null entry.
     /// `rooted` is whether the root of the unit is before it. Fails if the code is not declared,
     /// if the entry is a second root, or if `depth` exceeds the limit.
@@ -93,27 +104,6 @@ impl UnitTable<'_> {
 }
 
 impl<'a> EntryHead<'a> {
-    pub(crate) fn new(
-        format: Format,
-        declaration: &'a AbbreviationDeclaration,
-        runs: &'a AttributeRuns,
-        lists: &'a LinkedLists<'a>,
-    ) -> EntryHead<'a>
-        requires runs { runs.now ≡ runs_of format declaration.now.list.own }
-        requires valid { IfSome declaration.now.list.rest (IsListAt lists.now) }
-        ensures { result ≡ record {
-          format = format;
-          declaration = full_declaration lists.now declaration.now;
-        } }
-    {
-        EntryHead {
-            format,
-            declaration,
-            runs,
-            lists,
-        }
-    }
-
     pub fn tag(&self) -> u64
         ensures { result ≡ self.now.declaration.tag }
     {

@@ -127,26 +127,14 @@ impl<'a> LinkedLists<'a> {
     {
         // The contract of `place` is needed: the offset is within the bytes or at their end.
         let _ = cursor.place();
-        let mut link = self.link(place)?;
+        let section = self.lists.section();
+        let mut link = link_of(self.alloc, section, &self.links, place)?;
         while let Some(attribute) = link.attribute {
             read_one(keep, format, &attribute, cursor, found)?;
             let _ = cursor.place();
-            link = self.link(link.rest)?;
+            link = link_of(self.alloc, section, &self.links, link.rest)?;
         }
         Ok(())
-    }
-
-    /// Returns the link of the list at an offset. Without a link in the map, because memory ran
-    /// out, the list is read from the offset on.
-    fn link(&self, place: usize) -> Result<ListStart, Cause>
-        requires { IsListAt self.now place }
-        ensures ok { IsOk result }
-        ensures link { IfOk result (IsLink self.now place) }
-    {
-        match self.links.get(&place) {
-            Some(link) => Ok(*link),
-            None => link_of(self.alloc, self.lists.section(), &self.links, place),
-        }
     }
 }
 
@@ -169,8 +157,8 @@ fn link_all(
     Ok(())
 }
 
-/// Returns the link of the list at an offset. The list after an attribute that is skipped must
-/// have its link.
+/// Returns the link of the list at an offset. If `links` does not have it, the list is read from
+/// the offset on.
 fn link_of(
     alloc: Global,
     section: &[u8],
@@ -182,6 +170,9 @@ fn link_of(
     ensures ok { IsOk result }
     ensures link { IfOk result (IsLink section.now place) }
 {
+    if let Some(link) = links.get(&place) {
+        return Ok(*link);
+    }
     let start = ListStart::read(alloc, section, place)?;
     let Some(attribute) = start.attribute else {
         return Ok(start);

@@ -7,7 +7,6 @@ ghost use Rattle.abbreviation_memo.specs.Declarations.{AreShared, full_declarati
 ghost use Rattle.abbreviation_memo.specs.Declarations.{full_declarations};
 ghost use Rattle.dwarf_bytes.specs.declared.format.Format.{Format};
 ghost use Rattle.dwarf_units.specs.Private.Runs.{own_runs, runs_of};
-ghost use Rattle.dwarf_units.specs.NodeShapes.{null_shape};
 ghost use Rattle.dwarf_units.specs.Private.NodeShapes.{AreShapes};
 ghost use Rattle.dwarf_units.specs.Private.NodeShapes.{shape_of, shape_of_code, shape_count};
 
@@ -32,17 +31,6 @@ pub struct NodeShape {
 }
 
 impl NodeShape {
-    fn null() -> NodeShape
-        ensures { result ≡ null_shape }
-    {
-        NodeShape {
-            is_null: true,
-            tag: 0,
-            children: false,
-            len: 0,
-        }
-    }
-
     /// Returns the shape of the entries of a declaration, if their size is fixed.
     fn of(declaration: &AbbreviationDeclaration, runs: &AttributeRuns) -> Option<NodeShape>
         ensures { (section : List ℕ) (format : Format) → IsShared section declaration.now.list
@@ -88,7 +76,12 @@ fn shape_of_code(table: &AbbreviationTable, runs: &[AttributeRuns], code: u64) -
         → result ≡ shape_of_code format (full_declarations section table.now) code }
 {
     if code == 0 {
-        return Some(NodeShape::null());
+        return Some(NodeShape {
+            is_null: true,
+            tag: 0,
+            children: false,
+            len: 0,
+        });
     }
     let (declaration, runs) = declaration_and_runs(table, runs, code)?;
     NodeShape::of(declaration, runs)

@@ -19,7 +19,7 @@ pub(crate) struct TableStore<'a> {
     section: &'a [u8],
     tables: Vec<CachedTable<'a>>,
     /// The number of tables that are cached permanently. A table after them is temporary.
-    permanent: usize,
+    pub(crate) permanent: usize,
     /// The remaining budget: the number of declarations, attributes and positions that can still be
     /// cached.
     budget: u128,
@@ -61,13 +61,6 @@ impl<'a> TableStore<'a> {
         ensures section { result.now.section ≡ self.now.section }
     {
         &self.tables[number]
-    }
-
-    /// Returns whether the table at an index is cached permanently.
-    pub(crate) fn stays(&self, number: usize) -> bool
-        ensures { result ≡ nat_lt number self.now.permanent }
-    {
-        number < self.permanent
     }
 
     /// Returns the index of the table of a unit, if it is cached. Tries the index `guess` first.
@@ -115,28 +108,13 @@ impl<'a> TableStore<'a> {
         let size = table.size();
         self.numbers
             .insert(table.format(), table.offset(), self.permanent)?;
-        let number = truncate_and_push(&mut self.tables, self.permanent, table)?;
+        self.tables.truncate(self.permanent);
+        let number = self.tables.len();
+        self.tables.push(table)?;
         if size <= self.budget {
             self.budget -= size;
             self.permanent = self.tables.len();
         }
         Ok(number)
     }
-}
-
-/// Truncates the list to `permanent` tables, appends a table, and returns its index.
-fn truncate_and_push<'a>(
-    tables: &mut Vec<CachedTable<'a>>,
-    permanent: usize,
-    table: CachedTable<'a>,
-) -> Result<usize, AllocError>
-    ensures ok { IfOk result (λ number.
-        (tables.new.items ≡ take permanent tables.old.items ++ table.entry ∷ [])
-        × (number ≡ length (take permanent tables.old.items))) }
-    ensures err { OnErr result (tables.new.items ≡ take permanent tables.old.items) }
-{
-    tables.truncate(permanent);
-    let number = tables.len();
-    tables.push(table)?;
-    Ok(number)
 }

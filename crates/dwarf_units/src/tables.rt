@@ -1,6 +1,6 @@
 //! A cache of the abbreviation tables of all units (DWARF 5, 7.5.3).
 
-ghost use Rattle.std.specs.Prelude.{◌≡◌, ℕ, ◌+◌, ◌<◌, ◌≤◌, [], List, Some, Ok, length};
+ghost use Rattle.std.specs.Prelude.{◌≡◌, ℕ, ◌+◌, ◌<◌, ◌≤◌, List, Some, Ok, length};
 ghost use Rattle.std.specs.Prelude.{nat_lt, slice_get, IfOk, OnOk, IfSome, IfNone};
 ghost use Rattle.std.specs.List.{All};
 ghost use Rattle.dwarf_bytes.specs.declared.fault.Section.TheVariants as sections;
@@ -18,7 +18,7 @@ use crate::table_store::TableStore;
 use crate::unit_headers::UnitHeader;
 use crate::unit_table::UnitTable;
 use dwarf_bytes::LoadFault;
-use std::alloc::{AllocError, Global};
+use std::alloc::Global;
 use std::marker::Model;
 
 /// The maximum number of declarations that are read for all units of an object.
@@ -61,22 +61,15 @@ impl<'a> Tables<'a> {
         ensures limit { IfOk result (λ tables. IsWithinLimit tables) }
         ensures stays { IfOk result (λ tables. All (IsCachedOrTooLarge tables) units.now) }
     {
-        let mut tables = Tables::new(alloc, section)?;
+        let mut tables = Tables {
+            lists: LinkedLists::new(alloc, section)?,
+            store: TableStore::new(alloc, section),
+        };
         let mut left = DECLARATIONS_LIMIT;
         for unit in units {
             tables.validate_unit(alloc, unit, &mut left)?;
         }
         Ok(tables)
-    }
-
-    fn new(alloc: Global, section: &'a [u8]) -> Result<Tables<'a>, AllocError>
-        ensures { IfOk result (λ made. made
-            ≡ record { section = section.now; tables = []; permanent = 0 }) }
-    {
-        Ok(Tables {
-            lists: LinkedLists::new(alloc, section)?,
-            store: TableStore::new(alloc, section),
-        })
     }
 
     /// Parses the table of a unit, unless it is cached. Subtracts its declarations from `left` in
@@ -168,7 +161,7 @@ impl<'a> Tables<'a> {
     pub fn stays(&self, number: usize) -> bool
         ensures { result ≡ nat_lt number self.now.permanent }
     {
-        self.store.stays(number)
+        number < self.store.permanent
     }
 
     /// Parses the table of a unit, which must not be cached, and caches it. Returns its index.

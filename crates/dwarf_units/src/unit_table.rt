@@ -1,13 +1,11 @@
 //! The abbreviation table of one unit (DWARF 5, 7.5.3).
 
-ghost use Rattle.std.specs.Prelude.{◌≡◌, ◌<◌, ◌≤◌, IfSome, option_map};
-ghost use Rattle.dwarf_units.specs.Entries.{declaration_of, depth_limit};
-ghost use Rattle.dwarf_units.specs.Private.Heads.{head_in};
+ghost use Rattle.std.specs.Prelude.{◌≡◌, ◌<◌, ◌≤◌, IfSome};
+ghost use Rattle.dwarf_units.specs.Entries.{depth_limit};
 ghost use Rattle.dwarf_units.specs.Private.NodeShapes.{IsFixedSizeNode, fixed_size_node_at};
-ghost use Rattle.dwarf_units.specs.Private.NodeShapes.{shape_at};
 
 use crate::cached_table::CachedTable;
-use crate::entry_head::{DEPTH_LIMIT, EntryHead};
+use crate::entry_head::DEPTH_LIMIT;
 use crate::linked_lists::LinkedLists;
 use crate::node_shape::NodeShape;
 use std::marker::Model;
@@ -15,8 +13,8 @@ use std::marker::Model;
 /// A cached abbreviation table, together with the attribute lists that its declarations share.
 #[derive(Drop)]
 pub struct UnitTable<'a> {
-    table: &'a CachedTable<'a>,
-    lists: &'a LinkedLists<'a>,
+    pub(crate) table: &'a CachedTable<'a>,
+    pub(crate) lists: &'a LinkedLists<'a>,
 }
 
 impl<'a> Model for UnitTable<'a> {
@@ -38,24 +36,6 @@ impl<'a> UnitTable<'a> {
         UnitTable { table, lists }
     }
 
-    /// Returns the head of the entries with a code, if the code is declared.
-    pub(crate) fn find(&self, code: u64) -> Option<EntryHead<'a>>
-        ensures { result
-            ≡ option_map (head_in self.now) (declaration_of self.now.declarations code) }
-    {
-        let (declaration, runs) = self.table.find(code)?;
-        Some(EntryHead::new(self.table.format(), declaration, runs, self.lists))
-    }
-
-    /// Returns the shape of the nodes with a one-byte code, if there is one.
-    // Inlined: called for each entry.
-    #[inline(always)]
-    fn shape(&self, code: u8) -> Option<NodeShape>
-        ensures { result ≡ shape_at self.now code }
-    {
-        self.table.shape(code)
-    }
-
     /// Returns the shape of the node at an offset and the offset after the node, if the node has a
     /// fixed size, is below the root, and is not truncated.
     // Inlined: called for each entry.
@@ -75,7 +55,7 @@ impl<'a> UnitTable<'a> {
             return None;
         }
         let code = *bytes.get(place)?;
-        let shape = self.shape(code)?;
+        let shape = self.table.shape(code)?;
         let after = place + 1 + usize::from(shape.len);
         if after > bytes.len() {
             return None;

@@ -184,9 +184,21 @@ fn read_values(
     let Some(rest) = declaration.list().rest() else {
         return Ok(());
     };
-    let mut place = rest;
-    for _ in 0..lists.section().len() {
-        let start = ListStart::read(alloc, lists.section(), place)?;
+    read_shared(alloc, cursor, format, lists.section(), rest, counts)
+}
+
+/// Reads the values of the attributes of the list at an offset of `.debug_abbrev`.
+fn read_shared(
+    alloc: Global,
+    cursor: &mut Cursor<'_>,
+    format: Format,
+    section: &[u8],
+    place: usize,
+    counts: &mut Counts,
+) -> Result<(), Cause> {
+    let mut place = place;
+    for _ in 0..section.len() {
+        let start = ListStart::read(alloc, section, place)?;
         let Some(attribute) = start.attribute else {
             break;
         };

@@ -1,9 +1,16 @@
 use Rattle.std.proofs.Common.{◌≡◌, ℕ, ◌≤◌, List, length, refl, ap, subst, ◌∙◌, arith}
 use Rattle.std.proofs.lemmas.Result.{err_from_is_err_and}
+use Rattle.dwarf_units.specs.Private.Links.{IsLink}
 use Rattle.dwarf_units.specs.Private.Used.{used_after}
 use Rattle.dwarf_units.proofs.LinkLaws.{link-smaller, link-valid}
 use Rattle.dwarf_units.proofs.StoredReads.{next-fault, next-read, stored-end, stored-left}
 use Rattle.dwarf_units.proofs.linked_lists.LinkedLists.read_list.Goals as goal
+
+pub link_of-requires-clause-links : goal.link_of-requires-clause-links
+link_of-requires-clause-links c = rw c.section-section.ensures c.self.invariant
+
+pub link_of-requires-in-Some-clause-links : goal.link_of-requires-in-Some-clause-links
+link_of-requires-in-Some-clause-links c = rw c.section-section.ensures c.self.invariant
 
 pub returns-in_err-read_one : goal.returns-in_err-read_one
 returns-in_err-read_one c =
@@ -16,10 +23,14 @@ returns-in_err-read_one c =
     loop.found loop.cursor.place _ refl (rw c.in-Some.is at loop.invariant.stored))
     (rw loop.invariant.bytes at c.in_err-read_one.ensures))
 
+next-link : (c : goal.In_ok-link-2) → IsLink c.args.self.now c.loop-link.link.rest
+    c.in_ok-link-2.link
+next-link c = rw (c.section-section.ensures, c.self.view_is) at c.in_ok-link-2.ensures.link
+
 pub loop-link-smaller : goal.loop-link-smaller
 loop-link-smaller c =
     rw c.in-Some.is (link-smaller c.args.self.now c.loop-link.link.rest c.in_ok-link-2.link
-    (rw c.in-Some.is at c.loop-link.invariant.valid) c.in_ok-link-2.ensures.link)
+    (rw c.in-Some.is at c.loop-link.invariant.valid) (next-link c))
 
 pub loop-link-preserved : goal.loop-link-preserved
 loop-link-preserved c =
@@ -30,11 +41,10 @@ loop-link-preserved c =
     subst (λ (b : List ℕ). c.read_one.new.cursor.place ≤ length b) same
     (omega (arith, c.place-in-Some.ensures.place, c.place-in-Some.ensures.within)) in
     record {
-      valid = link-valid c.args.self.now loop.link.rest c.in_ok-link-2.link
-          c.in_ok-link-2.ensures.link;
+      valid = link-valid c.args.self.now loop.link.rest c.in_ok-link-2.link (next-link c);
       bytes = same;
       stored =
-          ap (used_after c.read_one.new.found) (c.in_ok-link-2.ensures.link.stored c.args.keep
+          ap (used_after c.read_one.new.found) ((next-link c).stored c.args.keep
           c.args.format c.args.cursor.now.bytes c.read_one.new.cursor.place within)
           ∙ next-read loop.found c.read_one.new.found _ _ c.read_one.new.cursor.place _
           (stored-left c.args.keep c.args.format c.in-Some.attribute _ _ c.args.cursor.now.bytes

@@ -4,68 +4,76 @@ use Rattle.dwarf_units.proofs.StoredLaws.{cached-truncated, sets-as}
 use Rattle.dwarf_units.proofs.TableLaws.{last-at}
 use Rattle.dwarf_units.proofs.table_store.TableStore.add.Goals as goal
 
-pub invariant_of-self-in_err-number : goal.invariant_of-self-in_err-number
-invariant_of-self-in_err-number c =
+pub invariant_of-self-in_err-push : goal.invariant_of-self-in_err-push
+invariant_of-self-in_err-push c =
     let inside = c.self.inside in
     let table = c.args.table in
     let elsewhere = rw (← c.self.view_is) at c.requires.new in
     let sets = sets-as inside.numbers c.insert.new.self c.format.result table.format
     c.offset.result table.offset inside.permanent c.format.ensures c.offset.ensures
     c.in_ok-insert.ensures.ok in
-    cached-truncated inside.section.now inside.tables.items c.truncate_and_push.new.tables.items
+    cached-truncated inside.section.now inside.tables.items c.push.new.self.items
     inside.permanent inside.budget inside.numbers c.insert.new.self table.format table.offset
-    elsewhere sets c.in_err-number.ensures.err c.self.invariant
+    elsewhere sets (rw c.truncate.ensures.items at c.in_err-push.ensures.items) c.self.invariant
 
 pub invariant_of-self-then-size-self : goal.invariant_of-self-then-size-self
 invariant_of-self-then-size-self c =
+    let is = rw c.truncate.ensures.items at c.in_ok-push.ensures.items in
     let inside = c.self.inside in
     let table = c.args.table in
     let elsewhere = rw (← c.self.view_is) at c.requires.new in
     let sets = sets-as inside.numbers c.insert.new.self c.format.result table.format
     c.offset.result table.offset inside.permanent c.format.ensures c.offset.ensures
     c.in_ok-insert.ensures.ok in
-    cached-permanent inside.section.now inside.tables.items c.truncate_and_push.new.tables.items
+    cached-permanent inside.section.now inside.tables.items c.push.new.self.items
     inside.permanent inside.budget c.len-self-inside.result c.size-size.result inside.numbers
     c.insert.new.self table elsewhere sets (rw (← c.self.view_is) at c.requires.parsed)
-    c.in_ok-number.ensures.ok.0 c.size-size.ensures c.if-size-self.true
-    (c.len-self-inside.ensures ∙ c.truncate_and_push.new.tables.ok.0) c.self.invariant
+    is c.size-size.ensures c.if-size-self.true
+    (c.len-self-inside.ensures ∙ c.push.new.self.ok.0) c.self.invariant
 
 pub invariant_of-self-else-size-self : goal.invariant_of-self-else-size-self
 invariant_of-self-else-size-self c =
+    let is = rw c.truncate.ensures.items at c.in_ok-push.ensures.items in
     let inside = c.self.inside in
     let table = c.args.table in
     let elsewhere = rw (← c.self.view_is) at c.requires.new in
     let sets = sets-as inside.numbers c.insert.new.self c.format.result table.format
     c.offset.result table.offset inside.permanent c.format.ensures c.offset.ensures
     c.in_ok-insert.ensures.ok in
-    cached-temporary inside.section.now inside.tables.items c.truncate_and_push.new.tables.items
+    cached-temporary inside.section.now inside.tables.items c.push.new.self.items
     inside.permanent inside.budget c.size-size.result inside.numbers c.insert.new.self table
-    elsewhere sets (rw (← c.self.view_is) at c.requires.parsed) c.in_ok-number.ensures.ok.0
+    elsewhere sets (rw (← c.self.view_is) at c.requires.parsed) is
     c.size-size.ensures c.if-size-self.false c.self.invariant
 
 pub returns-then-size-self-clause-added : goal.returns-then-size-self-clause-added
 returns-then-size-self-clause-added c =
+    let is = rw c.truncate.ensures.items at c.in_ok-push.ensures.items in
+    let at = rw c.truncate.ensures.items at (c.len-number.ensures
+    ∙ c.truncate.new.self.ok.0) in
     let inside = c.self.inside in
-    let after = c.truncate_and_push.new.tables.items in (
+    let after = c.push.new.self.items in (
       contents-added c.args.self.now inside.section.now inside.tables.items after inside.permanent
           inside.budget c.len-self-inside.result c.size-size.result inside.numbers c.args.table
-          c.self.view_is c.in_ok-number.ensures.ok.0 c.size-size.ensures c.self.invariant (inl (
+          c.self.view_is is c.size-size.ensures c.self.invariant (inl (
             c.if-size-self.true,
             c.len-self-inside.ensures
-                ∙ c.truncate_and_push.new.tables.ok.0,
+                ∙ c.push.new.self.ok.0,
           )),
-      last-at (take inside.permanent inside.tables.items) after c.in_ok-number.number c.args.table
-          c.in_ok-number.ensures.ok.0 c.in_ok-number.ensures.ok.1,
+      last-at (take inside.permanent inside.tables.items) after c.len-number.result c.args.table
+          is at,
     )
 
 pub returns-else-size-self-clause-added : goal.returns-else-size-self-clause-added
 returns-else-size-self-clause-added c =
+    let is = rw c.truncate.ensures.items at c.in_ok-push.ensures.items in
+    let at = rw c.truncate.ensures.items at (c.len-number.ensures
+    ∙ c.truncate.new.self.ok.0) in
     let inside = c.self.inside in
-    let after = c.truncate_and_push.new.tables.items in (
+    let after = c.push.new.self.items in (
       contents-added c.args.self.now inside.section.now inside.tables.items after inside.permanent
           inside.budget inside.permanent c.size-size.result inside.numbers c.args.table
-          c.self.view_is c.in_ok-number.ensures.ok.0 c.size-size.ensures c.self.invariant
+          c.self.view_is is c.size-size.ensures c.self.invariant
           (inr (c.if-size-self.false, refl)),
-      last-at (take inside.permanent inside.tables.items) after c.in_ok-number.number c.args.table
-          c.in_ok-number.ensures.ok.0 c.in_ok-number.ensures.ok.1,
+      last-at (take inside.permanent inside.tables.items) after c.len-number.result c.args.table
+          is at,
     )
