@@ -31,7 +31,7 @@ pub struct MemoizedLists<'a> {
     section: &'a [u8],
     memos: BTreeMap<usize, Memo>,
     names: NameSets,
-    /// The memoized offsets. The rest of a list is before the list.
+    /// The memoized offsets, in the order in which they were memoized.
     places: Vec<usize>,
 }
 

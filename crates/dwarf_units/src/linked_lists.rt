@@ -86,8 +86,8 @@ impl<'a> LinkedLists<'a> {
         Ok(table)
     }
 
-    /// Reads the attributes of an entry from the offset `rest` of their declarations on. They start
-    /// at the cursor. Adds the used ones to `found` if `keep` is set.
+    /// Reads the attributes of an entry that the list at offset `rest` declares, if there is one.
+    /// They start at the cursor. Adds the used ones to `found` if `keep` is set.
     // Inlined: called for each entry.
     #[inline(always)]
     pub(crate) fn read(
@@ -111,7 +111,7 @@ impl<'a> LinkedLists<'a> {
         Ok(())
     }
 
-    // Not inlined: compilers share no attributes.
+    // Not inlined: compilers write no list that is long enough to be shared.
     #[inline(never)]
     fn read_list(
         &self,

@@ -44,8 +44,8 @@ impl<'a> Model for Tables<'a> {
 
 impl<'a> Tables<'a> {
     /// Parses the table of each unit, unless a table with its offset and format is cached. A fault
-    /// is reported at the offset of its declaration. Memory is bounded. Attributes after the first
-    /// ones of their list are stored once for each offset of the section. All tables that are
+    /// is reported at the offset of its declaration. Memory is bounded. Lists of the attributes
+    /// after the first ones are memoized once for each offset of the section. All tables that are
     /// cached permanently have at most 3 × the section size + 65,536 declarations, first
     /// attributes and positions of these.
     pub fn validate(

@@ -20,8 +20,8 @@ abbrev pub is_empty_unused : AttributeSpecification → Bool
 is_empty_unused s =
     not (is_used s.name) && option_map_or (λ len. len == 0) (fixed_len Dwarf32 s) false
 
--- The attribute of the link and the list after it store what the list at the offset stores. That
--- list is valid, and it is after the offset.
+-- For all bytes, the attribute of the link and the list after it store the same attributes as the
+-- list at the offset. The list after it is valid, and its offset is greater.
 pub record IsLink (section : List ℕ) (place : ℕ) (link : ListStart) : Type 0 where
   pub stored : (keep : Bool) (format : Format) (bytes : List ℕ) (at : ℕ) → at ≤ length bytes
       → stored_attributes_at keep format (list_from section link.attribute link.rest) bytes at
