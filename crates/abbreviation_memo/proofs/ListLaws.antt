@@ -71,8 +71,7 @@ lists-alone section own before at (x ∷ xs) next listed =
       listed.0,
       attribute-again section (own ++ before) before at x listed.0 listed.1 new.1,
       lists-alone section own (before ++ x ∷ []) listed.0 xs next
-          (subst (λ (ys : List AttributeSpecification). Lists (attribute_at section) ys listed.0 xs
-          next) (append_assoc own before (x ∷ [])) listed.2),
+          (rw (append_assoc own before (x ∷ [])) at listed.2),
     )
 
 -- the list at an offset, by what is read first
@@ -114,10 +113,8 @@ pub start-next : (section : List ℕ) (place : ℕ) (old new : Position)
     (found : Option AttributeSpecification) → old ≡ record { bytes = section; place = place }
     → ReadsNext (Ok found) (λ bytes. attribute_at bytes []) old new
     → attribute_at section [] place ≡ Ok (first_of found new.place)
-start-next section place old new None at read =
-    subst (λ (p : Position). attribute_at p.bytes [] p.place ≡ Ok (End new.place)) at read.0
-start-next section place old new (Some x) at read =
-    subst (λ (p : Position). attribute_at p.bytes [] p.place ≡ Ok (Item x new.place)) at read.0
+start-next section place old new None start read = rw start at read.0
+start-next section place old new (Some x) start read = rw start at read.0
 
 pub start-later : (section : List ℕ) (place : ℕ) (first : Option AttributeSpecification) (rest : ℕ)
     → attribute_at section [] place ≡ Ok (first_of first rest)

@@ -1,12 +1,11 @@
 -- A property of all entries of a map.
-use Rattle.std.proofs.Common.{◌≡◌, ℕ, [], Bool, true, false, cond, refl, ap, sym, ◌∙◌, subst}
+use Rattle.std.proofs.Common.{◌≡◌, ℕ, [], cond, ap, sym, ◌∙◌}
 use Rattle.std.proofs.Common.{arith}
-use Rattle.std.specs.Prelude.{Option, Some, None}
+use Rattle.std.specs.Prelude.{Some}
 use Rattle.std.specs.Ordering.{nat_cmp}
 use Rattle.std.specs.BTreeMap.{BTreeMap, get, is_at}
 use Rattle.std.specs.Map.{lookup}
 use Rattle.std.proofs.lemmas.Grind.{common_steps}
-use Rattle.std.proofs.lemmas.Option.{same_Some}
 
 abbrev pub AllEntries : {V : Type 0} → (ℕ → V → Type 0) → BTreeMap ℕ V → Type 0
 AllEntries P entries = (key : ℕ) (value : _) → get nat_cmp entries key ≡ Some value → P key value
@@ -18,17 +17,8 @@ Puts old new key value = (q : ℕ)
 
 pub entries-put : {V : Type 0} (P : ℕ → V → Type 0) (old new : BTreeMap ℕ V) (key : ℕ) (value : V)
     → Puts old new key value → P key value → AllEntries P old → AllEntries P new
-entries-put {V = V} P old new key value puts here all q v at =
-    by_test (is_at (nat_cmp key) q) refl (sym (puts q) ∙ at)
-  where
-    same : (a b : ℕ) → is_at (nat_cmp a) b ≡ true → a ≡ b
-    same a b h = grind (arith, common_steps)
-
-    by_test : (b : Bool) → is_at (nat_cmp key) q ≡ b
-        → cond b (Some value) (get nat_cmp old q) ≡ Some v → P q v
-    by_test true is h = subst (λ (k : ℕ). P k v) (same key q is)
-        (subst (P key) (same_Some value v h) here)
-    by_test false is h = all q v h
+entries-put P old new key value puts here all q v at =
+    grind (arith, common_steps, puts q, here, all q v)
 
 pub entries-same : {V : Type 0} (P : ℕ → V → Type 0) (old new : BTreeMap ℕ V)
     → new.entries ≡ old.entries → AllEntries P old → AllEntries P new
@@ -37,8 +27,4 @@ entries-same P old new same all q v at =
 
 pub entries-none : {V : Type 0} (P : ℕ → V → Type 0) (m : BTreeMap ℕ V) → m.entries ≡ []
     → AllEntries P m
-entries-none {V = V} P m empty q v at =
-    no-value v (sym (ap (λ es. lookup (is_at (nat_cmp q)) es) empty) ∙ at)
-  where
-    no-value : (v : V) → (let none : Option V = None in none) ≡ Some v → P q v
-    no-value v h = cc
+entries-none P m empty q v at = cc (at, ap (λ es. lookup (is_at (nat_cmp q)) es) empty)

@@ -1,14 +1,14 @@
 -- Sets of names while nodes are added.
-use Rattle.std.proofs.Common.{◌≡◌, ◌≢◌, ◌⊎◌, inl, inr, ℕ, zero, suc, ◌+◌, ◌/◌, ◌%◌, ◌<◌, ◌≤◌, List}
-use Rattle.std.proofs.Common.{[], ◌∷◌, ◌++◌, length, reverse, get_or, Bool, true, false, refl, ap}
+use Rattle.std.proofs.Common.{◌≡◌, ◌≢◌, ℕ, zero, suc, ◌+◌, ◌/◌, ◌%◌, ◌<◌, ◌≤◌, List}
+use Rattle.std.proofs.Common.{[], ◌∷◌, ◌++◌, length, reverse, Bool, true, false, refl, ap}
 use Rattle.std.proofs.Common.{sym, ◌∙◌, subst, arith, length-append}
-use Rattle.std.specs.Prelude.{◌==◌, ◌||◌, if◌then◌else◌, Result, Ok, Err, IfOk, OnErr}
+use Rattle.std.specs.Prelude.{◌==◌, ◌||◌, Result, IfOk, OnErr}
 use Rattle.std.specs.Int.Digits.{digits_of}
 use Rattle.std.proofs.Math.ListN.{get_or-append}
 use Rattle.std.proofs.Math.Seq.{get_or-append_seam}
 use Rattle.std.proofs.lemmas.Int.Digits.{digits_of_step, length-digits_of_step}
 use Rattle.std.proofs.lemmas.List.{reverse-append, get_or_past}
-use Rattle.std.proofs.lemmas.Bool.{cases_lt, eqb-true, eqb-false}
+use Rattle.std.proofs.lemmas.Bool.{eqb-true, eqb-false}
 use Rattle.std.proofs.lemmas.Option.{slice_get_within}
 use Rattle.dwarf_forms.proofs.AttributeEncodings.{unlike}
 use Rattle.abbreviation_memo.specs.declared.name_sets.Branch.{Branch}
@@ -35,10 +35,7 @@ is_in-more bs set name more =
 
 pub branch-last : (bs now : List Branch) (set : ℕ) (b : Branch) → set ≡ length bs
     → now ≡ bs ++ b ∷ [] → branch_at now set ≡ b
-branch-last bs now set b last is =
-    ap (λ (k : ℕ). get_or now k no_names) last
-    ∙ (ap (λ (cs : List Branch). get_or cs (length bs) no_names) is
-    ∙ get_or-append_seam bs b [] no_names)
+branch-last bs now set b last is = rw (last, is) (get_or-append_seam bs b [] no_names)
 
 branch-before : (bs more : List Branch) (set : ℕ) → set < length bs
     → branch_at (bs ++ more) set ≡ branch_at bs set
@@ -46,22 +43,12 @@ branch-before bs more set lt = get_or-append bs more no_names set lt
 
 pub branch-within : (bs : List Branch) (set : ℕ) → AreSets bs
     → IsWithin (length bs) (branch_at bs set)
-branch-within bs set sets = by_order (cases_lt set (length bs))
-  where
-    some : 0 < length bs
-    some = slice_get_within bs 0 no_names sets.empty
-
-    by_order : (set < length bs) ⊎ (length bs ≤ set) → IsWithin (length bs) (branch_at bs set)
-    by_order (inl lt) = sets.within set no_names lt
-    by_order (inr past) = subst (IsWithin (length bs)) (sym (get_or_past bs set no_names past))
-        (some, some)
+branch-within bs set sets =
+    let some : 0 < length bs = slice_get_within bs 0 no_names sets.empty in
+    grind (arith, sets.within set no_names, get_or_past bs set no_names)
 
 side-within : (count bit : ℕ) (b : Branch) → IsWithin count b → side b bit < count
-side-within count bit b within = by_test (bit == 0)
-  where
-    by_test : (t : Bool) → (if t then b.zero else b.one) < count
-    by_test true = within.0
-    by_test false = within.1
+side-within count bit b within = grind arith
 
 -- bits lead to the same node after nodes are added
 along-stays : (bs more : List Branch) (bits : List ℕ) (set : ℕ) → AreSets bs → set < length bs
@@ -86,8 +73,7 @@ stay-more bs now more sets is =
 pub put-few : {E : Type 0} (old new : List Branch) (b : Branch) (r : Result ℕ E)
     → IfOk r (λ set. (set ≡ length old) × (new ≡ old ++ b ∷ [])) → OnErr r (new ≡ old)
     → length new ≤ length old + 1
-put-few old new b (Ok set) made none = omega (arith, ap length made.1, length-append old (b ∷ []))
-put-few old new b (Err e) made none = omega (arith, ap length none)
+put-few old new b r made none = grind (arith, length-append old (b ∷ []))
 
 -- at most one more node for each bit of a name, and one more
 abbrev pub HasFewMore : List Branch → List Branch → ℕ → Type 0
@@ -123,17 +109,17 @@ more-at old mid new set more name b node there last is stay ends sides x = by_bi
     here = branch-last mid new more node last is
 
     by_bits : (x : ℕ) → is_in new more x ≡ ((x == name) || is_in old set x)
-    by_bits zero = is_in-zero new more ∙ (ap (λ (c : Branch). c.ends) here ∙ (ends
-        ∙ ap (λ (t : Bool). (0 == name) || t)
-        (ap (λ (c : Branch). c.ends) there ∙ sym (is_in-zero old set))))
+    by_bits zero = rw (is_in-zero new more, here, ends, there, is_in-zero old set) refl
     by_bits (suc n) =
         let below = sides (suc n) (omega arith) in
-        is_in-more new more (suc n) (omega arith)
-        ∙ (ap (λ (c : Branch). is_in new (side c (suc n % 2)) (suc n / 2)) here
-        ∙ (stay.same (side node (suc n % 2)) (suc n / 2) below.0 ∙ (below.1
-        ∙ ap (λ (t : Bool). (suc n == name) || t)
-        (ap (λ (c : Branch). is_in old (side c (suc n % 2)) (suc n / 2)) there
-        ∙ sym (is_in-more old set (suc n) (omega arith))))))
+        rw (
+          is_in-more new more (suc n) (omega arith),
+          here,
+          stay.same (side node (suc n % 2)) (suc n / 2) below.0,
+          below.1,
+          there,
+          is_in-more old set (suc n) (omega arith),
+        ) refl
 
 -- a name without more bits
 pub more-ends : (old new : List Branch) (set more name : ℕ) (b ended : Branch)
@@ -143,13 +129,10 @@ pub more-ends : (old new : List Branch) (set more name : ℕ) (b ended : Branch)
     → SetsStay old new → HasMore old new set more name
 more-ends old new set more name b ended there within none last is ends stay =
     more-at old old new set more name b ended there last is stay
-    (ap (λ (c : Branch). c.ends) ends ∙ sym (ap (λ (k : ℕ). (0 == k) || b.ends) none))
+    (rw (ends, none) refl)
     (λ x some. (
-      subst (λ (c : Branch). side c (x % 2) < length old) (sym ends)
-          (side-within (length old) (x % 2) b within),
-      ap (λ (c : Branch). is_in old (side c (x % 2)) (x / 2)) ends
-          ∙ sym (ap (λ (t : Bool). t || is_in old (side b (x % 2)) (x / 2))
-          (unlike x name (λ e. absurd (omega (arith, e, none, some))))),
+      rw ends (side-within (length old) (x % 2) b within),
+      rw (ends, unlike x name (λ e. absurd (omega (arith, e, none, some)))) refl,
     ))
 
 -- a name with more bits; the set for the rest of its bits has the rest of the name
@@ -168,13 +151,7 @@ more-bits old mid new set behind more name b turned there within some last is in
     (λ x _. by_side x (x % 2 == name % 2) refl)
   where
     halves : (a b : ℕ) → a % 2 ≡ b % 2 → (a / 2 == b / 2) ≡ (a == b)
-    halves a b e = by_test (a == b) refl
-      where
-        by_test : (t : Bool) → (a == b) ≡ t → (a / 2 == b / 2) ≡ t
-        by_test true same = let one : a ≡ b = eqb-true a b same in
-            ap (λ (k : ℕ). k / 2 == b / 2) one ∙ same-test (b / 2)
-        by_test false apart = let two : a ≢ b = eqb-false a b apart in
-            unlike (a / 2) (b / 2) (λ h. two (omega (arith, h, e)))
+    halves a b e = grind arith
 
     by_side : (x : ℕ) (t : Bool) → (x % 2 == name % 2) ≡ t
         → (side turned (x % 2) < length mid) × (is_in mid (side turned (x % 2)) (x / 2)
@@ -204,18 +181,10 @@ unfolding is_in
 none-in bs name is = ap (λ (cs : List Branch). is_in cs 0 name) is
     ∙ nowhere (reverse (digits_of 2 name))
   where
-    ends : (set : ℕ) → branch_at (no_names ∷ []) set ≡ no_names
-    ends zero = refl
-    ends (suc set) = refl
-
-    sides : (set bit : ℕ) → side (branch_at (no_names ∷ []) set) bit ≡ 0
-    sides set bit = ap (λ (b : Branch). side b bit) (ends set) ∙ by_test (bit == 0) 0
-      where
-        by_test : (t : Bool) (n : ℕ) → (if t then n else n) ≡ n
-        by_test true n = refl
-        by_test false n = refl
+    sides : (bit : ℕ) → side (branch_at (no_names ∷ []) 0) bit ≡ 0
+    sides bit = grind arith
 
     nowhere : (bits : List ℕ) → (branch_along (no_names ∷ []) 0 bits).ends ≡ false
     nowhere [] = refl
     nowhere (bit ∷ bits) = ap (λ (set : ℕ). (branch_along (no_names ∷ []) set bits).ends)
-        (sides 0 bit) ∙ nowhere bits
+        (sides bit) ∙ nowhere bits

@@ -1,5 +1,5 @@
 -- Tables with shared suffixes of attribute lists, while declarations are appended.
-use Rattle.std.proofs.Common.{◌≡◌, ℕ, List, [], ◌∷◌, ◌++◌, true, refl, ap, sym, ◌∙◌, subst}
+use Rattle.std.proofs.Common.{◌≡◌, ℕ, List, [], ◌∷◌, ◌++◌, true, refl, ap, ◌∙◌}
 use Rattle.std.specs.Prelude.{Ok, map}
 use Rattle.std.proofs.lemmas.List.{map-append}
 use Rattle.std.proofs.lemmas.List.Elements.{All-push}
@@ -18,8 +18,8 @@ code_of declaration = declaration.code
 pub shared-push : (section : List ℕ) (table now : List SharedDeclaration) (d : SharedDeclaration)
     → AreShared section table → IsShared section d.list → now ≡ table ++ d ∷ []
     → AreShared section now
-shared-push section table now d are is same = subst (AreShared section) (sym same)
-    (All-push (λ (e : SharedDeclaration). IsShared section e.list) table d are is)
+shared-push section table now d are is same =
+    rw same (All-push (λ (e : SharedDeclaration). IsShared section e.list) table d are is)
 
 -- ---- one more declaration
 
@@ -43,14 +43,10 @@ pub extends-item : (budget : ℕ) (section : List ℕ)
     after) old new
 extends-item budget section before after d head list old mid new head-read same read stays
     is more =
-    let front = ap (λ (cs : List ℕ). head_at budget old.bytes cs old.place)
-    (codes-same section before) ∙ head-read in
     let here : attributes_at old.bytes mid.place ≡ Ok (all_of section list, new.place) =
-    ap (λ (b : List ℕ). attributes_at b mid.place) (sym same) ∙ read in (
+    rw same at read in (
       full_declaration section (made head list),
-      rw (front, here) refl,
-      ap (full_declarations section) more ∙ (map-append (full_declaration section) before (d ∷ [])
-          ∙ ap (λ (e : SharedDeclaration). full_declarations section before
-          ++ full_declaration section e ∷ []) is),
+      rw (codes-same section before, head-read, here) refl,
+      rw (more, is) (map-append (full_declaration section) before (made head list ∷ [])),
       stays ∙ same,
     )
