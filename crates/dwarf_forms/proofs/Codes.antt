@@ -1,14 +1,13 @@
 -- Lookup by index, in a list or in a map.
 use Rattle.std.proofs.Common.{◌≡◌, ℕ, ◌≢◌, List, [], length, get_or, Bool, cond}
-use Rattle.std.proofs.Common.{ap, arith}
-use Rattle.std.specs.Prelude.{Option, Some, None, find, position, nat_lt, is_some, slice_get}
+use Rattle.std.proofs.Common.{arith}
+use Rattle.std.specs.Prelude.{Option, Some, find, position, nat_lt, is_some, slice_get}
 use Rattle.std.specs.Prelude.{IfSome}
 use Rattle.std.specs.Borrow.{Bor}
 use Rattle.std.specs.Option.{option_copied, option_and_then}
 use Rattle.std.specs.List.{position_or_len}
 use Rattle.std.specs.Ordering.{nat_cmp}
 use Rattle.std.specs.BTreeMap.{BTreeMap, get, is_at}
-use Rattle.std.specs.Map.{lookup}
 use Rattle.std.proofs.lemmas.Grind.{common_steps}
 use Rattle.std.proofs.lemmas.Option.{slice_get_past, slice_get-get_or}
 use Rattle.std.proofs.lemmas.List.Folds.{find_at}
@@ -31,10 +30,3 @@ PutsPlace moved next code place = (q : ℕ)
 pub others-stay : (moved next : BTreeMap ℕ ℕ) (code place : ℕ) → PutsPlace moved next code place
     → (q : ℕ) → q ≢ code → get nat_cmp next q ≡ get nat_cmp moved q
 others-stay moved next code place puts q apart = grind (arith, common_steps, puts q)
-
-pub same-entries : (new old : BTreeMap ℕ ℕ) → new.entries ≡ old.entries → (q : ℕ)
-    → get nat_cmp new q ≡ get nat_cmp old q
-same-entries new old same q = ap (λ (es : List (ℕ × ℕ)). lookup (is_at (nat_cmp q)) es) same
-
-pub no-entries : (m : BTreeMap ℕ ℕ) → m.entries ≡ [] → (q : ℕ) → get nat_cmp m q ≡ None
-no-entries m empty q = ap (λ (es : List (ℕ × ℕ)). lookup (is_at (nat_cmp q)) es) empty

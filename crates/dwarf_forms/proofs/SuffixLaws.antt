@@ -61,9 +61,6 @@ attribute-twice section before other at x next read twice =
 pub either : (a b : Bool) → (a || b) ≡ false → (a ≡ false) × (b ≡ false)
 either a b h = grind arith
 
-same-either : (a b c d : Bool) → ((a || b) || (c || d)) ≡ ((a || c) || (b || d))
-same-either a b c d = grind arith
-
 same-test : (a b : ℕ) → (a == b) ≡ (b == a)
 same-test a b = grind arith
 

@@ -8,9 +8,6 @@ use Rattle.addr_table.proofs.Searching.StepLaws.{below-bits}
 pub record Halved (whole left used : ℕ) : Type 0 where
   pub powers : (a : ℕ) → whole < 2 ^ a → (r : ℕ) × (used + r ≡ a) × (left < 2 ^ r)
 
-pub halved-none : (n : ℕ) → Halved n n 0
-halved-none n = record { powers = λ a h. (a, omega arith, h) }
-
 halved-again : (left left' used a r : ℕ) → 0 < left → left' + left' ≤ left → used + r ≡ a
     → left < 2 ^ r
     → (s : ℕ) × (used + 1 + s ≡ a) × (left' < 2 ^ s)

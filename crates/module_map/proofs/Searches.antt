@@ -1,6 +1,6 @@
 -- Binary search among modules in ascending order of address.
 use Rattle.std.proofs.Common.{◌≡◌, ◌⊎◌, inl, inr, ℕ, ◌+◌, ◌-◌, ◌/◌, ◌<◌, ◌≤◌, Bool, true, false}
-use Rattle.std.proofs.Common.{List, length, get_or, refl, subst, arith}
+use Rattle.std.proofs.Common.{List, length, get_or, refl, arith}
 use Rattle.std.specs.Prelude.{None, Some, position, nat_lt, nat_le, ◌&&◌}
 use Rattle.std.proofs.lemmas.Bool.{ltb-true, lt-ltb, le-leb, leb-true, cases_lt}
 use Rattle.addr_table.specs.Steps.{bits, counted}
@@ -9,7 +9,7 @@ use Rattle.addr_table.proofs.Searching.StepLaws.{counted-one}
 use Rattle.module_map.specs.World.{start_of, end_of, holds}
 use Rattle.module_map.specs.Private.Serials.{NumberedModule}
 use Rattle.module_map.specs.Private.Rising.{AreRising, CountsStarted}
-use Rattle.module_map.proofs.BinarySearch.{Halved, halved-none, halved-more, halved-all}
+use Rattle.module_map.proofs.BinarySearch.{Halved, halved-more, halved-all}
 use Rattle.module_map.proofs.Positions.{is_at, is_nowhere}
 
 -- the number is at least `low` and at most `high`
@@ -26,9 +26,6 @@ pub record Narrowed (sorted : List NumberedModule) (address low high : ℕ)
   pub first : (low ≡ 0) ⊎ (1 ≤ used)
   pub taken : now ≡ counted used before
   pub halved : Halved (length sorted) (high - low) used
-
-minus-zero : (n : ℕ) → n ≡ n - 0
-minus-zero n = omega arith
 
 pub narrowed-up : (sorted : List NumberedModule) (address low high middle : ℕ)
     (before now then : Steps)

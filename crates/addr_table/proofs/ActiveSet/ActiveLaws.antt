@@ -72,19 +72,6 @@ group-has counts words blocks groups key h some =
     h.groups_are.same (key / 64 / 64) ∙ has-filled blocks (key / 64)
     (block-has counts words blocks groups key h some)
 
--- the key is within the lists
-pub key-within : (counts words blocks groups : List ℕ) (key : ℕ)
-    → IsIndexed counts words blocks groups → key < length counts
-    → (key / 64 < length words) × (key / 64 / 64 < length blocks)
-    × (key / 64 / 64 / 64 < length groups)
-key-within counts words blocks groups key h lt =
-    let a = h.words_are_enough in
-    let b = h.blocks_are_enough in
-    let c = h.groups_are_enough in
-    let w : key / 64 < length words = omega arith in
-    let x : key / 64 / 64 < length blocks = omega arith in
-    (w, x, omega arith)
-
 pub indexed-unchanged : (counts words blocks groups : List ℕ) (key v : ℕ)
     → IsIndexed counts words blocks groups → key < length counts → 0 < v
     → 0 < get_or counts key 0
@@ -220,22 +207,6 @@ pub lifted-none : (lower upper : List ℕ) (from : ℕ) → Summarizes lower upp
     → IsFirstFrom (is_filled lower) from None
 lifted-none lower upper from h f = λ k low. sym (h.same k) ∙ f k low
 
--- the first active number
-pub first-found : (p q : ℕ → Bool) (from to r : ℕ) → ((k : ℕ) → p k ≡ q k)
-    → IsFirstFrom p from (Some r) → r < to
-    → IsFirstIn q from to (Some r)
-first-found p q from to r same h lt = (
-  h.0,
-  lt,
-  sym (same r) ∙ h.1,
-  λ k low high. sym (same k)
-      ∙ h.2 k low high,
-)
-
 pub first-past : (p q : ℕ → Bool) (from to r : ℕ) → ((k : ℕ) → p k ≡ q k)
     → IsFirstFrom p from (Some r) → to ≤ r → IsFirstIn q from to None
 first-past p q from to r same h le = λ k low high. sym (same k) ∙ h.2 k low (omega arith)
-
-pub first-none : (p q : ℕ → Bool) (from to : ℕ) → ((k : ℕ) → p k ≡ q k) → IsFirstFrom p from None
-    → IsFirstIn q from to None
-first-none p q from to same h = λ k low high. sym (same k) ∙ h k low

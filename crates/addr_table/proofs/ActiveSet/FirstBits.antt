@@ -1,11 +1,10 @@
 -- The first set bit of a word, or of a list of words, at or after a bit.
-use Rattle.std.proofs.Common.{◌≡◌, ℕ, ◌+◌, ◌-◌, ◌*◌, ◌/◌, ◌%◌, ◌^◌, ◌<◌, ◌≤◌, List, length, get_or}
+use Rattle.std.proofs.Common.{◌≡◌, ℕ, ◌+◌, ◌-◌, ◌*◌, ◌/◌, ◌%◌, ◌^◌, ◌<◌, ◌≤◌, List, get_or}
 use Rattle.std.proofs.Common.{false, refl, ap, sym, ◌∙◌, subst, inl, inr, arith}
 use Rattle.std.specs.Prelude.{nat_eq, Option, Some, None}
 use Rattle.std.specs.Int.{bit_at, trailing_zeros, w64}
 use Rattle.std.proofs.lemmas.Bool.{cases_eq, cases_lt, both_ways}
 use Rattle.std.proofs.lemmas.Bool.Decides.{nat_tests}
-use Rattle.std.proofs.lemmas.List.{get_or_past}
 use Rattle.std.proofs.lemmas.Nat.{shr-shr, shr_le}
 use Rattle.std.proofs.lemmas.Nat.Bits.{bit_at-zero, bit_at-trailing_zeros, same_from_bits_below}
 use Rattle.std.proofs.lemmas.Nat.Bits.{bit_at_above}
@@ -43,10 +42,6 @@ pub not-filled : (words : List ℕ) (k : ℕ) → is_filled words (k / 64) ≡ f
 not-filled words k h =
     let empty : get_or words (k / 64) 0 ≡ 0 = grind (arith, nat_tests) in
     has-none _ (ap (λ n. bit_at n (k % 64)) empty ∙ bit_at-zero (k % 64))
-
-pub past-words : (words : List ℕ) (k : ℕ) → length words ≤ k / 64 → has words k ≡ false
-past-words words k h = has-none _ (ap (λ n. bit_at n (k % 64)) (get_or_past words (k / 64) 0 h)
-    ∙ bit_at-zero (k % 64))
 
 -- neither the word itself nor a later word has a set bit
 pub climbed-none : (words : List ℕ) (from : ℕ) → IsFirstInWord words from None
@@ -116,35 +111,3 @@ first-bit word from fits lt some =
 -- no bit at or after an index is set, up to a word
 abbrev pub NoneUpTo : List ℕ → ℕ → ℕ → Type 0
 NoneUpTo words from w = (k : ℕ) → from ≤ k → k / 64 < w → has words k ≡ false
-
-pub word-init : (words : List ℕ) (from : ℕ) → IsFirstInWord words from None
-    → NoneUpTo words from (from / 64 + 1)
-word-init words from h k le lt = h k le (omega arith)
-
-pub word-more : (words : List ℕ) (from w : ℕ) → NoneUpTo words from w
-    → IsFirstInWord words (w * 64) None → NoneUpTo words from (w + 1)
-word-more words from w h here k le lt = elim (cases_lt (k / 64) w) [
-  | inl before ↦ h k le before
-  | inr after ↦ let at : w * 64 / 64 ≡ w = omega arith in here k (omega arith) (omega arith)
-]
-
-pub word-found : (words : List ℕ) (from w r : ℕ) → NoneUpTo words from w → from / 64 + 1 ≤ w
-    → IsFirstInWord words (w * 64) (Some r)
-    → IsFirstFrom (has words) from (Some r)
-word-found words from w r h le found =
-    let at : w * 64 / 64 ≡ w = omega arith in
-    let same : r / 64 ≡ w * 64 / 64 = found.1 in (
-      omega arith,
-      found.2,
-      λ k low high. elim (cases_lt (k / 64) w) [
-        | inl before ↦ h k low before
-        | inr after ↦ found.3 k (omega arith) high
-      ],
-    )
-
-pub word-end : (words : List ℕ) (from w : ℕ) → NoneUpTo words from w → length words ≤ w
-    → IsFirstFrom (has words) from None
-word-end words from w h le k low = elim (cases_lt (k / 64) w) [
-  | inl before ↦ h k low before
-  | inr after ↦ past-words words k (omega arith)
-]

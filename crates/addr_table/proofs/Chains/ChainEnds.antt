@@ -14,7 +14,7 @@ use Rattle.addr_table.specs.Chains.{is_at, encloses, enclosing, chain_among}
 use Rattle.addr_table.specs.Frames.{place_chain}
 use Rattle.addr_table.specs.Private.Parents.{enclosing_at, IsParent}
 use Rattle.addr_table.specs.Private.Walks.{HaveParents, parent_code, chain_at, top_at}
-use Rattle.addr_table.specs.Private.Walks.{search_start_of, IsWalk}
+use Rattle.addr_table.specs.Private.Walks.{search_start_of}
 use Rattle.addr_table.proofs.Chains.ParentWalkLaws.{chain-none, chain-some, number_in}
 
 -- ---- whether scopes remain
@@ -25,21 +25,6 @@ filled s xs h = full (reverse xs) (sym (reverse-append (s ∷ []) xs) ∙ h)
     full : (ys : List Scope) → ys ++ s ∷ [] ≡ [] → ⊥
     full [] h = cc
     full (y ∷ ys) h = cc
-
-pub left-none : (scopes : List Scope) (codes : List ℕ) (a code top : ℕ)
-    → IsWalk scopes codes a code top
-    → reverse (chain_at a scopes code) ≡ [] → code ≡ 0
-left-none scopes codes a code top h none = elim h.ends [
-  | inl e ↦ e
-  | inr there ↦ by (find (is_at Subprogram a) (enclosing_at scopes code)) refl there
-]
-  where
-    by : (o : Option Scope) → find (is_at Subprogram a) (enclosing_at scopes code) ≡ o
-        → number_in o ≡ Some top → code ≡ 0
-    by None f t = cc
-    by (Some s) f t =
-        let held = chain-some a (enclosing_at scopes code) s f in
-        absurd (filled s held.0 (ap (reverse {A = Scope}) (sym held.1) ∙ none))
 
 -- ---- the start
 
@@ -66,15 +51,6 @@ started-chain a scopes codes (Some number) have = elim (cases_lt number (length 
       (ap (chain_among a) (past-end 0 (length scopes) number scopes have.order.numbered le)))
 ]
 
-pub search_start-within : (count : ℕ) (scope : Option ℕ) → search_start_of count scope ≤ count
-search_start-within count None = omega arith
-search_start-within count (Some number) = elim (cases_lt number count) [
-  | inl lt ↦ (let inside : nat_lt number count ≡ true = grind (arith, nat_tests) in
-      rw inside (omega arith))
-  | inr le ↦ (let outside : nat_lt number count ≡ false = grind (arith, nat_tests) in
-      rw outside (omega arith))
-]
-
 -- without an outermost scope the chain is empty
 pub no-chain : (a : ℕ) (scopes : List Scope) (code : ℕ) → top_at a scopes code ≡ None
     → chain_at a scopes code ≡ []
@@ -84,10 +60,6 @@ no-chain a scopes code h = chain-none a (enclosing_at scopes code)
     by : (o : Option Scope) → number_in o ≡ None → o ≡ None
     by None h = refl
     by (Some s) h = cc
-
-pub left-empty : (scopes : List Scope) (a code : ℕ) → code ≡ 0
-    → reverse (chain_at a scopes code) ≡ []
-left-empty scopes a code none = ap (λ (n : ℕ). reverse (chain_at a scopes n)) none
 
 pub parent-within : (scopes : List Scope) (codes : List ℕ) (k : ℕ) → HaveParents scopes codes
     → k < length scopes → get_or codes k 0 ≤ length scopes

@@ -1,7 +1,7 @@
 -- The search for the parent of a scope.
 use Rattle.std.proofs.Common.{◌≡◌, ◌∙◌, ℕ, zero, suc, ◌+◌, ◌<◌, ◌≤◌, List, [], ◌∷◌, ◌++◌}
-use Rattle.std.proofs.Common.{length, get_or, Bool, true, false, cond, ◌&&◌, ◌⊎◌, refl, sym, ap}
-use Rattle.std.proofs.Common.{subst, inl, inr, arith, append-nil, zero-add}
+use Rattle.std.proofs.Common.{length, get_or, Bool, true, false, cond, ◌&&◌, ◌⊎◌, refl, ap}
+use Rattle.std.proofs.Common.{subst, arith, append-nil, zero-add}
 use Rattle.std.specs.Prelude.{nat_lt, nat_le, filter}
 use Rattle.std.proofs.lemmas.Bool.Decides.{nat_tests}
 use Rattle.std.proofs.lemmas.List.Elements.{filter-append}
@@ -132,40 +132,6 @@ candidate-found scopes i k d order h lt past =
     }
 
 -- ---- one parent more
-
-pub parents-more : (scopes : List Scope) (codes : List ℕ) (code : ℕ) → AreParents scopes codes
-    → IsParent scopes (length codes) code
-    → AreParents scopes (codes ++ code ∷ [])
-parents-more scopes codes code h one i lt = cases codes i h one lt
-  where
-    last_of : (i n : ℕ) (xs : List ℕ) → i < length (xs ++ n ∷ [])
-        → (i < length xs) ⊎ (i ≡ length xs)
-    last_of i n [] lt = inr (omega arith)
-    last_of zero n (x ∷ xs) lt = inl (omega arith)
-    last_of (suc i) n (x ∷ xs) lt = elim (last_of i n xs (omega arith)) [
-      | inl l ↦ inl (omega arith)
-      | inr e ↦ inr (omega arith)
-    ]
-
-    early : (i n : ℕ) (xs : List ℕ) → i < length xs → get_or (xs ++ n ∷ []) i 0 ≡ get_or xs i 0
-    early i n [] lt = absurd (omega arith)
-    early zero n (x ∷ xs) lt = refl
-    early (suc i) n (x ∷ xs) lt = early i n xs (omega arith)
-
-    at_end : (n : ℕ) (xs : List ℕ) → get_or (xs ++ n ∷ []) (length xs) 0 ≡ n
-    at_end n [] = refl
-    at_end n (x ∷ xs) = at_end n xs
-
-    cases : (codes : List ℕ) (i : ℕ) → AreParents scopes codes → IsParent scopes (length codes) code
-        → i < length (codes ++ code ∷ [])
-        → IsParent scopes i (get_or (codes ++ code ∷ []) i 0)
-    cases codes i h one lt = elim (last_of i code codes lt) [
-      | inl l ↦ (let P : ℕ → Type 0 = λ p. IsParent scopes i p in
-          subst P (sym (early i code codes l)) (h i l))
-      | inr e ↦ (let Q : ℕ → Type 0 = λ j. IsParent scopes j (get_or (codes ++ code ∷ []) j 0) in
-          let P : ℕ → Type 0 = λ p. IsParent scopes (length codes) p in
-          subst Q (sym e) (subst P (sym (at_end code codes)) one))
-    ]
 
 -- ---- the same for the ends of the program
 

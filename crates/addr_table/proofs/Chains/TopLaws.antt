@@ -54,15 +54,6 @@ abbrev pub IsTop : ℕ → List Scope → ℕ → ℕ → Option ℕ → Type 0
 IsTop a scopes start code found = top_at a scopes start ≡ option_or (top_at a scopes code)
     found
 
-pub top-start : (a : ℕ) (scopes : List Scope) (start : ℕ) → IsTop a scopes start start None
-top-start a scopes start = sym (or-none (top_at a scopes start))
-
-pub top-end : (a : ℕ) (scopes : List Scope) (start code : ℕ) (found : Option ℕ)
-    → IsTop a scopes start code found → code ≡ 0
-    → found ≡ top_at a scopes start
-top-end a scopes start code found h none =
-    sym (h ∙ ap (λ (n : ℕ). option_or (top_at a scopes n) found) none)
-
 pub top-more : (a : ℕ) (scopes : List Scope) (codes : List ℕ) (start k : ℕ) (found : Option ℕ)
     (b : Bool)
     → HaveParents scopes codes → k < length scopes → IsTop a scopes start (suc k) found

@@ -123,12 +123,6 @@ pub files-of-root : (lines : Lines) (scopes : List Scope) (root : Root) (files :
 files-of-root lines scopes root files have is =
     λ scope within low high. ap (files_at lines) (have scope within low high) ∙ sym is
 
--- a unit
-pub unit-invalid : (lines : Lines) (scopes : List Scope) (root : Root) → is_invalid_root lines root
-    ≡ true
-    → check_unit lines scopes root ≡ Err (causes.StmtList, root.offset)
-unit-invalid lines scopes root bad = rw bad refl
-
 pub unit-valid : (lines : Lines) (scopes : List Scope) (root : Root)
     (outcome : Result (Unit {0}) LoadFault)
     → is_invalid_root lines root ≡ false

@@ -82,11 +82,3 @@ start-next rows runs index rest taken h lt =
       λ d. ap (row_start rows) (sym next.1)
           ∙ sym (get_or-map (row_start rows) all taken 0 d within),
     )
-
--- no start is left
-pub start-none : (rows : List Row) (runs : List Run) (index : ℕ) (rest : Run) (taken : ℕ)
-    → IsNextRow rows runs index rest taken → length runs ≤ index
-    → length (map (row_start rows) (rows_in rows runs)) ≤ taken
-start-none rows runs index rest taken h ge =
-    let none : length (rows_in rows runs) ≤ taken = h.none ge in
-    omega (arith, none, length-map (rows_in rows runs) (row_start rows))

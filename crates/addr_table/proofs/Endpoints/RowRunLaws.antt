@@ -74,10 +74,6 @@ up-to-twice low high (n ∷ ns) le = elim (cases_lt low n) [
 
 -- ---- the rest of a run
 
-pub rest-none : (rows : List Row) (run : Run) → sequence_at rows (run.first + 1) ≡ []
-    → later_rows rows run ≡ []
-rest-none rows run none = ap (up_to run.last) none
-
 pub rest-over : (rows : List Row) (run : Run) (n : ℕ) → Follows rows run.first n → run.last < n
     → later_rows rows run ≡ []
 rest-over rows run n is over =

@@ -1,31 +1,25 @@
 -- The starts of rows and scopes, added range by range.
 use Rattle.std.proofs.Common.{◌≡◌, ℕ, zero, suc, ◌+◌, ◌<◌, ◌≤◌, List, [], ◌∷◌, ◌++◌, length, map}
-use Rattle.std.proofs.Common.{drop, get_or, Bool, true, false, cond}
-use Rattle.std.proofs.Common.{refl, ap, sym, ◌∙◌, subst, arith}
+use Rattle.std.proofs.Common.{drop, get_or}
+use Rattle.std.proofs.Common.{refl, ap, ◌∙◌, subst, arith}
 use Rattle.std.proofs.lemmas.List.{append_assoc, append-nil, map-append, drop_more, drop_all}
-use Rattle.std.proofs.lemmas.List.{get_or_default}
 use Rattle.std.proofs.lemmas.List.Elements.{filter-append}
-use Rattle.std.proofs.lemmas.List.Sorted.{IsPermutation-refl, IsPermutation-trans}
+use Rattle.std.proofs.lemmas.List.Sorted.{IsPermutation-trans}
 use Rattle.std.proofs.lemmas.List.Sorted.{IsPermutation-append_left}
 use Rattle.std.specs.List.Sorted.{IsPermutation}
 use Rattle.dwarf_lines.specs.declared.row.Row.{Row}
 use Rattle.dwarf_ranges.specs.declared.range.Range.{Range}
-use Rattle.dwarf_entries.specs.declared.scope.Scope.{Scope as Kept}
-use Rattle.dwarf_entries.specs.Scopes.{Scope, Own, own_of, ranges_at}
-use Rattle.dwarf_entries.specs.Order.{HasDataOf}
+use Rattle.dwarf_entries.specs.Scopes.{Scope}
 use Rattle.addr_table.specs.declared.starts.Start.{Start}
 use Rattle.addr_table.specs.Rows.{cover_of, covers_from}
 use Rattle.addr_table.specs.Segments.{is_nonempty}
-use Rattle.addr_table.specs.Private.Sweep.{Reach, reach_of, key_of, reaches_in, scope_reaches}
+use Rattle.addr_table.specs.Private.Sweep.{Reach, reaches_in, scope_reaches}
 use Rattle.addr_table.specs.Private.Sweep.{nonempty, start_of, AddsStarts}
 
 -- The starts added so far and the starts of the remaining ranges are the starts of all ranges.
 pub record IsAdding (left whole : List Reach) (starts starts' : List Start) : Type 0 where
   pub starts_are : IsPermutation (starts ++ map start_of (nonempty whole))
       (starts' ++ map start_of (nonempty left))
-
-pub adding-start : (whole : List Reach) (starts : List Start) → IsAdding whole whole starts starts
-adding-start whole starts = record { starts_are = IsPermutation-refl _ }
 
 -- the remaining ranges may be replaced by an equal list
 pub adding-same : (left other whole : List Reach) (s s' : List Start) → left ≡ other
@@ -66,10 +60,6 @@ adding-end left whole s s' none h =
 
 -- ---- rows
 
--- the ranges that rows cover, from row n on
-abbrev pub rows_left : ℕ → List Row → List Reach
-rows_left n rows = map reach_of (covers_from n (drop n rows))
-
 covers-step : (m n : ℕ) (rows : List Row) (d : Row) → suc n < length rows
     → covers_from m (drop n rows) ≡ cover_of m (get_or rows n d) (get_or rows (suc n) d)
     (covers_from (suc m) (drop (suc n) rows))
@@ -84,41 +74,6 @@ covers-none m (suc n) [] le = refl
 covers-none m zero (x ∷ []) le = refl
 covers-none m zero (x ∷ y ∷ rows) le = absurd (omega arith)
 covers-none m (suc n) (x ∷ rows) le = covers-none m n rows (omega arith)
-
-pub row-covers : (n next : ℕ) (rows : List Row) (d e : Row) → next ≡ suc n → next < length rows
-    → rows_left n rows ≡ map reach_of (cover_of n (get_or rows n d) (get_or rows next e) [])
-    ++ rows_left next rows
-row-covers n next rows d e is lt =
-    let N : ℕ → Type 0 = λ m. rows_left n rows
-    ≡ map reach_of (cover_of n (get_or rows n d) (get_or rows m e) []) ++ rows_left m rows in
-    let same : get_or rows (suc n) d ≡ get_or rows (suc n) e =
-    get_or_default rows (suc n) d e (omega arith) in
-    subst N (sym is)
-    (ap (map reach_of) (covers-step n n rows d (omega arith))
-    ∙ ap (λ (x : Row). map reach_of (cover_of n (get_or rows n d) x
-    (covers_from (suc n) (drop (suc n) rows)))) same ∙ parts
-    (get_or rows n d) (get_or rows (suc n) e))
-  where
-    parts : (row after : Row)
-        → map reach_of (cover_of n row after (covers_from (suc n) (drop (suc n) rows)))
-        ≡ map reach_of
-        (cover_of n row after []) ++ rows_left (suc n) rows
-    parts row after = by_end row.«end»
-      where
-        by_end : (b : Bool)
-            → map reach_of
-            (cond b (covers_from (suc n) (drop (suc n) rows))
-            (record { row = n; range = record { from = row.address; to = after.address } }
-            ∷ covers_from (suc n) (drop (suc n) rows)))
-            ≡ map reach_of (cond b [] (record
-            { row = n; range = record { from = row.address; to = after.address } } ∷ []))
-            ++ rows_left
-            (suc n) rows
-        by_end true = refl
-        by_end false = refl
-
-pub rows-end : (n : ℕ) (rows : List Row) → length rows ≤ suc n → rows_left n rows ≡ []
-rows-end n rows le = ap (map reach_of) (covers-none n n rows le)
 
 -- ---- scopes
 
@@ -147,15 +102,3 @@ ranges-end key j ranges le = ap (map (λ r. record { key = key; range = r })) (d
 pub scopes-end : (rows total k : ℕ) (scopes : List Scope) → length scopes ≤ k
     → scopes_left rows total k scopes ≡ []
 scopes-end rows total k scopes le = ap (scope_reaches rows total) (drop_all k scopes le)
-
--- the key and the ranges of a scope of the program
-pub returned-reaches : (rows total key : ℕ) (scopes : List Scope) (k : Kept) (s : Scope)
-    (ranges : List Range) → HasDataOf scopes k s
-    → key ≡ key_of rows total (own_of k).kind (own_of k).number
-    → ranges ≡ ranges_at scopes (own_of k).number
-    → map (λ r. record { key = key; range = r }) ranges ≡ reaches_in rows total s
-returned-reaches rows total key scopes k s ranges tells key_is ranges_are =
-    let same : key ≡ key_of rows total s.kind s.number =
-    key_is ∙ ap (λ (o : Own). key_of rows total o.kind o.number) tells.own_is in
-    ap (map (λ r. record { key = key; range = r })) (ranges_are ∙ tells.ranges_are)
-    ∙ ap (λ (n : ℕ). map (λ r. record { key = n; range = r }) s.ranges) same

@@ -138,10 +138,3 @@ frame-taken a scopes codes start code k top have is le chain ends returned = by 
         let same : j ≡ k = omega arith in
         inner (subst (λ (n : ℕ). n ≢ top) same other)
         (subst (λ (n : ℕ). (d : Scope) → is_at Inlined a (get_or scopes n d) ≡ true) same held)
-
--- if no frame is returned, none remains
-pub frame-none : (a : ℕ) (scopes : List Scope) (start code : ℕ) → code ≡ 0
-    → chain_at a scopes code ≡ chain_at a scopes start
-    → reverse (chain_at a scopes start) ≡ []
-frame-none a scopes start code none chain =
-    ap (reverse {A = Scope}) (sym chain ∙ ap (λ (n : ℕ). chain_at a scopes n) none)

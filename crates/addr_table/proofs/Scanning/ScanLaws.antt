@@ -8,12 +8,10 @@ use Rattle.dwarf_lines.specs.declared.row.Row.{Row}
 use Rattle.dwarf_lines.specs.Lines.{row_of, covers}
 use Rattle.dwarf_walk.specs.declared.scope_kind.ScopeKind.TheVariants.{Subprogram, Inlined}
 use Rattle.dwarf_entries.specs.declared.scope.Scope.{Scope as Kept}
-use Rattle.dwarf_walk.specs.declared.scope_kind.ScopeKind.{ScopeKind}
-use Rattle.dwarf_entries.specs.Scopes.{Scope, Own, own_of, ranges_at}
+use Rattle.dwarf_entries.specs.Scopes.{Scope, Own, own_of}
 use Rattle.dwarf_entries.specs.Order.{HasDataOf}
-use Rattle.std.specs.List.{list_any}
-use Rattle.addr_table.specs.Rows.{row_at, holds}
-use Rattle.addr_table.specs.Chains.{is_kind, is_at, chain_below, chain_of}
+use Rattle.addr_table.specs.Rows.{row_at}
+use Rattle.addr_table.specs.Chains.{is_at, chain_below, chain_of}
 use Rattle.addr_table.specs.Places.{last, scope_at}
 use Rattle.addr_table.specs.Private.Scans.{is_next, scan_left}
 use Rattle.addr_table.proofs.Scanning.WordLaws.{row-is-first}
@@ -163,15 +161,6 @@ pub scanned-all : (scopes : List Scope) (a i : ℕ) (last : Option ℕ) (end : �
 scanned-all scopes a i last end le h = sym (ap (scan_left a last end) (drop_all i scopes le)) ∙ h
 
 -- ---- the data of a scope of the program
-
-pub returned-at : (kind : ScopeKind) (a : ℕ) (scopes : List Scope) (k : Kept) (s : Scope)
-    (b c : Bool)
-    → HasDataOf scopes k s
-    → b ≡ is_kind kind (own_of k).kind → c ≡ list_any (holds a) (ranges_at scopes (own_of k).number)
-    → (b && c) ≡ is_at kind a s
-returned-at kind a scopes k s b c tells is any =
-    ap (λ z. z && c) (is ∙ ap (λ (o : Own). is_kind kind o.kind) tells.own_is)
-    ∙ ap (λ z. is_kind kind s.kind && z) (any ∙ ap (list_any (holds a)) tells.ranges_are)
 
 pub returned-number : (scopes : List Scope) (k : Kept) (s : Scope) → HasDataOf scopes k s
     → (own_of k).number ≡ s.number

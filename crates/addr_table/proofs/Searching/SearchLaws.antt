@@ -114,15 +114,6 @@ pub record Searching (list : List Segment) (a low high : ℕ) : Type 0 where
   pub before : (d : Segment) (m : ℕ) → m + 1 ≡ low → (get_or list m d).from ≤ a
   pub after : (d : Segment) → high < length list → a < (get_or list high d).from
 
-pub searching-start : (list : List Segment) (a n : ℕ) → n ≡ length list → Searching list a 0 n
-searching-start list a n is =
-    record {
-      order = omega arith;
-      within = omega arith;
-      before = λ d m none. absurd (omega arith);
-      after = λ d lt. absurd (omega arith);
-    }
-
 pub searching-low : (list : List Segment) (a low high m : ℕ) → Searching list a low high → m < high
     → ((d : Segment) → (get_or list m d).from ≤ a)
     → Searching list a (m + 1) high
