@@ -35,6 +35,12 @@ pub reading-ok : {A : Type 0} (r : Result A ReadFault) (x : A) → reading r ≡
 reading-ok (Ok y) x h = cc
 reading-ok (Err e) x h = cc
 
+-- if a test and the step after it return Ok, the test is false
+pub refuse_if-ok : {B : Type 0} (b : Bool) (c : Cause) (f : Unit {0} → Result B Cause) (y : B)
+    → (refuse_if b c >>= f) ≡ Ok y → (b ≡ false) × (f tt ≡ Ok y)
+refuse_if-ok true c f y h = cc
+refuse_if-ok false c f y h = (refl, h)
+
 -- case analysis on a conditional
 pub chosen : {B : Type 0} (b : Bool) (x y z : B) → cond b x y ≡ z → (P : Type 0)
     → (b ≡ true → x ≡ z → P)
