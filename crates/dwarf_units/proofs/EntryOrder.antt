@@ -1,5 +1,5 @@
 -- The offsets of the entries of a unit are increasing, up to its end.
-use Rattle.std.proofs.Common.{◌≡◌, ℕ, zero, suc, ◌+◌, ◌<◌, ◌≤◌, List, [], ◌∷◌, ◌++◌, length, take}
+use Rattle.std.proofs.Common.{◌≡◌, ℕ, zero, suc, ◌+◌, ◌≤◌, List, [], ◌∷◌, ◌++◌, length, take}
 use Rattle.std.proofs.Common.{map, subst, arith, length-take, add-one}
 use Rattle.std.specs.Prelude.{Ok, nat_lt}
 use Rattle.std.specs.List.{filter_map}
@@ -12,7 +12,7 @@ use Rattle.dwarf_bytes.proofs.Items.ItemLaws.{Lists-within, Lists-each}
 use Rattle.dwarf_forms.specs.Declarations.{Declaration}
 use Rattle.dwarf_bytes.proofs.Numbers.Moves.{same-ok}
 use Rattle.dwarf_units.specs.declared.unit_headers.UnitHeader.{UnitHeader}
-use Rattle.dwarf_units.specs.Entries.{Node, Entry, Null, LocatedNode, Die, AreDepths, depth_after}
+use Rattle.dwarf_units.specs.Entries.{LocatedNode, Die, AreDepths, depth_after}
 use Rattle.dwarf_units.specs.Entries.{node_at, die_of, entries_of}
 use Rattle.dwarf_units.specs.Private.Rising.{RiseWithin}
 use Rattle.dwarf_units.proofs.NodeLaws.{node_at-facts}
@@ -38,17 +38,8 @@ list-rises format table unit end size before at [] after h from le within =
     omega (arith, le, within)
 list-rises format table unit end size before at (x ∷ all) after h from le within =
     let here = node_at-facts format table unit before at x h.0 h.1 in
-    by_node x.offset x.depth x.node here.offset_is here.moves.0
-    (λ from le. list-rises format table unit end size (before ++ x ∷ []) h.0 all after h.2 from
-    le (omega (arith, here.moves.1, size)))
-  where
-    by_node : (offset depth : ℕ) (node : Node) → offset ≡ at → at < h.0
-        → ((from : ℕ) → from ≤ h.0 → RiseWithin from end (filter_map die_of all))
-        → RiseWithin from end (filter_map die_of
-        (record { offset = offset; depth = depth; node = node } ∷ all))
-    by_node offset depth (Entry tag children attributes) is lt rest =
-        (omega (arith, is, le), rest (suc offset) (omega (arith, is, lt)))
-    by_node offset depth Null is lt rest = rest from (omega (arith, le, lt))
+    let rest = list-rises format table unit end size (before ++ x ∷ []) h.0 all after h.2 in
+    grind (arith, here.offset_is, here.moves, rest)
 
 -- The entries of a unit are the nodes of its listing that are not null.
 pub list-in : (info : List ℕ) (header : UnitHeader) (table : List Declaration) (dies : List Die)

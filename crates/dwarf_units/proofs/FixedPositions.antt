@@ -1,5 +1,6 @@
 -- The value of an attribute of a fixed size is at its position.
-use Rattle.std.proofs.Common.{◌≡◌, ℕ, ◌+◌, ◌<◌, ◌≤◌, ℤ, pos, negsuc, List, Bool, true, false, cond}
+use Rattle.std.proofs.lemmas.Option.{same_Some}
+use Rattle.std.proofs.Common.{◌≡◌, ℕ, ◌+◌, ◌<◌, ◌≤◌, ℤ, List, Bool, true, false, cond}
 use Rattle.std.proofs.Common.{length, refl, sym, ◌∙◌, arith}
 use Rattle.std.specs.Prelude.{Option, Some, None, Result, Ok, Err, take, drop}
 use Rattle.std.proofs.lemmas.Bool.{le-ltb}
@@ -82,8 +83,7 @@ direct-at format s bytes first n m layout fine is len le =
         }
 
 same-constant : (c : ℤ) (at : ℕ) → number_of (Signed c) at ≡ number_of (Signed c) 0
-same-constant (pos n) at = refl
-same-constant (negsuc n) at = refl
+same-constant c at = grind arith
 
 -- The value of an attribute in its declaration.
 abbrev constant_in : Option ℤ → ℕ

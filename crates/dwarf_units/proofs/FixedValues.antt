@@ -1,10 +1,11 @@
 -- An attribute with a fixed form is read as its value in the layout of the form, or as the
 -- constant of its declaration.
-use Rattle.std.proofs.Common.{◌≡◌, ℕ, ℤ, List, Bool, true, false, cond, refl, ap, sym, ◌∙◌, subst}
-use Rattle.std.specs.Prelude.{Option, Some, Result, Ok, Err, not, ◌==◌, ◌&&◌}
-use Rattle.std.specs.Option.{option_map_or}
-use Rattle.std.proofs.lemmas.Bool.{eqb-true}
-use Rattle.dwarf_bytes.specs.declared.constants.TheConstants.{DW_FORM_INDIRECT, DW_FORM_SDATA}
+use Rattle.std.proofs.lemmas.Bool.{ne_eqb}
+use Rattle.std.proofs.lemmas.Option.{same_Some}
+use Rattle.std.proofs.Common.{arith}
+use Rattle.std.proofs.Common.{◌≡◌, ℕ, ℤ, List, true, false, refl, ap, sym, ◌∙◌}
+use Rattle.std.specs.Prelude.{Option, Some, Result, Ok, Err, ◌==◌}
+use Rattle.dwarf_bytes.specs.declared.constants.TheConstants.{DW_FORM_INDIRECT}
 use Rattle.dwarf_bytes.specs.declared.fault.ReadFault.{ReadFault}
 use Rattle.dwarf_bytes.specs.declared.fault.Cause.{Cause}
 use Rattle.dwarf_bytes.specs.declared.fault.Cause.TheVariants as causes
@@ -16,46 +17,22 @@ use Rattle.dwarf_bytes.specs.Bind.{◌>>=◌}
 use Rattle.dwarf_bytes.specs.Forms.{form_of}
 use Rattle.dwarf_bytes.specs.Contents.{Content, Signed, content_at}
 use Rattle.dwarf_bytes.specs.Items.{refuse_if, reading}
-use Rattle.dwarf_bytes.specs.Numbers.{uleb_at}
 use Rattle.dwarf_forms.specs.declared.values.ValueFault.{ValueFault}
 use Rattle.dwarf_forms.specs.Values.{Value, reading_value as of_value, direct_at, value_at}
-use Rattle.dwarf_units.specs.Attributes.{is_negative, is_negative_count, forms_of, is_among}
+use Rattle.dwarf_units.specs.Attributes.{is_negative, is_negative_count}
 use Rattle.dwarf_units.specs.Attributes.{accepts, number_of}
 use Rattle.dwarf_forms.specs.declared.attribute.AttributeSpecification.{AttributeSpecification}
 use Rattle.dwarf_units.specs.declared.attributes.Attribute.{Attribute}
-use Rattle.dwarf_units.specs.Entries.{reading_value, is_direct, attribute_at}
-
-and_false : (b : Bool) → (b && false) ≡ false
-and_false true = refl
-and_false false = refl
+use Rattle.dwarf_units.specs.Entries.{reading_value, attribute_at}
 
 pub never-count : (name : ℕ) (c : Content) → is_negative c ≡ false
     → is_negative_count name c ≡ false
-never-count name c h =
-    let counts : Bool = option_map_or (λ allowed. is_among allowed DW_FORM_SDATA) (forms_of name)
-    false in
-    subst (λ (b : Bool). (counts && b) ≡ false) (sym h) (and_false counts)
-
-same-form : (f g : Form) → (let some : Form → Option Form = λ k. Some k in some f ≡ some g) → f ≡ g
-same-form f g h = cc
+never-count name c h = grind arith
 
 not-indirect : (form : ℕ) (found : Form) → form_of form ≡ Some found → (found ≡ Indirect → ⊥)
     → (form == DW_FORM_INDIRECT) ≡ false
-not-indirect form found is apart = by_test (form == DW_FORM_INDIRECT) refl
-  where
-    by_test : (b : Bool) → (form == DW_FORM_INDIRECT) ≡ b → b ≡ false
-    by_test true same =
-        let number : form ≡ DW_FORM_INDIRECT = eqb-true form DW_FORM_INDIRECT same in
-        let here : form_of form ≡ Some Indirect = ap form_of number in
-        absurd (apart (same-form found Indirect (sym is ∙ here)))
-    by_test false same = refl
-
--- Reading an attribute up to its value, if the form is direct and accepted.
-direct-chain : {A : Type 0} (test : Bool) (inner : Result (ℕ × ℕ) Cause) (form at : ℕ)
-    (accepted : ℕ → Bool) (read : ℕ × ℕ → Result A Cause) → test ≡ false → accepted form ≡ true
-    → (cond test inner (Ok (form, at)) >>= λ f. refuse_if (not (accepted f.0)) causes.AttrForm
-    >>= λ _. read f) ≡ read (form, at)
-direct-chain test inner form at accepted read fixed_size fine = rw (fixed_size, fine) refl
+not-indirect form found is apart = ne_eqb form DW_FORM_INDIRECT
+    (λ e. apart (same_Some found Indirect (sym is ∙ ap form_of e)))
 
 -- ---- a value that is no negative count
 
@@ -65,24 +42,18 @@ IsFine name (Err e) = Unit {0}
 
 -- ---- the value of an attribute
 
-value-direct : (form : ℕ) (layout : ValueLayout) (format : Format) (constant : Option ℤ)
-    (bytes : List ℕ) (at : ℕ) → form_of form ≡ Some (Direct layout)
-    → value_at form format constant bytes at ≡ direct_at form format bytes at
-unfolding value_at
-value-direct form layout format constant bytes at is = rw (is, value_at) refl
-
 value-constant : (form : ℕ) (format : Format) (constant : Option ℤ) (c : ℤ) (bytes : List ℕ)
     (at : ℕ) → form_of form ≡ Some ImplicitConst → constant ≡ Some c
     → value_at form format constant bytes at ≡ Ok (record { form = form; content = Signed c }, at)
 unfolding value_at
 value-constant form format constant c bytes at is there = rw (is, there, value_at) refl
 
-direct-content : (form : ℕ) (layout : ValueLayout) (format : Format) (bytes : List ℕ) (at : ℕ)
-    → form_of form ≡ Some (Direct layout)
-    → direct_at form format bytes at ≡ (of_value (content_at layout format bytes at)
+value-content : (form : ℕ) (layout : ValueLayout) (format : Format) (constant : Option ℤ)
+    (bytes : List ℕ) (at : ℕ) → form_of form ≡ Some (Direct layout)
+    → value_at form format constant bytes at ≡ (of_value (content_at layout format bytes at)
     >>= λ read. Ok (record { form = form; content = read.0 }, read.1))
-unfolding direct_at
-direct-content form layout format bytes at is = rw (is, direct_at) refl
+unfolding value_at direct_at
+value-content form layout format constant bytes at is = rw (is, value_at) (rw (is, direct_at) refl)
 
 -- ---- the attribute
 
@@ -114,8 +85,15 @@ checked s form value = refuse_if (is_negative_count s.name value.0.content) caus
 checked-fine : (s : AttributeSpecification) (r : Result (Content × ℕ) ReadFault) → IsFine s.name r
     → (reading r >>= as_attribute s) ≡ (reading_value (of_value r >>= as_value s)
     >>= checked s s.form)
-checked-fine s (Ok c) fine = rw fine refl
-checked-fine s (Err e) fine = refl
+checked-fine s r fine = grind arith
+
+-- An attribute whose form is not stored with it is read as a value of its form.
+attribute-direct : (format : Format) (s : AttributeSpecification) (found : Form) (bytes : List ℕ)
+    (at : ℕ) → accepts s.name s.form ≡ true → form_of s.form ≡ Some found
+    → (found ≡ Indirect → ⊥) → attribute_at format s bytes at
+    ≡ (reading_value (value_at s.form format s.constant bytes at) >>= checked s s.form)
+attribute-direct format s found bytes at fine is apart =
+    rw (not-indirect s.form found is apart, fine) refl
 
 -- An attribute whose form has a layout is read by the layout, if its value is no negative count.
 pub in-layout : (format : Format) (s : AttributeSpecification) (layout : ValueLayout)
@@ -124,21 +102,9 @@ pub in-layout : (format : Format) (s : AttributeSpecification) (layout : ValueLa
     → (reading (content_at layout format bytes at) >>= as_attribute s)
     ≡ attribute_at format s bytes at
 in-layout format s layout bytes at fine is valid =
-    let rest : ℕ × ℕ → Result (Attribute × ℕ) Cause =
-    λ form. reading_value (value_at form.0 format s.constant bytes form.1)
-    >>= checked s form.0 in
-    let inner : Result (ℕ × ℕ) Cause = reading (uleb_at bytes at)
-    >>= λ inner. refuse_if (not (is_direct (form_of inner.0))) causes.Form >>= λ _. Ok inner in
-    let chain = direct-chain (s.form == DW_FORM_INDIRECT) inner s.form at
-    (λ form. accepts s.name form) rest (not-indirect s.form (Direct layout) is (λ e. cc))
-    fine in
-    let read : value_at s.form format s.constant bytes at
-    ≡ (of_value (content_at layout format bytes at) >>= as_value s) =
-    value-direct s.form layout format s.constant bytes at is ∙ direct-content s.form layout format
-    bytes at is in
     checked-fine s (content_at layout format bytes at) valid
-    ∙ sym (ap (λ (r : Result (Value × ℕ) ValueFault). reading_value r >>= checked s s.form) read)
-    ∙ sym chain
+    ∙ sym (attribute-direct format s (Direct layout) bytes at fine is (λ e. cc)
+    ∙ rw (value-content s.form layout format s.constant bytes at is) refl)
 
 -- An attribute whose value is in its declaration.
 pub constant-there : (format : Format) (s : AttributeSpecification) (c : ℤ) (bytes : List ℕ)
@@ -152,13 +118,5 @@ pub constant-there : (format : Format) (s : AttributeSpecification) (c : ℤ) (b
       at,
     )
 constant-there format s c bytes at fine is there valid =
-    let rest : ℕ × ℕ → Result (Attribute × ℕ) Cause =
-    λ form. reading_value (value_at form.0 format s.constant bytes form.1)
-    >>= checked s form.0 in
-    let inner : Result (ℕ × ℕ) Cause = reading (uleb_at bytes at)
-    >>= λ inner. refuse_if (not (is_direct (form_of inner.0))) causes.Form >>= λ _. Ok inner in
-    direct-chain (s.form == DW_FORM_INDIRECT) inner s.form at (λ form. accepts s.name form) rest
-    (not-indirect s.form ImplicitConst is (λ e. cc)) fine
-    ∙ ap (λ (r : Result (Value × ℕ) ValueFault). reading_value r >>= checked s s.form)
-    (value-constant s.form format s.constant c bytes at is there)
-    ∙ rw valid refl
+    attribute-direct format s ImplicitConst bytes at fine is (λ e. cc)
+    ∙ rw (value-constant s.form format s.constant c bytes at is there, valid) refl

@@ -1,10 +1,10 @@
 -- Finding the table of a unit in the cache.
 use Rattle.std.proofs.Common.{◌≡◌, ◌⊎◌, inl, inr, ℕ, ◌+◌, ◌<◌, ◌≤◌, List, length, take}
-use Rattle.std.proofs.Common.{length-take-le, ap, sym, ◌∙◌, subst, arith}
-use Rattle.std.specs.Prelude.{Option, Some, None, Ok, IfSome, slice_get, sum_by}
+use Rattle.std.proofs.Common.{length-take-le, sym, ◌∙◌, subst, arith}
+use Rattle.std.specs.Prelude.{Option, Some, Ok, IfSome, slice_get, sum_by}
 use Rattle.std.proofs.lemmas.Bool.{cases_lt}
 use Rattle.std.proofs.lemmas.List.{get_or-take}
-use Rattle.std.proofs.lemmas.Option.{get_or_from_slice_get, none-some, same_Some}
+use Rattle.std.proofs.lemmas.Option.{get_or_from_slice_get, same_Some}
 use Rattle.std.proofs.lemmas.Option.{slice_get-get_or, slice_get_within}
 use Rattle.dwarf_bytes.specs.declared.format.Format.{Format}
 use Rattle.dwarf_forms.specs.Declarations.{Declaration}
@@ -25,8 +25,7 @@ number-is : (section : List ℕ) (tables : List Table) (permanent budget : ℕ) 
     (format : Format) (offset i : ℕ) → AreCached section tables permanent budget numbers
     → IsTableAt format offset tables i → number_at numbers format offset ≡ Some i
 number-is section tables permanent budget numbers format offset i are (table, at, is) =
-    subst (λ (f : Format). number_at numbers f offset ≡ Some i) is.1
-    (subst (λ (k : ℕ). number_at numbers table.format k ≡ Some i) is.0 (are.found i table at))
+    rw (← is.1, ← is.0) (are.found i table at)
 
 pub index-none : (section : List ℕ) (tables : List Table) (permanent budget : ℕ)
     (numbers : Numbers) (format : Format) (offset : ℕ) (found : Option ℕ)
@@ -34,14 +33,13 @@ pub index-none : (section : List ℕ) (tables : List Table) (permanent budget : 
     → number_at numbers format offset ≡ found
     → IfSome found (λ number. IsTableAt format offset tables number → ⊥)
     → AreElsewhere format offset tables
-index-none section tables permanent budget numbers format offset None are none elsewhere i table
-    at is = none-some i (sym none
-    ∙ number-is section tables permanent budget numbers format offset i are (table, at, is))
-index-none section tables permanent budget numbers format offset (Some number) are some elsewhere
-    i table at is =
-    let same : number ≡ i = same_Some number i (sym some
-    ∙ number-is section tables permanent budget numbers format offset i are (table, at, is)) in
-    elsewhere (subst (IsTableAt format offset tables) (sym same) (table, at, is))
+index-none section tables permanent budget numbers format offset found are is elsewhere i table at
+    same = grind (
+      arith,
+      is,
+      elsewhere,
+      number-is section tables permanent budget numbers format offset i are (table, at, same),
+    )
 
 pub index-some : (section : List ℕ) (tables : List Table) (permanent budget number : ℕ)
     (numbers : Numbers) (unit : UnitHeader) → AreCached section tables permanent budget numbers
@@ -61,12 +59,13 @@ index-some section tables permanent budget number numbers unit are is = record {
 got-taken : (tables : List Table) (permanent i : ℕ) (table : Table) → i < permanent
     → permanent ≤ length tables
     → slice_get tables i ≡ Some table → slice_get (take permanent tables) i ≡ Some table
-got-taken tables permanent i table lt within at =
-    slice_get-get_or (take permanent tables) i table
-    (omega (arith, length-take-le permanent tables within, lt))
-    ∙ ap (λ (t : Table). Some t) (get_or-take permanent tables i table lt
-    ∙ get_or_from_slice_get tables
-    i table table at)
+got-taken tables permanent i table lt within at = grind (
+  arith,
+  length-take-le permanent tables within,
+  get_or-take permanent tables i table lt,
+  get_or_from_slice_get tables i table table at,
+  slice_get-get_or (take permanent tables) i table,
+)
 
 -- A cached table is permanent, or exceeds the limit.
 pub index-stays : (section : List ℕ) (tables : List Table) (permanent budget number : ℕ)
@@ -109,11 +108,12 @@ index-number k unit number is = (
 pub index-fits : (k : CachedTables) (unit : UnitHeader) (number left : ℕ) (t : Table)
     → IsIndexOf k unit number → slice_get k.tables number ≡ Some t
     → length t.declarations ≤ left → table_read left k.section unit ≡ Ok t.declarations
-index-fits k unit number left t is found few =
-    let same : is.table ≡ t = same_Some is.table t (sym is.found ∙ found) in
-    subst (λ (u : Table). length u.declarations ≤ left
-    → table_read left k.section unit ≡ Ok u.declarations) same
-    (parsed-again k.section is.table unit.abbreviations left is.parsed is.at.0) few
+index-fits k unit number left t is found few = grind (
+  arith,
+  is.found,
+  found,
+  parsed-again k.section is.table unit.abbreviations left is.parsed is.at.0,
+)
 
 -- .. and refused if it is not.
 pub index-long : {X : Type 0} (k : CachedTables) (unit : UnitHeader) (number left : ℕ) (t : Table)
@@ -121,6 +121,5 @@ pub index-long : {X : Type 0} (k : CachedTables) (unit : UnitHeader) (number lef
     → table_read left k.section unit ≡ Ok read → left ≤ declarations_limit
     → left < length t.declarations → X
 index-long k unit number left t read is found is_read few past =
-    let same : is.table ≡ t = same_Some is.table t (sym is.found ∙ found) in
     parsed-too-long k.section is.table unit.abbreviations left read is.parsed is.at.0 is_read few
-    (omega (arith, past, ap (λ (u : Table). length u.declarations) same))
+    (grind (arith, is.found, found))

@@ -1,18 +1,17 @@
 -- Adding one more table to the cache.
-use Rattle.std.proofs.Common.{◌≡◌, ◌⊎◌, inl, inr, ℕ, ◌+◌, ◌-◌, ◌<◌, ◌≤◌, List, [], ◌∷◌, ◌++◌}
-use Rattle.std.proofs.Common.{length, length-append, take, length-take-le, false, refl, ap, sym}
-use Rattle.std.proofs.Common.{◌∙◌, subst, arith}
-use Rattle.std.specs.Prelude.{Some, slice_get, sum_by, nat_le}
+use Rattle.std.proofs.Common.{◌≡◌, ◌⊎◌, ℕ, ◌+◌, ◌-◌, ◌<◌, ◌≤◌, List, [], ◌∷◌, ◌++◌}
+use Rattle.std.proofs.Common.{length, length-append, take, length-take-le, refl, sym}
+use Rattle.std.proofs.Common.{arith}
+use Rattle.std.specs.Prelude.{Some, slice_get}
 use Rattle.std.proofs.Math.Seq.{take-append_seam, take-length}
-use Rattle.std.proofs.lemmas.Bool.{le-leb}
 use Rattle.std.proofs.lemmas.Grind.{common_steps}
 use Rattle.std.proofs.lemmas.List.Sums.{sum_by_push}
-use Rattle.std.proofs.lemmas.Option.{same_Some, slice_get_within}
+use Rattle.std.proofs.lemmas.Option.{slice_get_within}
 use Rattle.dwarf_units.specs.declared.numbers.Numbers.{Numbers}
 use Rattle.dwarf_units.specs.Private.AbbreviationTables.{Table, table_size}
 use Rattle.dwarf_units.specs.Private.Tables.{AreCached, AreElsewhere, CachedTables, IsParsedFrom}
-use Rattle.dwarf_units.specs.Private.Tables.{size_limit, with_table}
-use Rattle.dwarf_units.proofs.StoredLaws.{AreFound, Sets, found-added}
+use Rattle.dwarf_units.specs.Private.Tables.{with_table}
+use Rattle.dwarf_units.proofs.StoredLaws.{Sets, found-added}
 use Rattle.dwarf_units.proofs.TableLaws.{last-at, parsed-after}
 
 abbrev pub cached : List ℕ → List Table → ℕ → CachedTables
@@ -29,18 +28,13 @@ pub cached-permanent : (section : List ℕ) (tables after : List Table)
     → AreCached section after now (budget - size) next
 cached-permanent section tables after permanent budget now size numbers next table elsewhere sets
     parsed is size_is fits now_is all =
-    let whole : take now after ≡ after =
-    subst (λ (k : ℕ). take k after ≡ after) (sym now_is) (take-length after) in
-    let sum : sum_by table_size after
-    ≡ sum_by table_size (take permanent tables) + table_size table =
-    ap (λ (ts : List Table). sum_by table_size ts) is
-    ∙ sum_by_push table_size (take permanent tables) table in
+    let whole : take now after ≡ after = rw now_is (take-length after) in
+    let sum = sum_by_push table_size (take permanent tables) table in
     record {
       parsed = parsed-after section tables after permanent table all.parsed parsed is;
-      found = subst (λ (ts : List Table). AreFound next ts) (sym is)
+      found = rw is
           (found-added section tables permanent budget numbers next table elsewhere sets all);
-      counted = ap (λ (ts : List Table). budget - size + sum_by table_size ts) whole
-          ∙ omega (arith, sum, size_is, fits, all.counted);
+      counted = rw (whole, is) (omega (arith, sum, size_is, fits, all.counted));
       within = omega (arith, now_is);
       one = omega (arith, now_is);
       past = λ t at. absurd (omega (arith, slice_get_within after now t at, now_is));
@@ -57,23 +51,20 @@ cached-temporary section tables after permanent budget size numbers next table e
     parsed is size_is past all =
     let before : List Table = take permanent tables in
     let len : length before ≡ permanent = length-take-le permanent tables all.within in
-    let more : length (before ++ table ∷ []) ≡ permanent + 1 = length-append before (table ∷ [])
-    ∙ ap (λ (k : ℕ). k + 1) len in
+    let more : length (before ++ table ∷ []) ≡ permanent + 1 =
+    omega (arith, length-append before (table ∷ []), len) in
     let front : take permanent (before ++ table ∷ []) ≡ before =
-    subst (λ (k : ℕ). take k (before ++ table ∷ []) ≡ before) len
-    (take-append_seam before (table ∷ [])) in
+    rw len at (take-append_seam before (table ∷ [])) in
     let last : slice_get (before ++ table ∷ []) permanent ≡ Some table =
     last-at before (before ++ table ∷ []) permanent table refl (sym len) in
-    subst (λ (ts : List Table). AreCached section ts permanent budget next) (sym is) (record {
+    rw is (record {
       parsed = parsed-after section tables (before ++ table ∷ []) permanent table all.parsed parsed
           refl;
       found = found-added section tables permanent budget numbers next table elsewhere sets all;
-      counted = ap (λ (ts : List Table). budget + sum_by table_size ts) front ∙ all.counted;
+      counted = rw front all.counted;
       within = omega (arith, more);
       one = omega (arith, more);
-      past = λ t at. subst (λ (e : Table). budget < table_size e) (same_Some table t (sym last
-          ∙ at))
-          (omega (arith, past, size_is));
+      past = λ t at. grind (arith, last, at, past, size_is);
     })
 
 -- The contents of the cache after a table is added.
@@ -84,28 +75,12 @@ pub contents-added : (before : CachedTables) (section : List ℕ) (tables after 
     → ((size ≤ budget) × (now ≡ length after)) ⊎ ((budget < size) × (now ≡ permanent))
     → cached section after now ≡ with_table before table
 contents-added before section tables after permanent budget now size numbers table view is size_is
-    all kind = rw (← view) (by_kind kind)
-  where
-    more : List Table
-    more = take permanent tables ++ table ∷ []
-
-    sum : sum_by table_size more ≡ sum_by table_size (take permanent tables) + table_size table
-    sum = sum_by_push table_size (take permanent tables) table
-
-    gt-leb : (a b : ℕ) → b < a → nat_le a b ≡ false
-    gt-leb a b h = grind (arith, common_steps)
-
-    by_kind : ((size ≤ budget) × (now ≡ length after)) ⊎ ((budget < size) × (now ≡ permanent))
-        → cached section after now ≡ with_table (cached section tables permanent) table
-    by_kind (inl (fits, last)) = rw (
-      last,
+    all kind = rw (← view, is) (grind (
+      arith,
+      common_steps,
+      kind,
+      size_is,
+      all.counted,
       is,
-      le-leb (sum_by table_size more) (size_limit section)
-          (omega (arith, sum, size_is, fits, all.counted)),
-    ) refl
-    by_kind (inr (past, same)) = rw (
-      same,
-      is,
-      gt-leb (sum_by table_size more) (size_limit section)
-          (omega (arith, sum, size_is, past, all.counted)),
-    ) refl
+      sum_by_push table_size (take permanent tables) table,
+    ))

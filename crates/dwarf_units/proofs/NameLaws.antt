@@ -1,6 +1,7 @@
 -- The names of the used attributes, and their codes.
-use Rattle.std.proofs.Common.{◌≡◌, ℕ, List, [], ◌∷◌, Bool, true, false, refl, ap, sym, subst, ◌∙◌}
-use Rattle.std.specs.Prelude.{Some, None, ◌==◌, find, if◌then◌else◌}
+use Rattle.std.proofs.Common.{arith}
+use Rattle.std.proofs.Common.{◌≡◌, ℕ, List, [], ◌∷◌, Bool, true, false, refl, ap, sym, ◌∙◌}
+use Rattle.std.specs.Prelude.{Some, None, ◌==◌, find}
 use Rattle.std.proofs.lemmas.Bool.{ne_eqb, eqb-true}
 use Rattle.dwarf_units.specs.declared.used_name.UsedName.{UsedName}
 use Rattle.dwarf_units.specs.declared.used_name.UsedName.TheVariants.{Name, LinkageName}
@@ -13,28 +14,11 @@ use Rattle.dwarf_units.specs.Attributes.{is_used}
 use Rattle.dwarf_units.specs.Private.Names.{name_of, used_names, used_name}
 
 pub named : (name : UsedName) → used_name (name_of name) ≡ Some name
-named Name = refl
-named LinkageName = refl
-named AbstractOrigin = refl
-named Specification = refl
-named LowPc = refl
-named HighPc = refl
-named Ranges = refl
-named CallFile = refl
-named CallLine = refl
-named StmtList = refl
-named StrOffsetsBase = refl
-named AddrBase = refl
-named RnglistsBase = refl
+named name = grind arith
 
 found-holds : {X : Type 0} (p : X → Bool) (xs : List X) (x : X) → find p xs ≡ Some x → p x ≡ true
 found-holds p [] x is = cc
-found-holds p (y ∷ ys) x is = by_test (p y) refl is (found-holds p ys x)
-  where
-    by_test : (b : Bool) → p y ≡ b → (if b then Some y else find p ys) ≡ Some x
-        → (find p ys ≡ Some x → p x ≡ true) → p x ≡ true
-    by_test true here found behind = let same : y ≡ x = cc in subst (λ z. p z ≡ true) same here
-    by_test false here found behind = behind found
+found-holds p (y ∷ ys) x is = let rest = found-holds p ys x in grind arith
 
 pub found-number : (number : ℕ) (name : UsedName) → used_name number ≡ Some name
     → number ≡ name_of name
@@ -44,19 +28,7 @@ found-number number name is = sym (eqb-true (name_of name) number
 -- ---- whether an attribute is used
 
 number-used : (name : UsedName) → is_used (name_of name) ≡ true
-number-used Name = refl
-number-used LinkageName = refl
-number-used AbstractOrigin = refl
-number-used Specification = refl
-number-used LowPc = refl
-number-used HighPc = refl
-number-used Ranges = refl
-number-used CallFile = refl
-number-used CallLine = refl
-number-used StmtList = refl
-number-used StrOffsetsBase = refl
-number-used AddrBase = refl
-number-used RnglistsBase = refl
+number-used name = grind arith
 
 pub used-some : (number : ℕ) (name : UsedName) → used_name number ≡ Some name
     → is_used number ≡ true

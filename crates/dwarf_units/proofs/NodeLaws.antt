@@ -1,14 +1,15 @@
 -- The offset, depth and end of a node of a unit.
-use Rattle.std.proofs.Common.{◌≡◌, ℕ, List, length, ap, sym, subst}
-use Rattle.std.specs.Prelude.{Result, Ok, nat_le}
+use Rattle.std.proofs.Common.{arith}
+use Rattle.std.proofs.Common.{◌≡◌, ℕ, List, ap, sym, subst}
+use Rattle.std.specs.Prelude.{Result, Ok}
 use Rattle.std.specs.List.{list_any}
 use Rattle.dwarf_bytes.specs.declared.fault.Cause.{Cause}
 use Rattle.dwarf_bytes.specs.declared.format.Format.{Format}
 use Rattle.dwarf_bytes.specs.Items.{Next, Item}
-use Rattle.dwarf_bytes.proofs.Numbers.Advance.{MovesOn, after-bind, chosen}
+use Rattle.dwarf_bytes.proofs.Numbers.Advance.{MovesOn}
 use Rattle.dwarf_forms.specs.Declarations.{Declaration}
 use Rattle.dwarf_bytes.proofs.Numbers.Moves.{same-item}
-use Rattle.dwarf_units.specs.Entries.{Node, LocatedNode, depth_after, is_root, node_at_depth}
+use Rattle.dwarf_units.specs.Entries.{Node, LocatedNode, depth_after, is_root}
 use Rattle.dwarf_units.specs.Entries.{node_at}
 use Rattle.dwarf_units.proofs.EntryAdvances.{node_at_depth-moves}
 
@@ -39,10 +40,10 @@ pub node_at-facts : (format : Format) (table : List Declaration) (unit : List �
     (before : List LocatedNode) (at : ℕ) (x : LocatedNode) (after : ℕ)
     → node_at format table unit before at ≡ Ok (Item x after) → NodeFacts unit before at x after
 node_at-facts format table unit before at x after h =
-    let P : Type 0 = NodeFacts unit before at x after in
-    chosen (nat_le (length unit) at) _ _ (Ok (Item x after)) h P (λ _ is. cc) (λ _ h1.
-    after-bind (node_at_depth format table (depth_after before) (list_any is_root before) unit at) _
-    (Item x after) h1 P (λ node node_is last.
-    facts_of unit before at node.0 node.1 x after
-    (node_at_depth-moves format table (depth_after before) (list_any is_root before) unit at node
-    node_is) last))
+    let moves = node_at_depth-moves format table (depth_after before) (list_any is_root before)
+    unit at in
+    record {
+      offset_is = grind arith;
+      depth_is = grind arith;
+      moves = grind (arith, moves);
+    }

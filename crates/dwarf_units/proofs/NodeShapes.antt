@@ -1,10 +1,11 @@
 -- The precomputed shapes of nodes, and the nodes that have them.
-use Rattle.std.proofs.Common.{◌≡◌, ℕ, ◌+◌, ◌<◌, ◌≤◌, ◌⊎◌, inl, inr, List, [], ◌∷◌, ◌++◌, Bool, true}
-use Rattle.std.proofs.Common.{false, cond, length, length-append, refl, ap, sym, ◌∙◌, subst, arith}
-use Rattle.std.specs.Prelude.{Option, Some, None, Result, Ok, Err, nat_lt, ◌==◌}
+use Rattle.std.proofs.lemmas.Grind.{common_steps}
+use Rattle.std.proofs.Common.{◌≡◌, ℕ, ◌+◌, ◌<◌, ◌≤◌, List, [], ◌∷◌, ◌++◌, Bool, true}
+use Rattle.std.proofs.Common.{false, cond, length, length-append, refl, ap, ◌∙◌, arith}
+use Rattle.std.specs.Prelude.{Option, Some, None, Result, Ok, Err, ◌==◌}
 use Rattle.dwarf_bytes.specs.declared.fault.Cause.{Cause}
-use Rattle.std.specs.Prelude.{drop, option_and_then, option_map, slice_get}
-use Rattle.std.proofs.lemmas.Bool.{le-ltb, ltb-true, ne_eqb}
+use Rattle.std.specs.Prelude.{drop, option_and_then, slice_get}
+use Rattle.std.proofs.lemmas.Bool.{le-ltb, ne_eqb}
 use Rattle.std.proofs.lemmas.List.{drop_more}
 use Rattle.std.proofs.lemmas.Option.{get_or_from_slice_get, option_and_then_some, same_Some}
 use Rattle.std.proofs.lemmas.Option.{slice_get_within}
@@ -14,7 +15,6 @@ use Rattle.dwarf_bytes.specs.Numbers.{uleb_at}
 use Rattle.dwarf_bytes.proofs.Numbers.LebEncodings.{uleb-again}
 use Rattle.dwarf_forms.specs.Declarations.{Declaration}
 use Rattle.dwarf_forms.specs.declared.attribute.AttributeSpecification.{AttributeSpecification}
-use Rattle.abbreviation_memo.specs.declared.shared.TheConstants.{UNSHARED}
 use Rattle.dwarf_units.specs.declared.attributes.Attribute.{Attribute}
 use Rattle.dwarf_forms.proofs.Elements.{at-last}
 use Rattle.dwarf_units.specs.declared.node_shape.NodeShape.{NodeShape}
@@ -22,12 +22,10 @@ use Rattle.dwarf_units.specs.Entries.{Entry, Null, attributes_at, declaration_of
 use Rattle.dwarf_units.specs.Entries.{depth_limit}
 use Rattle.dwarf_units.specs.Private.NodeShapes.{AreShapes, IsFixedSizeNode, code_limit}
 use Rattle.dwarf_units.specs.NodeShapes.{null_shape}
-use Rattle.dwarf_units.specs.Private.NodeShapes.{shape_at, shape_count}
+use Rattle.dwarf_units.specs.Private.NodeShapes.{shape_at}
 use Rattle.dwarf_units.specs.Private.NodeShapes.{shape_of, shape_of_code}
 use Rattle.dwarf_units.specs.Private.Runs.{Run, Stretch, fixed_size, runs_at, runs_of}
-use Rattle.dwarf_units.specs.Private.StoredAttributes.{stored_attributes_at}
 use Rattle.dwarf_units.specs.Private.AbbreviationTables.{Table}
-use Rattle.dwarf_bytes.proofs.Numbers.Moves.{same-ok}
 use Rattle.dwarf_units.proofs.FixedPositions.{block-there}
 use Rattle.dwarf_units.proofs.RunReads.{runs-read}
 use Rattle.dwarf_units.proofs.StoredReads.{stored_all}
@@ -39,14 +37,9 @@ pub shapes-more : (format : Format) (ds : List Declaration) (code : ℕ)
     → shape ≡ shape_of_code format ds code → AreShapes format ds (code + 1) (shapes ++ shape ∷ [])
 shapes-more format ds code shapes shape so_far is = record {
   len = omega (arith, so_far.len, length-append shapes (shape ∷ []));
-  each = λ k other at. by_place k other (at-last shapes shape other k at);
+  each = λ k other at.
+      grind (arith, at-last shapes shape other k at, so_far.each k other, so_far.len, is);
 }
-  where
-    by_place : (k : ℕ) (other : Option NodeShape) → (slice_get shapes k ≡ Some other)
-        ⊎ ((k ≡ length shapes) × (shape ≡ other)) → other ≡ shape_of_code format ds k
-    by_place k other (inl before) = so_far.each k other before
-    by_place k other (inr last) = sym last.1 ∙ (is
-        ∙ ap (λ (n : ℕ). shape_of_code format ds n) (sym (last.0 ∙ so_far.len)))
 
 -- ---- a node with a shape
 
@@ -66,98 +59,61 @@ one-byte bytes at code there small = uleb-again bytes at code (at + 1) (record {
   next_is = refl;
 })
 
-test-some : {A : Type 0} (b : Bool) (o : Option A) (x : A) → cond b o None ≡ Some x
-    → (b ≡ true) × (o ≡ Some x)
-test-some true o x h = (refl, h)
-test-some false o x h = cc
-
-mapped-some : {A : Type 0} (f : ℕ → A) (o : Option ℕ) (x : A) → option_map f o ≡ Some x
-    → (n : ℕ) × (o ≡ Some n) × (f n ≡ x)
-mapped-some f None x h = cc
-mapped-some f (Some n) x h = (n, refl, same_Some (f n) x h)
-
-same-end : (end last : ℕ) → (let none : List Attribute = [] in
-    let first : Result (List Attribute × ℕ) Cause = Ok (none, end) in first) ≡ Ok ([], last)
-    → end ≡ last
-same-end end last h = ap (λ (r : List Attribute × ℕ). r.1) (same-ok ([], end) ([], last) h)
+shape-parts : (format : Format) (d : Declaration) (shape : NodeShape)
+    → shape_of format d ≡ Some shape → (fixed_size (runs_of format d.attributes) ≡ Some shape.len)
+    × (shape.is_null ≡ false) × (shape.tag ≡ d.tag) × (shape.children ≡ d.children)
+shape-parts format d shape h = grind arith
 
 -- Attributes that all have a fixed size end after this size.
 fixed-there : (format : Format) (declared : List AttributeSpecification) (bytes : List ℕ)
     (at size : ℕ) → fixed_size (runs_of format declared) ≡ Some size → at + size ≤ length bytes
     → (all : List Attribute) × (attributes_at format declared bytes at ≡ Ok (all, at + size))
-fixed-there format declared bytes at size is le =
-    by_runs (runs_of format declared).runs (runs_of format declared).rest is
-    (runs-read false format declared bytes at (omega (arith, le)))
+fixed-there format declared bytes at size is le = by_read (attributes_at format declared bytes at)
+    (by_runs (runs_of format declared).runs (runs_of format declared).rest is
+    ∙ runs-read false format declared bytes at (omega (arith, le)))
   where
-    by_read : (end : ℕ) (r : Result (List Attribute × ℕ) Cause) → Ok ([], end) ≡ (r
-        >>= stored_all false) → end ≡ at + size → (all : List Attribute) × (r ≡ Ok (all, at + size))
-    by_read end (Ok all) read same =
-        (all.0, ap (λ (k : ℕ). Ok (all.0, k)) (sym (same-end end all.1 read) ∙ same))
-    by_read end (Err e) read same = cc
-
     by_runs : (runs : List Run) (rest : Stretch)
         → cond (length runs == 0) (Some rest.len) None ≡ Some size
-        → runs_at false format runs rest bytes at
-        ≡ stored_attributes_at false format declared bytes at
-        → (all : List Attribute) × (attributes_at format declared bytes at ≡ Ok (all, at + size))
-    by_runs [] rest is read =
-        let len : rest.len ≡ size = same_Some rest.len size is in
-        by_read (at + rest.len) (attributes_at format declared bytes at)
-        (rw (block-there rest.len bytes at (omega (arith, len, le))).1 at read) (omega (arith, len))
-    by_runs (run ∷ runs) rest is read = by_test (length (run ∷ runs) == 0)
-        (ne_eqb (length (run ∷ runs)) 0 (λ e. absurd (omega (arith, e)))) is
-      where
-        by_test : (b : Bool) → b ≡ false → cond b (Some rest.len) None ≡ Some size
-            → (all : List Attribute)
-            × (attributes_at format declared bytes at ≡ Ok (all, at + size))
-        by_test true apart is = cc
-        by_test false apart is = cc
+        → Ok ([], at + size) ≡ runs_at false format runs rest bytes at
+    by_runs [] rest is = let block = (block-there size bytes at le).1 in grind arith
+    by_runs (run ∷ runs) rest is = grind arith
+
+    by_read : (r : Result (List Attribute × ℕ) Cause) → Ok ([], at + size)
+        ≡ (r >>= stored_all false) → (all : List Attribute) × (r ≡ Ok (all, at + size))
+    by_read (Ok all) same = (all.0, grind (arith, same))
+    by_read (Err e) same = cc
 
 pub shape-there : (table : Table) (depth code : ℕ) (unit : List ℕ) (at : ℕ) (shape : NodeShape)
     → shape_at table code ≡ Some shape → slice_get unit at ≡ Some code → 0 < depth
     → depth ≤ depth_limit → at + 1 + shape.len ≤ length unit
     → IsFixedSizeNode table depth unit at (shape, at + 1 + shape.len)
 shape-there table depth code unit at shape is there below within fits =
-    by_code (code == 0) refl few.1
+    by_code (code == 0) refl (grind (arith, is))
   where
-    few : (nat_lt code (shape_count table.declarations) ≡ true)
-        × (shape_of_code table.format table.declarations code ≡ Some shape)
-    few = test-some (nat_lt code (shape_count table.declarations))
-        (shape_of_code table.format table.declarations code) shape is
-
     coded : uleb_at unit at ≡ Ok (code, at + 1)
-    coded = one-byte unit at code there
-        (omega (arith, ltb-true code (shape_count table.declarations) few.0))
-
-    IsThere : NodeShape → Type 0
-    IsThere s = IsFixedSizeNode table depth unit at (s, at + 1 + s.len)
+    coded = one-byte unit at code there (grind (arith, common_steps, is))
 
     by_found : (code == 0) ≡ false → (d : Declaration)
         → declaration_of table.declarations code ≡ Some d
-        → shape_of table.format d ≡ Some shape → IsThere shape
+        → shape_of table.format d ≡ Some shape
+        → IsFixedSizeNode table depth unit at (shape, at + 1 + shape.len)
     by_found some d found h =
-        let fixed = mapped-some (λ len. record {
-          is_null = false;
-          tag = d.tag;
-          children = d.children;
-          len = len;
-        }) (fixed_size (runs_of table.format d.attributes)) shape
-        (test-some (nat_lt (length d.attributes) UNSHARED) _ shape h).1 in
-        let size : fixed.0 ≡ shape.len = ap (λ (x : NodeShape). x.len) fixed.2 in
-        let read = fixed-there table.format d.attributes unit (at + 1) fixed.0 fixed.1
-        (omega (arith, size, fits)) in
+        let parts = shape-parts table.format d shape h in
+        let read = fixed-there table.format d.attributes unit (at + 1) shape.len parts.0
+        (omega (arith, fits)) in
         let deeper : (depth == 0) ≡ false = ne_eqb depth 0 (λ e. absurd (omega (arith, e, below)))
-        in subst IsThere fixed.2 (
+        in (
           Entry d.tag d.children read.0,
           rw (coded, some, found, deeper, le-ltb depth_limit depth within, read.1) refl,
-          (refl, refl, refl),
+          (parts.1, parts.2, parts.3),
         )
 
     by_code : (b : Bool) → (code == 0) ≡ b
         → cond b (Some null_shape) (option_and_then (shape_of table.format)
-        (declaration_of table.declarations code)) ≡ Some shape → IsThere shape
+        (declaration_of table.declarations code)) ≡ Some shape
+        → IsFixedSizeNode table depth unit at (shape, at + 1 + shape.len)
     by_code true zero h =
         let end : at + 1 + 0 ≡ at + 1 = omega arith in
-        subst IsThere (same_Some null_shape shape h) (Null, rw (coded, zero, end) refl, refl)
+        rw (← same_Some null_shape shape h) (Null, rw (coded, zero, end) refl, refl)
     by_code false some h = option_and_then_some (shape_of table.format)
         (declaration_of table.declarations code) shape h (by_found some)

@@ -1,12 +1,13 @@
 -- The permanently cached tables, as one more table is added.
+use Rattle.std.proofs.Common.{take_all}
 use Rattle.std.proofs.Common.{◌≡◌, ◌⊎◌, inl, inr, Bool, get_or, ℕ, ◌+◌, ◌<◌, ◌≤◌, List}
-use Rattle.std.proofs.Common.{[], ◌∷◌, ◌++◌, length, take, length-take-le, true, false, refl, ap}
-use Rattle.std.proofs.Common.{sym, ◌∙◌, subst, arith, append-nil}
+use Rattle.std.proofs.Common.{[], ◌∷◌, ◌++◌, length, take, length-take-le, true, false, refl}
+use Rattle.std.proofs.Common.{sym, arith, append-nil}
 use Rattle.std.specs.Prelude.{Some, slice_get, sum_by, nat_le, if◌then◌else◌}
 use Rattle.std.specs.List.{All}
 use Rattle.std.proofs.Math.Seq.{take-append_seam, take-length}
 use Rattle.std.proofs.lemmas.Grind.{common_steps}
-use Rattle.std.proofs.lemmas.List.{get_or-take, take_more, length-take}
+use Rattle.std.proofs.lemmas.List.{take_more}
 use Rattle.std.proofs.lemmas.List.Elements.{All-push}
 use Rattle.std.proofs.lemmas.List.Sums.{sum_by_push, sum_by-append}
 use Rattle.dwarf_forms.proofs.Elements.{at-front}
@@ -22,7 +23,7 @@ use Rattle.dwarf_units.proofs.TableLaws.{parsed-at, last-at}
 pub stays-on : (old new : CachedTables) (unit : UnitHeader) → StaysCached old new
     → new.section ≡ old.section → IsCachedOrTooLarge old unit → IsCachedOrTooLarge new unit
 stays-on old new unit grows same (table, at, parsed, is) =
-    (table, at, subst (λ (s : List ℕ). IsParsedFrom s table) (sym same) parsed, by_case is)
+    (table, at, rw same parsed, by_case is)
   where
     by_case : ((number : ℕ) × (slice_get (take old.permanent old.tables) number ≡ Some table))
         ⊎ (size_limit old.section < sum_by table_size (take old.permanent old.tables) + table_size
@@ -32,17 +33,12 @@ stays-on old new unit grows same (table, at, parsed, is) =
         table)
     by_case (inl there) = inl (
       there.0,
-      ap (λ (ts : List Table). slice_get ts there.0) grows.1
-          ∙ at-front (take old.permanent old.tables) grows.0 there.0 table there.1,
+      rw grows.1
+          (at-front (take old.permanent old.tables) grows.0 there.0 table there.1),
     )
-    by_case (inr large) =
-        let sum : sum_by table_size (take new.permanent new.tables)
-        ≡ sum_by table_size (take old.permanent old.tables) + sum_by table_size grows.0 =
-        ap (λ (ts : List Table). sum_by table_size ts) grows.1
-        ∙ sum_by-append table_size (take old.permanent old.tables) grows.0 in
-        let limit : size_limit new.section ≡ size_limit old.section =
-        ap (λ (s : List ℕ). size_limit s) same in
-        inr (omega (arith, large, sum, limit))
+    by_case (inr large) = rw (grows.1, same)
+        (inr (omega
+        (arith, large, sum_by-append table_size (take old.permanent old.tables) grows.0)))
 
 -- A table that is added for a unit stays in the cache, or exceeds the limit.
 pub stays-with : (old : CachedTables) (unit : UnitHeader) (table : Table)
@@ -54,9 +50,6 @@ stays-with old unit table within at parsed =
     by_test before (length-take-le old.permanent old.tables within) refl
     (nat_le (sum_by table_size (before ++ table ∷ [])) (size_limit old.section)) refl
   where
-    gt : (a b : ℕ) → nat_le a b ≡ false → b < a
-    gt a b h = grind (arith, common_steps)
-
     by_test : (before : List Table) → length before ≡ old.permanent → before
         ≡ take old.permanent old.tables
         → (b : Bool) → nat_le (sum_by table_size (before ++ table ∷ [])) (size_limit old.section)
@@ -70,30 +63,16 @@ stays-with old unit table within at parsed =
         IsCachedOrTooLarge new unit × StaysCached old new)
     by_test before len is true fits =
         let tables : List Table = before ++ table ∷ [] in
-        let whole : take (length tables) tables ≡ tables = take-length tables in (
-          (
-            table,
-            at,
-            parsed,
-            inl (
-              length before,
-              ap (λ (ts : List Table). slice_get ts (length before)) whole
-                  ∙ last-at before tables (length before) table refl refl,
-            ),
-          ),
-          (table ∷ [], whole ∙ ap (λ (ts : List Table). ts ++ table ∷ []) is),
-        )
+        let last = last-at before tables (length before) table refl refl in
+        rw (take-length tables, ← is)
+        ((table, at, parsed, inl (length before, last)), (table ∷ [], refl))
     by_test before len is false past =
         let tables : List Table = before ++ table ∷ [] in
         let front : take old.permanent tables ≡ before =
-        subst (λ (k : ℕ). take k tables ≡ before) len (take-append_seam before (table ∷ [])) in
-        let sum : sum_by table_size (take old.permanent tables) ≡ sum_by table_size before =
-        ap (λ (ts : List Table). sum_by table_size ts) front in
-        let large : size_limit old.section < sum_by table_size tables =
-        gt (sum_by table_size tables) (size_limit old.section) past in (
-          (table, at, parsed, inr (omega (arith, sum, large, sum_by_push table_size before table))),
-          ([], front ∙ (is ∙ sym (append-nil (take old.permanent old.tables)))),
-        )
+        rw len at (take-append_seam before (table ∷ [])) in
+        let large : size_limit old.section < sum_by table_size before + table_size table =
+        grind (arith, common_steps, past, sum_by_push table_size before table) in
+        rw (front, ← is) ((table, at, parsed, inr large), ([], sym (append-nil before)))
 
 -- The same for a table that was parsed for the unit.
 pub stays-parsed : (old new : CachedTables) (unit : UnitHeader) (budget left number : ℕ)
@@ -104,8 +83,7 @@ stays-parsed old new unit budget left number within few added =
     let parsed : IsParsedFrom old.section added.table =
     parsed-at old.section budget added.table unit.abbreviations added.within added.at.0 added.read
     (omega (arith, added.counted, few)) in
-    subst (λ (k : CachedTables). IsCachedOrTooLarge k unit × StaysCached old k) (sym added.added)
-    (stays-with old unit added.table within added.at parsed)
+    rw added.added (stays-with old unit added.table within added.at parsed)
 
 -- It holds for the units up to the next index.
 pub stays-next : (old new : CachedTables) (units : List UnitHeader) (index : ℕ) (d : UnitHeader)
@@ -113,18 +91,10 @@ pub stays-next : (old new : CachedTables) (units : List UnitHeader) (index : ℕ
     → IsCachedOrTooLarge new (get_or units index d) → All (IsCachedOrTooLarge old)
     (take index units)
     → All (IsCachedOrTooLarge new) (take (index + 1) units)
-stays-next old new units index d grows same within here all =
-    subst (λ (us : List UnitHeader). All (IsCachedOrTooLarge new) us)
-    (sym (take_more units index d within))
+stays-next old new units index d grows same within here all = rw (take_more units index d within)
     (All-push (IsCachedOrTooLarge new) (take index units) (get_or units index d)
     (λ k u lt. stays-on old new (get_or (take index units) k u) grows same (all k u lt)) here)
 
 pub stays-end : (tables : CachedTables) (units : List UnitHeader) (index : ℕ) → length units ≤ index
     → All (IsCachedOrTooLarge tables) (take index units) → All (IsCachedOrTooLarge tables) units
-stays-end tables units index past all = λ k u lt.
-    let here : get_or (take index units) k u ≡ get_or units k u =
-    get_or-take index units k u (omega (arith, past, lt)) in
-    subst (λ (unit : UnitHeader). IsCachedOrTooLarge tables unit) here (all k u (long k lt))
-  where
-    long : (k : ℕ) → k < length units → k < length (take index units)
-    long k lt = omega (arith, past, lt, length-take index units)
+stays-end tables units index past all = rw (take_all index units past) at all

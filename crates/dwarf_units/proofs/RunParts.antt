@@ -5,7 +5,6 @@ use Rattle.std.proofs.Common.{append-nil}
 use Rattle.std.specs.Prelude.{Option, Some, None, Result, Ok, Err, option_map}
 use Rattle.std.specs.Option.{option_to_list}
 use Rattle.std.proofs.lemmas.List.{map-append}
-use Rattle.std.proofs.lemmas.Bool.{lt-ltb}
 use Rattle.dwarf_bytes.specs.declared.fault.ReadFault.{ReadFault}
 use Rattle.dwarf_bytes.specs.declared.fault.ReadFault.TheVariants as faults
 use Rattle.dwarf_bytes.specs.declared.fault.Cause.{Cause}
@@ -16,7 +15,6 @@ use Rattle.dwarf_bytes.specs.Contents.{Content, content_at}
 use Rattle.dwarf_bytes.specs.Items.{reading}
 use Rattle.dwarf_bytes.specs.Numbers.{block_at}
 use Rattle.dwarf_bytes.specs.Words.{cause_of}
-use Rattle.dwarf_bytes.proofs.Numbers.Moves.{same-ok}
 use Rattle.dwarf_forms.specs.declared.attribute.AttributeSpecification.{AttributeSpecification}
 use Rattle.dwarf_units.specs.declared.attribute_run.LastAttribute.TheVariants.{Unchecked}
 use Rattle.dwarf_units.specs.declared.attribute_run.LastAttribute.TheVariants.{Checked}
@@ -35,7 +33,7 @@ use Rattle.dwarf_units.proofs.EntryAdvances.{attributes-stay}
 use Rattle.dwarf_units.proofs.FixedPositions.{block-there, direct-value}
 use Rattle.dwarf_units.proofs.UncheckedValues.{IsInLayout, unchecked-read}
 use Rattle.dwarf_units.proofs.NameLaws.{found-number, used-none, used-some}
-use Rattle.dwarf_units.proofs.StoredReads.{fault-first, stored_all}
+use Rattle.dwarf_units.proofs.StoredReads.{fault-first}
 use Rattle.dwarf_units.proofs.StoredReads.{with_front}
 
 -- The attributes at these positions if they are stored, otherwise none.
@@ -84,7 +82,7 @@ stored-one keep format s bytes first n end has =
 pub block-short : (n : ℕ) (bytes : List ℕ) (at : ℕ) → length bytes < at + n
     → block_at n bytes at ≡ Err faults.Short
 unfolding block_at
-block-short n bytes at lt = rw (lt-ltb (length bytes) (at + n) lt) refl
+block-short n bytes at lt = grind arith
 
 -- The stored attributes of a list, after those at some positions.
 pub front-more : (keep : Bool) (format : Format) (bytes : List ℕ) (first : ℕ)
@@ -92,18 +90,8 @@ pub front-more : (keep : Bool) (format : Format) (bytes : List ℕ) (first : ℕ
     → ((r >>= with_front (kept_in keep format bytes first more))
     >>= with_front (kept_in keep format bytes first used))
     ≡ (r >>= with_front (kept_in keep format bytes first (used ++ more)))
-front-more keep format bytes first used more (Err e) = refl
-front-more keep format bytes first used more (Ok rest) =
-    ap (λ (l : List Attribute). Ok (l, rest.1)) (by_keep keep)
-  where
-    by_keep : (k : Bool) → kept_in k format bytes first used
-        ++ (kept_in k format bytes first more ++ rest.0)
-        ≡ kept_in k format bytes first (used ++ more) ++ rest.0
-    by_keep true = sym (append_assoc (attributes_in format bytes first used)
-        (attributes_in format bytes first more) rest.0)
-        ∙ ap (λ (l : List Attribute). l ++ rest.0)
-        (sym (map-append (attribute_in format bytes first) used more))
-    by_keep false = refl
+front-more keep format bytes first used more r =
+    grind (arith, append_assoc, map-append (attribute_in format bytes first) used more)
 
 -- ---- the last attribute of a run
 
@@ -111,15 +99,7 @@ pub stored-within : (keep : Bool) (format : Format) (declared : List AttributeSp
     (bytes : List ℕ) (at : ℕ) (x : List Attribute × ℕ) → at ≤ length bytes
     → stored_attributes_at keep format declared bytes at ≡ Ok x → x.1 ≤ length bytes
 stored-within keep format declared bytes at x le is =
-    by_read (attributes_at format declared bytes at) refl is
-  where
-    by_read : (r : Result (List Attribute × ℕ) Cause) → attributes_at format declared bytes at ≡ r
-        → (r >>= stored_all keep) ≡ Ok x → x.1 ≤ length bytes
-    by_read (Ok all) read is =
-        let end : all.1 ≡ x.1 = ap (λ (r : List Attribute × ℕ). r.1)
-        (same-ok (stored_attributes keep all.0, all.1) x is) in
-        omega (arith, end, (attributes-stay format declared bytes at all le read).1)
-    by_read (Err e) read is = cc
+    grind (arith, attributes-stay format declared bytes at)
 
 -- What follows the first n bytes of a run is read as an attribute.
 abbrev pub ReadsLast : Format → ℕ → List UsedPosition → AttributeSpecification → Run → Type 0
@@ -161,13 +141,10 @@ unchecked-one format n used s layout unchecked keep bytes first le =
         ≡ (stored_attributes_at keep format (s ∷ []) bytes (first + n) >>= with_front (kept used))
     by_content (Ok c) read =
         let number : number_in format bytes first (used_value n s) ≡ number_of c.0 c.1 =
-        ap (number_in format bytes first) (direct-value n s layout is.form)
-        ∙ rw ((block-there n bytes first le).1, read) refl in
+        rw (direct-value n s layout is.form, (block-there n bytes first le).1, read) refl in
         let here = stored-one keep format s bytes first n c.1
         (sym is.read ∙ rw (read, number) refl) in
         sym (front-more keep format bytes first used position (Ok ([], c.1)))
-        ∙ ap (λ (l : List Attribute). Ok (kept used ++ l, c.1)) (append-nil (kept position))
-        ∙ sym (ap (λ (r : Result (List Attribute × ℕ) Cause). r >>= with_front (kept used)) here)
-    by_content (Err e) read = sym (ap (λ (r : Result (List Attribute × ℕ) Cause). r
-        >>= with_front (kept used)) (fault-first keep format s [] bytes (first + n) (cause_of e)
-        (sym is.read ∙ rw read refl)))
+        ∙ rw (here, append-nil (kept position)) refl
+    by_content (Err e) read = rw (fault-first keep format s [] bytes (first + n) (cause_of e)
+        (sym is.read ∙ rw read refl)) refl

@@ -1,11 +1,11 @@
 -- Reading attributes in runs is reading them one by one.
 use Rattle.std.proofs.Common.{◌≡◌, ℕ, ◌+◌, ◌<◌, ◌≤◌, ◌⊎◌, inl, inr, List, [], ◌∷◌, ◌++◌, Bool, true}
-use Rattle.std.proofs.Common.{false, cond, length, refl, ap, sym, ◌∙◌, subst, arith, append_assoc}
+use Rattle.std.proofs.Common.{false, cond, length, refl, ap, sym, subst, arith, append_assoc}
 use Rattle.std.proofs.Common.{append-nil}
 use Rattle.std.specs.Prelude.{Option, Some, None, Result, Ok, Err, nat_le}
 use Rattle.std.specs.Option.{option_map_or, option_to_list}
 use Rattle.std.proofs.lemmas.Bool.{cases_lt}
-use Rattle.std.proofs.lemmas.Option.{option_and_then_some, same_Some}
+use Rattle.std.proofs.lemmas.Option.{option_and_then_some}
 use Rattle.dwarf_bytes.specs.declared.fault.Cause.{Cause}
 use Rattle.dwarf_bytes.specs.declared.fault.Cause.TheVariants as causes
 use Rattle.dwarf_bytes.specs.declared.format.Format.{Format}
@@ -17,7 +17,8 @@ use Rattle.dwarf_units.specs.declared.attribute_run.LastAttribute.TheVariants.{C
 use Rattle.dwarf_units.specs.declared.attributes.Attribute.{Attribute}
 use Rattle.dwarf_units.specs.declared.used_position.UsedPosition.{UsedPosition}
 use Rattle.dwarf_units.specs.Entries.{attributes_at}
-use Rattle.dwarf_units.specs.Private.FixedSizes.{attributes_in, end_of, fixed_len}
+use Rattle.dwarf_units.specs.Private.FixedSizes.{used_value}
+use Rattle.dwarf_units.specs.Private.FixedSizes.{end_of, fixed_len}
 use Rattle.dwarf_units.specs.Private.FixedSizes.{used_position}
 use Rattle.dwarf_units.specs.Private.Runs.{Run, Runs, all_at, run_before, runs_from, runs_of}
 use Rattle.dwarf_units.specs.Private.Runs.{then_read, unchecked_layout}
@@ -25,8 +26,8 @@ use Rattle.dwarf_units.specs.Used.{used_among}
 use Rattle.dwarf_units.specs.Private.Used.{used_after, used_attributes_at}
 use Rattle.dwarf_units.proofs.UsedLaws.{among-append}
 use Rattle.dwarf_units.specs.Private.StoredAttributes.{stored_attributes, stored_attributes_at}
-use Rattle.dwarf_units.proofs.FixedPositions.{block-there, fixed-at}
-use Rattle.dwarf_units.proofs.StoredReads.{fault-first, front-none, stored-append}
+use Rattle.dwarf_units.proofs.FixedPositions.{IsAt, block-there, fixed-at}
+use Rattle.dwarf_units.proofs.StoredReads.{fault-first, stored-append}
 use Rattle.dwarf_units.proofs.StoredReads.{used_all, with_front}
 use Rattle.dwarf_units.proofs.RunParts.{ReadsLast, block-short, checked-one, front-more, kept_in}
 use Rattle.dwarf_units.proofs.RunParts.{stored-one, stored-within, unchecked-one}
@@ -48,13 +49,7 @@ start-same : (format : Format) (declared : List AttributeSpecification) (all : R
     ≡ stored_attributes_at keep format declared bytes at
 start-same format declared all are keep bytes at le =
     let same : at + 0 ≡ at = omega arith in
-    rw same at (are.same keep bytes at (omega (arith, le)))
-    ∙ by_keep keep (stored_attributes_at keep format declared bytes at)
-  where
-    by_keep : (k : Bool) (r : Result (List Attribute × ℕ) Cause)
-        → (r >>= with_front (cond k (attributes_in format bytes at []) [])) ≡ r
-    by_keep true r = front-none r
-    by_keep false r = front-none r
+    let here = rw same at (are.same keep bytes at (omega (arith, le))) in grind (arith, here)
 
 -- ---- one more attribute of a fixed size
 
@@ -64,37 +59,29 @@ fixed-more : (format : Format) (n m : ℕ) (used : List UsedPosition) (s : Attri
     → AreRuns format n used (s ∷ ss) all
 fixed-more format n m used s ss all len more = record {
   same = λ keep bytes first le.
-      by_first keep bytes first le (cases_lt (length bytes) (first + n + m));
+      by_first keep bytes first (fixed-at format s bytes first n m len le)
+      (cases_lt (length bytes) (first + n + m));
   short = λ keep bytes first lt. more.short keep bytes first (omega (arith, lt));
 }
   where
-    by_first : (keep : Bool) (bytes : List ℕ) (first : ℕ) → first + n ≤ length bytes
+    by_first : (keep : Bool) (bytes : List ℕ) (first : ℕ)
+        → IsAt format s bytes first n m (used_value n s)
         → (length bytes < first + n + m) ⊎ (first + n + m ≤ length bytes)
         → all_at keep format all bytes first
         ≡ (stored_attributes_at keep format (s ∷ ss) bytes (first + n)
         >>= with_front (kept_in keep format bytes first used))
-    by_first keep bytes first le (inl lt) =
-        let fault = fault-first keep format s ss bytes (first + n) causes.Short
-        ((fixed-at format s bytes first n m len le).short lt) in
-        more.short keep bytes first (omega (arith, lt))
-        ∙ sym (ap (λ (r : Result (List Attribute × ℕ) Cause). r
-        >>= with_front (kept_in keep format bytes first used)) fault)
-    by_first keep bytes first le (inr there) =
+    by_first keep bytes first is (inl lt) =
+        rw (fault-first keep format s ss bytes (first + n) causes.Short (is.short lt))
+        (more.short keep bytes first (omega (arith, lt)))
+    by_first keep bytes first is (inr there) =
         let place : first + n + m ≡ first + (n + m) = omega arith in
-        let position : List UsedPosition = option_to_list (used_position n s) in
-        let here = stored-one keep format s bytes first n (first + n + m)
-        ((fixed-at format s bytes first n m len le).there there) in
-        let both = stored-append keep format (s ∷ []) ss bytes (first + n)
-        ∙ ap (λ (r : Result (List Attribute × ℕ) Cause). then_read r
-        (λ k. stored_attributes_at keep format ss bytes k)) here in
-        more.same keep bytes first (omega (arith, there))
-        ∙ (sym (front-more keep format bytes first used position
-        (stored_attributes_at keep format ss bytes (first + (n + m))))
-        ∙ (ap (λ (k : ℕ). (stored_attributes_at keep format ss bytes k
-        >>= with_front (kept_in keep format bytes first position))
-        >>= with_front (kept_in keep format bytes first used)) (sym place)
-        ∙ sym (ap (λ (r : Result (List Attribute × ℕ) Cause). r
-        >>= with_front (kept_in keep format bytes first used)) both)))
+        rw (
+          stored-append keep format (s ∷ []) ss bytes (first + n),
+          stored-one keep format s bytes first n (first + n + m) (is.there there),
+          place,
+          front-more keep format bytes first used (option_to_list (used_position n s))
+              (stored_attributes_at keep format ss bytes (first + (n + m))),
+        ) (more.same keep bytes first (omega (arith, there)))
 
 -- ---- a run that ends with an attribute
 
@@ -102,31 +89,21 @@ then-same : (r : Result (List Attribute × ℕ) Cause) (next other : ℕ → Res
     Cause) (front : List Attribute)
     → ((x : List Attribute × ℕ) → r ≡ Ok x → next x.1 ≡ other x.1)
     → then_read (r >>= with_front front) next ≡ (then_read r other >>= with_front front)
-then-same (Err e) next other front same = refl
-then-same (Ok x) next other front same =
-    rw (same x refl) (by_rest (other x.1))
-  where
-    by_rest : (r : Result (List Attribute × ℕ) Cause) → (r >>= with_front (front ++ x.0))
-        ≡ ((r >>= with_front x.0) >>= with_front front)
-    by_rest (Ok rest) =
-        ap (λ (l : List Attribute). Ok (l, rest.1)) (append_assoc front x.0 rest.0)
-    by_rest (Err e) = refl
+then-same r next other front same = grind (arith, same, append_assoc front)
 
 last-more : (format : Format) (n : ℕ) (used : List UsedPosition) (s : AttributeSpecification)
     (ss : List AttributeSpecification) (run : Run) (others : Runs) → run.stretch.len ≡ n
     → ReadsLast format n used s run → AreRuns format 0 [] ss others
     → AreRuns format n used (s ∷ ss) (record others { runs = run ∷ others.runs })
 last-more format n used s ss run others len one more = record {
-  same = λ keep bytes first le.
-      ap (λ (r : Result (List Attribute × ℕ) Cause). then_read r (all_at keep format others bytes))
-      (one keep bytes first le)
-      ∙ (then-same (stored_attributes_at keep format (s ∷ []) bytes (first + n))
+  same = λ keep bytes first le. rw (
+    one keep bytes first le,
+    stored-append keep format (s ∷ []) ss bytes (first + n),
+  )
+      (then-same (stored_attributes_at keep format (s ∷ []) bytes (first + n))
       (all_at keep format others bytes) (λ k. stored_attributes_at keep format ss bytes k) _
       (λ x is. start-same format ss others more keep bytes x.1
-      (stored-within keep format (s ∷ []) bytes (first + n) x le is))
-      ∙ ap (λ (r : Result (List Attribute × ℕ) Cause). r
-      >>= with_front (kept_in keep format bytes first used))
-      (sym (stored-append keep format (s ∷ []) ss bytes (first + n))));
+      (stored-within keep format (s ∷ []) bytes (first + n) x le is)));
   short = λ keep bytes first lt.
       rw (block-short run.stretch.len bytes first (omega (arith, len, lt))) refl;
 }
@@ -134,8 +111,7 @@ last-more format n used s ss run others len one more = record {
 -- ---- all attributes
 
 ended : (n m end : ℕ) (b : Bool) → cond b (Some (n + m)) None ≡ Some end → n + m ≡ end
-ended n m end true is = same_Some (n + m) end is
-ended n m end false is = cc
+ended n m end b is = grind arith
 
 have-runs : (format : Format) (n : ℕ) (used : List UsedPosition)
     (declared : List AttributeSpecification)
@@ -203,8 +179,7 @@ runs-read keep format declared bytes at le = start-same format declared
 -- Attributes that are added to an empty set are all of the result.
 used-first : (r : Result (List Attribute × ℕ) Cause) → used_after (used_among []) r
     ≡ (r >>= used_all)
-used-first (Ok stored) = ap (λ all. Ok (all, stored.1)) (among-append [] stored.0)
-used-first (Err e) = refl
+used-first r = grind (arith, among-append [])
 
 -- The runs of the unshared attributes and then the shared attributes give all of a declaration.
 pub own-rest : (keep : Bool) (format : Format) (own rest : List AttributeSpecification)
@@ -213,8 +188,5 @@ pub own-rest : (keep : Bool) (format : Format) (own rest : List AttributeSpecifi
     (λ place. stored_attributes_at keep format rest bytes place))
     ≡ used_attributes_at keep format (own ++ rest) bytes at
 own-rest keep format own rest bytes at le =
-    ap (λ (r : Result (List Attribute × ℕ) Cause). used_after (used_among []) (then_read r
-    (λ place. stored_attributes_at keep format rest bytes place)))
-    (runs-read keep format own bytes at le)
-    ∙ (ap (used_after (used_among [])) (sym (stored-append keep format own rest bytes at))
-    ∙ used-first (stored_attributes_at keep format (own ++ rest) bytes at))
+    rw (runs-read keep format own bytes at le, ← stored-append keep format own rest bytes at)
+    (used-first (stored_attributes_at keep format (own ++ rest) bytes at))

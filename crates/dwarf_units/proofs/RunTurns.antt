@@ -68,9 +68,7 @@ pub runs-left : (keep : Bool) (format : Format) (run : Run) (left others : List 
     → left ≡ run ∷ others → used_after u (runs_at keep format left rest bytes place) ≡ whole
     → used_after u (then_read (run_at keep format run bytes place)
     (runs_at keep format others rest bytes)) ≡ whole
-runs-left keep format run left others rest bytes u place whole parts so_far =
-    ap (λ (l : List Run). used_after u (runs_at keep format l rest bytes place)) (sym parts)
-    ∙ so_far
+runs-left keep format run left others rest bytes u place whole parts so_far = rw parts at so_far
 
 pub last-skipped : (keep : Bool) (format : Format) (layout : ValueLayout) (u : Used)
     (old new : Position) (result : Result (Unit {0}) Cause)
@@ -87,16 +85,12 @@ pub added-more : (format : Format) (bytes : List ℕ) (first : ℕ) (left rest :
     → more ≡ with_used front (attribute_in format bytes first p ∷ [])
     → with_used front (attributes_in format bytes first left) ≡ whole
     → with_used more (attributes_in format bytes first rest) ≡ whole
-added-more format bytes first left rest p front more whole parts added so_far =
-    ap (λ (u : Used). with_used u (attributes_in format bytes first rest)) added
-    ∙ with-twice front (attribute_in format bytes first p ∷ [])
-    (attributes_in format bytes first rest)
-    ∙ (ap (λ (l : List UsedPosition). with_used front (attributes_in format bytes first l))
-    (sym parts) ∙ so_far)
+added-more format bytes first left rest p front more whole parts added so_far = rw added
+    (with-twice front (attribute_in format bytes first p ∷ [])
+    (attributes_in format bytes first rest) ∙ rw parts at so_far)
 
 pub added-all : (format : Format) (bytes : List ℕ) (first : ℕ) (left : List UsedPosition)
     (front whole : Used) → left ≡ []
     → with_used front (attributes_in format bytes first left) ≡ whole → front ≡ whole
-added-all format bytes first left front whole none so_far = sym (with-none front)
-    ∙ (ap (λ (l : List UsedPosition). with_used front (attributes_in format bytes first l))
-    (sym none) ∙ so_far)
+added-all format bytes first left front whole none so_far =
+    sym (with-none front) ∙ rw none at so_far

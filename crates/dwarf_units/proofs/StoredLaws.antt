@@ -1,19 +1,18 @@
 -- The cached tables after one more table is added to the permanent ones.
-use Rattle.std.proofs.Common.{◌≡◌, ◌⊎◌, inl, inr, ℕ, ◌+◌, ◌<◌, ◌≤◌, List, [], ◌∷◌, ◌++◌, length}
-use Rattle.std.proofs.Common.{take, length-take-le, true, false, refl, ap, sym, ◌∙◌}
-use Rattle.std.proofs.Common.{subst, arith}
-use Rattle.std.specs.Prelude.{Some, slice_get, sum_by, ◌==◌}
-use Rattle.std.proofs.Math.Seq.{take-length}
+use Rattle.std.proofs.Common.{take_all}
+use Rattle.std.proofs.Common.{◌≡◌, ℕ, ◌≤◌, List, [], ◌∷◌, ◌++◌, length}
+use Rattle.std.proofs.Common.{take, length-take-le, refl, ◌∙◌}
+use Rattle.std.proofs.Common.{arith}
+use Rattle.std.specs.Prelude.{Some, slice_get}
 use Rattle.std.proofs.lemmas.Grind.{common_steps}
 use Rattle.std.proofs.lemmas.List.{get_or-take}
 use Rattle.std.proofs.lemmas.Option.{slice_get-get_or, slice_get_within}
 use Rattle.std.proofs.lemmas.Option.{get_or_from_slice_get}
 use Rattle.dwarf_bytes.specs.declared.format.Format.{Format}
-use Rattle.dwarf_bytes.specs.declared.format.Format.TheVariants.{Dwarf32, Dwarf64}
 use Rattle.dwarf_forms.proofs.Elements.{at-last}
 use Rattle.dwarf_units.specs.declared.numbers.Numbers.{Numbers}
 use Rattle.dwarf_units.specs.Private.Numbers.{number_at, with_number}
-use Rattle.dwarf_units.specs.Private.AbbreviationTables.{Table, table_size}
+use Rattle.dwarf_units.specs.Private.AbbreviationTables.{Table}
 use Rattle.dwarf_units.specs.Private.Tables.{AreElsewhere, AreCached}
 use Rattle.dwarf_units.proofs.TableLaws.{parsed-before}
 
@@ -26,29 +25,16 @@ pub sets-as : (numbers next : Numbers) (given format : Format) (at offset number
     → given ≡ format → at ≡ offset → Sets numbers next given at number
     → Sets numbers next format offset number
 sets-as numbers next given format at offset number format_is offset_is sets =
-    subst (λ (f : Format). Sets numbers next f offset number) format_is
-    (subst (λ (k : ℕ). Sets numbers next given k number) offset_is sets)
-
-same-nat : (n : ℕ) → (n == n) ≡ true
-same-nat n = grind arith
-
-apart-nat : (a b : ℕ) → (a ≡ b → ⊥) → (a == b) ≡ false
-apart-nat a b h = grind (arith, common_steps)
+    rw (← format_is, ← offset_is) sets
 
 with-here : (numbers : Numbers) (format : Format) (offset number : ℕ)
     → with_number numbers format offset number format offset ≡ Some number
-with-here numbers Dwarf32 offset number = rw (same-nat offset) refl
-with-here numbers Dwarf64 offset number = rw (same-nat offset) refl
+with-here numbers format offset number = grind arith
 
 with-there : (numbers : Numbers) (format : Format) (offset number : ℕ) (f : Format) (at : ℕ)
     → ((at ≡ offset) × (f ≡ format) → ⊥) → with_number numbers format offset number f at
     ≡ number_at numbers f at
-with-there numbers Dwarf32 offset number Dwarf32 at apart =
-    rw (apart-nat at offset (λ e. apart (e, refl))) refl
-with-there numbers Dwarf32 offset number Dwarf64 at apart = refl
-with-there numbers Dwarf64 offset number Dwarf32 at apart = refl
-with-there numbers Dwarf64 offset number Dwarf64 at apart =
-    rw (apart-nat at offset (λ e. apart (e, refl))) refl
+with-there numbers format offset number f at apart = grind (arith, common_steps)
 
 abbrev pub AreFound : Numbers → List Table → Type 0
 AreFound numbers tables = (i : ℕ) (table : Table) → slice_get tables i ≡ Some table
@@ -57,13 +43,14 @@ AreFound numbers tables = (i : ℕ) (table : Table) → slice_get tables i ≡ S
 -- A table among the first ones is a table of the list.
 taken : (tables : List Table) (permanent i : ℕ) (table : Table) → permanent ≤ length tables
     → slice_get (take permanent tables) i ≡ Some table → slice_get tables i ≡ Some table
-taken tables permanent i table within at =
-    let len : length (take permanent tables) ≡ permanent = length-take-le permanent tables within in
-    let before : i < permanent =
-    omega (arith, slice_get_within (take permanent tables) i table at, len) in
-    slice_get-get_or tables i table (omega (arith, before, within))
-    ∙ ap (λ (t : Table). Some t) (sym (get_or-take permanent tables i table before)
-    ∙ get_or_from_slice_get (take permanent tables) i table table at)
+taken tables permanent i table within at = grind (
+  arith,
+  length-take-le permanent tables within,
+  slice_get_within (take permanent tables) i table at,
+  get_or-take permanent tables i table,
+  get_or_from_slice_get (take permanent tables) i table table at,
+  slice_get-get_or tables i table,
+)
 
 pub found-short : (tables : List Table) (permanent : ℕ) (numbers next : Numbers) (format : Format)
     (offset number : ℕ) → permanent ≤ length tables → AreElsewhere format offset tables
@@ -72,19 +59,19 @@ pub found-short : (tables : List Table) (permanent : ℕ) (numbers next : Number
 found-short tables permanent numbers next format offset number within elsewhere sets found i table
     at =
     let here = taken tables permanent i table within at in
-    sets table.format table.offset ∙ (with-there numbers format offset number table.format
-    table.offset (elsewhere i table here) ∙ found i table here)
+    grind (
+      arith,
+      sets table.format table.offset,
+      with-there numbers format offset number
+          table.format table.offset (elsewhere i table here),
+      found i table here,
+    )
 
 found-push : (before : List Table) (next : Numbers) (table : Table)
     → number_at next table.format table.offset ≡ Some (length before) → AreFound next before
     → AreFound next (before ++ table ∷ [])
-found-push before next table here found i t at = by_place (at-last before table t i at)
-  where
-    by_place : (slice_get before i ≡ Some t) ⊎ ((i ≡ length before) × (table ≡ t))
-        → number_at next t.format t.offset ≡ Some i
-    by_place (inl front) = found i t front
-    by_place (inr last) = subst (λ (e : Table). number_at next e.format e.offset ≡ Some i) last.1
-        (here ∙ ap (λ (k : ℕ). Some k) (sym last.0))
+found-push before next table here found i t at =
+    grind (arith, at-last before table t i at, here, found i t)
 
 -- The tables are found after one more is added.
 pub found-added : (section : List ℕ) (tables : List Table) (permanent budget : ℕ)
@@ -93,9 +80,10 @@ pub found-added : (section : List ℕ) (tables : List Table) (permanent budget :
     → AreCached section tables permanent budget numbers
     → AreFound next (take permanent tables ++ table ∷ [])
 found-added section tables permanent budget numbers next table elsewhere sets all =
+    let len = length-take-le permanent tables all.within in
     found-push (take permanent tables) next table
-    (sets table.format table.offset ∙ (with-here numbers table.format table.offset permanent
-    ∙ ap (λ (k : ℕ). Some k) (sym (length-take-le permanent tables all.within))))
+    (rw len
+    (sets table.format table.offset ∙ with-here numbers table.format table.offset permanent))
     (found-short tables permanent numbers next table.format table.offset permanent all.within
     elsewhere sets all.found)
 
@@ -110,14 +98,12 @@ cached-truncated section tables after permanent budget numbers next format offse
     let len : length (take permanent tables) ≡ permanent =
     length-take-le permanent tables all.within in
     let again : take permanent (take permanent tables) ≡ take permanent tables =
-    subst (λ (k : ℕ). take k (take permanent tables) ≡ take permanent tables) len
-    (take-length (take permanent tables)) in
-    subst (λ (ts : List Table). AreCached section ts permanent budget next) (sym is) (record {
+    take_all permanent (take permanent tables) (omega (arith, len)) in
+    rw is (record {
       parsed = parsed-before section tables (take permanent tables) permanent all.parsed refl;
       found = found-short tables permanent numbers next format offset permanent
-          all.within elsewhere sets
-          all.found;
-      counted = ap (λ (ts : List Table). budget + sum_by table_size ts) again ∙ all.counted;
+          all.within elsewhere sets all.found;
+      counted = rw again all.counted;
       within = omega (arith, len);
       one = omega (arith, len);
       past = λ t at. absurd

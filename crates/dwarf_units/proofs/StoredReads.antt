@@ -1,6 +1,7 @@
 -- Reading the attributes of an entry one by one, and storing the used ones.
+use Rattle.std.proofs.Common.{arith}
 use Rattle.std.proofs.Common.{◌≡◌, ℕ, List, [], ◌∷◌, ◌++◌, Bool, true, false, refl, ap, sym, ◌∙◌}
-use Rattle.std.proofs.Common.{◌⊎◌, inl, inr}
+use Rattle.std.proofs.Common.{◌⊎◌}
 use Rattle.std.specs.Prelude.{Some, None, Result, Ok, Err}
 use Rattle.std.proofs.lemmas.List.Elements.{filter-append}
 use Rattle.dwarf_bytes.specs.declared.fault.Cause.{Cause}
@@ -20,7 +21,7 @@ use Rattle.dwarf_units.specs.Private.StoredAttributes.{stored_attributes_at}
 use Rattle.dwarf_units.specs.Used.{Used, used_among}
 use Rattle.dwarf_units.specs.Private.Used.{used_after, with_used}
 use Rattle.dwarf_units.proofs.NameLaws.{found-number, used-none, used-some}
-use Rattle.dwarf_units.proofs.UsedLaws.{nothing-used, with-none, with-twice}
+use Rattle.dwarf_units.proofs.UsedLaws.{with-none, with-twice}
 
 -- ---- two lists of attributes
 
@@ -41,8 +42,7 @@ abbrev pub used_all : List Attribute × ℕ → Result (Used × ℕ) Cause
 used_all stored = Ok (used_among stored.0, stored.1)
 
 pub front-none : (r : Result (List Attribute × ℕ) Cause) → (r >>= with_front []) ≡ r
-front-none (Ok rest) = refl
-front-none (Err e) = refl
+front-none r = grind arith
 
 attributes-append : (format : Format) (xs ys : List AttributeSpecification) (bytes : List ℕ)
     (at : ℕ) → attributes_at format (xs ++ ys) bytes at
@@ -50,40 +50,20 @@ attributes-append : (format : Format) (xs ys : List AttributeSpecification) (byt
     >>= λ first. attributes_at format ys bytes first.1 >>= with_front first.0)
 unfolding attributes_at
 attributes-append format [] ys bytes at = sym (front-none (attributes_at format ys bytes at))
-attributes-append format (x ∷ xs) ys bytes at = by_first
-    (λ place. attributes-append format xs ys bytes place) (attribute_at format x bytes at)
+attributes-append format (x ∷ xs) ys bytes at = after-first (attribute_at format x bytes at)
+    (attributes_at format (xs ++ ys) bytes) (attributes_at format xs bytes)
+    (attributes_at format ys bytes) (attributes-append format xs ys bytes)
   where
-    by_rest : (a : Attribute) (r q : Result (List Attribute × ℕ) Cause)
-        (next : ℕ → Result (List Attribute × ℕ) Cause)
-        → q ≡ (r >>= λ first. next first.1 >>= with_front first.0)
-        → (q >>= with_first a)
-        ≡ ((r >>= with_first a)
-        >>= λ first. next first.1 >>= with_front first.0)
-    by_rest a (Err e) q next is = rw is refl
-    by_rest a (Ok first) q next is = rw is (by_next (next first.1))
-      where
-        by_next : (r : Result (List Attribute × ℕ) Cause)
-            → ((r >>= with_front first.0) >>= with_first a)
-            ≡ (r >>= with_front (a ∷ first.0))
-        by_next (Ok rest) = refl
-        by_next (Err e) = refl
-
-    by_first : ((place : ℕ) → attributes_at format (xs ++ ys) bytes place
-        ≡ (attributes_at format xs bytes place
-        >>= λ first. attributes_at format ys bytes first.1 >>= with_front first.0))
-        → (r : Result (Attribute × ℕ) Cause)
-        → (r >>= λ a. attributes_at format (xs ++ ys) bytes a.1
-        >>= with_first a.0)
-        ≡ ((r >>= λ a. attributes_at format xs bytes a.1 >>= with_first a.0)
-        >>= λ first. attributes_at format ys bytes first.1 >>= with_front first.0)
-    by_first rest (Ok a) = by_rest a.0 (attributes_at format xs bytes a.1)
-        (attributes_at format (xs ++ ys) bytes a.1) (attributes_at format ys bytes) (rest a.1)
-    by_first rest (Err e) = refl
+    after-first : (r : Result (Attribute × ℕ) Cause)
+        (both front back : ℕ → Result (List Attribute × ℕ) Cause)
+        → ((k : ℕ) → both k ≡ (front k >>= λ first. back first.1 >>= with_front first.0))
+        → (r >>= λ a. both a.1 >>= with_first a.0) ≡ ((r >>= λ a. front a.1 >>= with_first a.0)
+        >>= λ first. back first.1 >>= with_front first.0)
+    after-first r both front back is = grind (arith, is)
 
 pub stored-both : (keep : Bool) (xs ys : List Attribute)
     → stored_attributes keep (xs ++ ys) ≡ stored_attributes keep xs ++ stored_attributes keep ys
-stored-both true xs ys = filter-append (λ (a : Attribute). is_used a.name) xs ys
-stored-both false xs ys = refl
+stored-both keep xs ys = grind (arith, filter-append (λ (a : Attribute). is_used a.name) xs ys)
 
 -- The stored attributes of two lists.
 pub stored-append : (keep : Bool) (format : Format) (xs ys : List AttributeSpecification)
@@ -91,22 +71,7 @@ pub stored-append : (keep : Bool) (format : Format) (xs ys : List AttributeSpeci
     ≡ then_read (stored_attributes_at keep format xs bytes at)
     (λ place. stored_attributes_at keep format ys bytes place)
 stored-append keep format xs ys bytes at =
-    rw (attributes-append format xs ys bytes at) (by_first (attributes_at format xs bytes at))
-  where
-    by_rest : (front : List Attribute) (r : Result (List Attribute × ℕ) Cause)
-        → ((r >>= with_front front) >>= stored_all keep)
-        ≡ ((r >>= stored_all keep) >>= with_front (stored_attributes keep front))
-    by_rest front (Ok rest) =
-        ap (λ (all : List Attribute). Ok (all, rest.1)) (stored-both keep front rest.0)
-    by_rest front (Err e) = refl
-
-    by_first : (r : Result (List Attribute × ℕ) Cause)
-        → ((r >>= λ first. attributes_at format ys bytes first.1 >>= with_front first.0)
-        >>= stored_all keep)
-        ≡ then_read (r >>= stored_all keep)
-        (λ place. stored_attributes_at keep format ys bytes place)
-    by_first (Ok first) = by_rest first.0 (attributes_at format ys bytes first.1)
-    by_first (Err e) = refl
+    rw (attributes-append format xs ys bytes at) (grind (arith, stored-both keep))
 
 -- If the first attribute cannot be read, the list cannot.
 pub fault-first : (keep : Bool) (format : Format) (s : AttributeSpecification)
@@ -118,33 +83,26 @@ fault-first keep format s ss bytes at cause read = rw read refl
 
 pub used-front : (u : Used) (front : List Attribute) (r : Result (List Attribute × ℕ) Cause)
     → used_after u (r >>= with_front front) ≡ used_after (with_used u front) r
-used-front u front (Ok rest) = ap (λ (v : Used). Ok (v, rest.1)) (sym (with-twice u front rest.0))
-used-front u front (Err e) = refl
+used-front u front r = grind (arith, with-twice u front)
 
 -- The used attributes of two reads, after those that are stored already.
 used-both : (u : Used) (r : Result (List Attribute × ℕ) Cause)
     (next : ℕ → Result (List Attribute × ℕ) Cause) → used_after u (then_read r next)
     ≡ (used_after u r >>= λ first. used_after first.0 (next first.1))
-used-both u (Err e) next = refl
-used-both u (Ok first) next = used-front u first.0 (next first.1)
+used-both u r next = grind (arith, used-front u)
 
 -- The first of two reads is done.
 pub next-read : (u stored : Used) (r : Result (List Attribute × ℕ) Cause)
     (next : ℕ → Result (List Attribute × ℕ) Cause) (place : ℕ) (whole : Result (Used × ℕ) Cause)
     → used_after u (then_read r next) ≡ whole → used_after u r ≡ Ok (stored, place)
     → used_after stored (next place) ≡ whole
-next-read u stored r next place whole so_far read =
-    sym (ap (λ (q : Result (Used × ℕ) Cause). q >>= λ first. used_after first.0 (next first.1))
-    read) ∙ sym (used-both u r next) ∙ so_far
+next-read u stored r next place whole so_far read = grind (arith, used-both u r next, so_far, read)
 
 -- The first of two reads fails, or memory runs out.
 pub next-fault : (u : Used) (r : Result (List Attribute × ℕ) Cause)
     (next : ℕ → Result (List Attribute × ℕ) Cause) (cause : Cause) (whole : Result (Used × ℕ) Cause)
     → used_after u (then_read r next) ≡ whole → Fails cause (used_after u r) → Fails cause whole
-next-fault u r next cause whole so_far (inl memory) = inl memory
-next-fault u r next cause whole so_far (inr read) =
-    inr (sym so_far ∙ (used-both u r next
-    ∙ ap (λ (q : Result (Used × ℕ) Cause). q >>= λ first. used_after first.0 (next first.1)) read))
+next-fault u r next cause whole so_far fails = grind (arith, used-both u r next, so_far, fails)
 
 -- The last of several reads gives their outcome.
 pub last-read : (u used : Used) (read : List ℕ → ℕ → Result (List Attribute × ℕ) Cause)
@@ -153,13 +111,7 @@ pub last-read : (u used : Used) (read : List ℕ → ℕ → Result (List Attrib
     → used_after u (read old.bytes mid.place) ≡ whole old.bytes old.place
     → Fills result used (λ bytes at. used_after u (read bytes at)) mid new
     → Fills result used whole old new
-last-read u used read whole old mid new (Ok done) same so_far last = (
-  sym so_far ∙ (ap (λ (b : List ℕ). used_after u (read b mid.place)) (sym same) ∙ last.0),
-  last.1 ∙ same,
-)
-last-read u used read whole old mid new (Err cause) same so_far (inl memory) = inl memory
-last-read u used read whole old mid new (Err cause) same so_far (inr last) =
-    inr (sym so_far ∙ (ap (λ (b : List ℕ). used_after u (read b mid.place)) (sym same) ∙ last))
+last-read u used read whole old mid new result same so_far last = grind arith
 
 -- ---- one attribute
 
@@ -193,16 +145,12 @@ pub one-left : (keep : Bool) (format : Format) (s : AttributeSpecification) (byt
     (at : ℕ) (used : Used) (a : Attribute × ℕ) → (keep ≡ false) ⊎ (used_name a.0.name ≡ None)
     → attribute_at format s bytes at ≡ Ok a
     → used_after used (stored_attributes_at keep format (s ∷ []) bytes at) ≡ Ok (used, a.1)
-one-left keep format s bytes at used a why read =
-    one-read keep format s bytes at used a read
-    ∙ ap (λ (l : List Attribute). Ok (with_used used l, a.1)) (by_keep keep why)
-    ∙ ap (λ (u : Used). Ok (u, a.1)) (with-none used)
-  where
-    by_keep : (k : Bool) → (k ≡ false) ⊎ (used_name a.0.name ≡ None)
-        → stored_attributes k (a.0 ∷ []) ≡ []
-    by_keep true (inl kept) = cc
-    by_keep true (inr none) = rw (used-none a.0.name none) refl
-    by_keep false left = refl
+one-left keep format s bytes at used a why read = grind (
+  arith,
+  one-read keep format s bytes at used a read,
+  used-none a.0.name,
+  with-none used,
+)
 
 -- ---- the loop over shared attributes
 
@@ -229,11 +177,4 @@ pub stored-end : (keep : Bool) (format : Format) (left : List AttributeSpecifica
     → StoredSoFar keep format left bytes used place whole → whole ≡ Ok (used, place)
 unfolding attributes_at
 stored-end keep format left bytes used place whole none so_far =
-    sym so_far ∙ nothing-used used (stored_attributes_at keep format left bytes place) place
-    (ap (λ (l : List AttributeSpecification). stored_attributes_at keep format l bytes place) none
-    ∙ by_keep keep)
-  where
-    by_keep : (k : Bool) → (let none : List Attribute = stored_attributes k [] in
-        let all : Result (List Attribute × ℕ) Cause = Ok (none, place) in all) ≡ Ok ([], place)
-    by_keep true = refl
-    by_keep false = refl
+    grind (arith, with-none used)

@@ -1,6 +1,6 @@
 -- The iterations of the loop over the tables of the units.
 use Rattle.std.proofs.Common.{◌≡◌, ℕ, ◌+◌, ◌-◌, ◌<◌, ◌≤◌, ◌⊎◌, inl, inr, List, [], ◌∷◌, ◌++◌}
-use Rattle.std.proofs.Common.{length, take, drop, get_or, refl, ap, sym, ◌∙◌, subst}
+use Rattle.std.proofs.Common.{length, take, drop, get_or, refl, sym, ◌∙◌}
 use Rattle.std.proofs.Common.{arith, drop-cons, add-one}
 use Rattle.std.specs.Prelude.{Some, Result, Ok, Err, slice_get, sum_by}
 use Rattle.std.specs.List.{All}
@@ -11,13 +11,11 @@ use Rattle.std.proofs.lemmas.List.{drop_all}
 use Rattle.dwarf_bytes.specs.declared.fault.Section.{Section}
 use Rattle.dwarf_bytes.specs.declared.fault.Section.TheVariants as sections
 use Rattle.dwarf_bytes.specs.declared.fault.LoadFault.{LoadFault}
-use Rattle.dwarf_bytes.specs.Items.{At, each_from, each}
+use Rattle.dwarf_bytes.specs.Items.{At, each_from}
 use Rattle.dwarf_bytes.specs.Refusals.{memory_fault, in_section}
 use Rattle.dwarf_bytes.proofs.Items.EachLaws.{made_front, each-next, each-fault, each-end}
 use Rattle.dwarf_bytes.proofs.Items.EachPlaces.{each-place}
-use Rattle.dwarf_bytes.proofs.Numbers.Moves.{same-ok}
 use Rattle.dwarf_forms.specs.Declarations.{Declaration}
-use Rattle.dwarf_bytes.specs.Bind.{◌>>=◌}
 use Rattle.dwarf_forms.specs.Tables.{table_at, declarations_of}
 use Rattle.dwarf_forms.proofs.Elements.{at-end}
 use Rattle.dwarf_forms.proofs.EncodedTables.{table-encoded, table_read}
@@ -40,8 +38,7 @@ pub record Checked (section : List ℕ) (units : List UnitHeader) (index left : 
 
 pub in_section-ok : {X : Type 0} (section : Section) (r : Result X At) (x : X)
     → in_section section r ≡ Ok x → r ≡ Ok x
-in_section-ok section (Ok y) x h = cc
-in_section-ok section (Err e) x h = cc
+in_section-ok section r x h = grind arith
 
 pub checked-next : (section : List ℕ) (units : List UnitHeader) (index left after : ℕ)
     (d : UnitHeader) (table : List Declaration) → Checked section units index left
@@ -51,12 +48,11 @@ pub checked-next : (section : List ℕ) (units : List UnitHeader) (index left af
     → Checked section units (index + 1) after
 checked-next section units index left after d table so_far within found counted =
     let unit = get_or units index d in
-    let budget : left ≡ declarations_limit - sum_by length so_far.made =
+    let budget : declarations_limit - sum_by length so_far.made ≡ left =
     omega (arith, so_far.counted) in
-    let here : table_for section so_far.made unit ≡ Ok table =
-    ap (λ (k : ℕ). declarations_of k section unit.abbreviations) (sym budget)
-    ∙ in_section-ok sections.DebugAbbrev (declarations_of left section unit.abbreviations) table
-    found in
+    let here : table_for section so_far.made unit ≡ Ok table = rw budget
+    (in_section-ok sections.DebugAbbrev (declarations_of left section unit.abbreviations) table
+    found) in
     let rest : drop index units ≡ unit ∷ drop (index + 1) units =
     rw (add-one, drop-cons units index d within) refl in
     let sum : sum_by length (so_far.made ++ table ∷ []) ≡ sum_by length so_far.made + length table =
@@ -66,8 +62,7 @@ checked-next section units index left after d table so_far within found counted 
       counted = omega (arith, so_far.counted, counted, sum);
       read = sym (each-next (table_for section) so_far.made unit (drop (index + 1) units) table
           here)
-          ∙ (ap (λ (us : List UnitHeader). made_front so_far.made
-          (each_from (table_for section) so_far.made us)) (sym rest) ∙ so_far.read);
+          ∙ rw (← rest) so_far.read;
     }
 
 pub checked-end : (section : List ℕ) (units : List UnitHeader) (index left : ℕ)
@@ -75,11 +70,8 @@ pub checked-end : (section : List ℕ) (units : List UnitHeader) (index left : �
     × (in_section sections.DebugAbbrev (tables_of section units) ≡ Ok tables)
 unfolding tables_of
 checked-end section units index left so_far past =
-    let none : drop index units ≡ [] = drop_all index units past in
-    let all : each_from (table_for section) [] units ≡ Ok so_far.made =
-    sym so_far.read ∙ (ap (λ (us : List UnitHeader). made_front so_far.made
-    (each_from (table_for section) so_far.made us)) none ∙ each-end (table_for section)
-    so_far.made) in
+    let all : each_from (table_for section) [] units ≡ Ok so_far.made = sym so_far.read
+    ∙ rw (drop_all index units past) (each-end (table_for section) so_far.made) in
     (so_far.made, rw all refl)
 
 pub checked-fault : (section : List ℕ) (units : List UnitHeader) (index left : ℕ) (d : UnitHeader)
@@ -91,73 +83,30 @@ pub checked-fault : (section : List ℕ) (units : List UnitHeader) (index left :
 unfolding tables_of
 checked-fault section units index left d fault so_far within (inl memory) = inl memory
 checked-fault section units index left d fault so_far within (inr bad) =
-    by_read (declarations_of left section (get_or units index d).abbreviations) refl bad
-  where
-    same_err : {X : Type 0} (x y : LoadFault)
-        → (let f : LoadFault → Result X LoadFault = λ z. Err z in f x ≡ f y) → x ≡ y
-    same_err x y h = cc
-
-    by_read : (r : Result (List Declaration) At)
-        → declarations_of left section (get_or units index d).abbreviations ≡ r
-        → in_section sections.DebugAbbrev r ≡ Err fault
-        → (fault ≡ memory_fault) ⊎ (in_section sections.DebugAbbrev (each (table_for section) units)
-        ≡ Err fault)
-    by_read (Ok x) read h = cc
-    by_read (Err e) read h =
-        let budget : left ≡ declarations_limit - sum_by length so_far.made =
-        omega (arith, so_far.counted) in
-        let here : table_for section so_far.made (get_or units index d) ≡ Err e =
-        ap (λ (k : ℕ). declarations_of k section (get_or units index d).abbreviations)
-        (sym budget) ∙ read in
-        let rest : drop index units ≡ get_or units index d ∷ drop (index + 1) units =
-        rw (add-one, drop-cons units index d within) refl in
-        let all : each_from (table_for section) [] units ≡ Err e =
-        sym so_far.read ∙ (ap (λ (us : List UnitHeader). made_front so_far.made
-        (each_from (table_for section) so_far.made us)) rest ∙ each-fault (table_for section)
-        so_far.made (get_or units index d) (drop (index + 1) units) e here) in
-        inr (rw all (ap (λ (f : LoadFault). Err f)
-        (same_err {X = List Declaration}
-        (record { section = sections.DebugAbbrev; cause = e.0; at = e.1 }) fault h)))
+    let budget : left ≡ declarations_limit - sum_by length so_far.made =
+    omega (arith, so_far.counted) in
+    let rest : drop index units ≡ get_or units index d ∷ drop (index + 1) units =
+    rw (add-one, drop-cons units index d within) refl in
+    let faults = each-fault (table_for section) so_far.made (get_or units index d)
+    (drop (index + 1) units) in
+    grind (arith, budget, rest, so_far.read, faults, bad)
 
 -- A table that was parsed is parsed to the same result with any budget that is large enough.
 pub table-again : (budget other : ℕ) (section : List ℕ) (offset : ℕ) (table : List Declaration)
     → declarations_of budget section offset ≡ Ok table → length table ≤ other
     → declarations_of other section offset ≡ Ok table
 unfolding table_at
-table-again budget other section offset table read few =
-    by_read (table_at budget section offset) refl read
-  where
-    same_table : {x y : List Declaration}
-        → (let f : List Declaration → Result (List Declaration) At = λ z. Ok z in f x ≡ f y) → x ≡ y
-    same_table h = cc
-
-    by_read : (r : Result (List Declaration × ℕ) At) → table_at budget section offset ≡ r
-        → (r >>= λ found. Ok found.0) ≡ Ok table → declarations_of other section offset ≡ Ok table
-    by_read (Err e) is h = cc
-    by_read (Ok found) is h =
-        let encoded = table-encoded budget section offset found.0 found.1 is in
-        let same = same_table h in
-        let again : table_at other section offset ≡ Ok (found.0, found.1) =
-        table_read other section offset found.0 found.1 encoded.0 encoded.1
-        (subst (λ (t : List Declaration). length t ≤ other) (sym same) few) in
-        ap (λ (r : Result (List Declaration × ℕ) At). r
-        >>= λ found. (let f : List Declaration → Result (List Declaration) At = λ z. Ok z in
-        f found.0)) again ∙ ap (λ (t : List Declaration). Ok t) same
+table-again budget other section offset table read few = grind (
+  arith,
+  λ (x : List Declaration × ℕ). table-encoded budget section offset x.0 x.1,
+  table_read other section offset,
+)
 
 -- A table has no more declarations than the budget.
 pub table-few : (budget : ℕ) (section : List ℕ) (offset : ℕ) (table : List Declaration)
     → declarations_of budget section offset ≡ Ok table → length table ≤ budget
-table-few budget section offset table read = by_read (table_at budget section offset) refl read
-  where
-    same_table : {x y : List Declaration}
-        → (let f : List Declaration → Result (List Declaration) At = λ z. Ok z in f x ≡ f y) → x ≡ y
-    same_table h = cc
-
-    by_read : (r : Result (List Declaration × ℕ) At) → table_at budget section offset ≡ r
-        → (r >>= λ found. Ok found.0) ≡ Ok table → length table ≤ budget
-    by_read (Err e) is h = cc
-    by_read (Ok found) is h = subst (λ (t : List Declaration). length t ≤ budget) (same_table h)
-        (table-encoded budget section offset found.0 found.1 is).2
+table-few budget section offset table read =
+    grind (arith, λ (x : List Declaration × ℕ). table-encoded budget section offset x.0 x.1)
 
 -- The table of a unit is the result of parsing it with the whole budget.
 pub table_is : (section : List ℕ) (headers : List UnitHeader) (tables : List (List Declaration))
@@ -185,27 +134,26 @@ parsed-at section budget table offset in_same same read few = (
   in_same,
   table-again budget declarations_limit section table.offset table.declarations
       (in_section-ok sections.DebugAbbrev (declarations_of budget section table.offset)
-      table.declarations (subst (λ (k : ℕ). in_section sections.DebugAbbrev
-      (declarations_of budget section k) ≡ Ok table.declarations) (sym same) read)) few,
+      table.declarations (rw same read)) few,
 )
 
 -- A cached table is parsed from the section.
 pub cached-parsed : (section : List ℕ) (tables : List Table) (number : ℕ) (table : Table)
     → All (IsParsedFrom section) tables → slice_get tables number ≡ Some table
     → IsParsedFrom section table
-cached-parsed section tables number table all at =
-    subst (IsParsedFrom section) (get_or_from_slice_get tables number table table at)
-    (all number table (slice_get_within tables number table at))
+cached-parsed section tables number table all at = grind (
+  arith,
+  get_or_from_slice_get tables number table table at,
+  all number table (slice_get_within tables number table at),
+)
 
 -- A parsed table is parsed again with any budget that is large enough.
 pub parsed-again : (section : List ℕ) (table : Table) (offset left : ℕ)
     → IsParsedFrom section table → table.offset ≡ offset → length table.declarations ≤ left
     → in_section sections.DebugAbbrev (declarations_of left section offset) ≡ Ok table.declarations
-parsed-again section table offset left parsed same few =
-    ap (λ (r : Result (List Declaration) At). in_section sections.DebugAbbrev r)
-    (table-again declarations_limit left section offset table.declarations
-    (subst (λ (k : ℕ). declarations_of declarations_limit section k ≡ Ok table.declarations) same
-    parsed.1) few)
+parsed-again section table offset left parsed same few = rw
+    (table-again declarations_limit left section offset table.declarations (rw same at parsed.1)
+    few) refl
 
 -- A parsed table with more declarations than the remaining budget is refused.
 pub parsed-too-long : {X : Type 0} (section : List ℕ) (table : Table) (offset left : ℕ)
@@ -213,36 +161,24 @@ pub parsed-too-long : {X : Type 0} (section : List ℕ) (table : Table) (offset 
     → in_section sections.DebugAbbrev (declarations_of left section offset) ≡ Ok read
     → left ≤ declarations_limit → left < length table.declarations → X
 parsed-too-long section table offset left read parsed same is_read few past =
-    let ok : declarations_of left section offset ≡ Ok read =
-    in_section-ok sections.DebugAbbrev (declarations_of left section offset) read is_read in
+    let ok : declarations_of left section offset ≡ Ok read = grind (arith, is_read) in
     let short : length read ≤ left = table-few left section offset read ok in
-    let again : declarations_of declarations_limit section offset ≡ Ok read =
-    table-again left declarations_limit section offset read ok (omega (arith, short, few)) in
-    let here : declarations_of declarations_limit section offset ≡ Ok table.declarations =
-    subst (λ (k : ℕ). declarations_of declarations_limit section k ≡ Ok table.declarations) same
-    parsed.1 in
-    absurd (omega (
-      arith,
-      short,
-      past,
-      ap (λ (ds : List Declaration). length ds)
-          (same-ok table.declarations read (sym here ∙ again)),
-    ))
+    let again = table-again left declarations_limit section offset read ok
+    (omega (arith, short, few)) in
+    grind (arith, same, parsed.1, again, short)
 
 -- The invariant holds for a shorter list of tables, and for one more table appended.
 pub parsed-before : (section : List ℕ) (tables after : List Table) (permanent : ℕ)
     → All (IsParsedFrom section) tables → after ≡ take permanent tables
     → All (IsParsedFrom section) after
 parsed-before section tables after permanent all is =
-    subst (All (IsParsedFrom section)) (sym is)
-    (All-take (IsParsedFrom section) permanent tables all)
+    rw is (All-take (IsParsedFrom section) permanent tables all)
 
 pub parsed-after : (section : List ℕ) (tables after : List Table) (permanent : ℕ) (table : Table)
     → All (IsParsedFrom section) tables → IsParsedFrom section table
     → after ≡ take permanent tables ++ table ∷ [] → All (IsParsedFrom section) after
 parsed-after section tables after permanent table all one is =
-    subst (All (IsParsedFrom section)) (sym is)
-    (All-push (IsParsedFrom section) (take permanent tables) table
+    rw is (All-push (IsParsedFrom section) (take permanent tables) table
     (All-take (IsParsedFrom section) permanent tables all) one)
 
 pub last-at : (before after : List Table) (number : ℕ) (table : Table)

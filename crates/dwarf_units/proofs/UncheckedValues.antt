@@ -1,9 +1,7 @@
 -- An attribute whose value needs no check is read by its layout.
-use Rattle.std.proofs.Common.{◌≡◌, ℕ, List, Bool, true, false, cond, refl, subst}
-use Rattle.std.specs.Prelude.{Option, Some, None, Result, Ok, Err, ◌&&◌, is_some}
-use Rattle.std.specs.Option.{option_map_or}
-use Rattle.std.proofs.lemmas.Option.{same_Some}
-use Rattle.dwarf_bytes.specs.declared.constants.TheConstants.{DW_FORM_SDATA}
+use Rattle.std.proofs.Common.{arith}
+use Rattle.std.proofs.Common.{◌≡◌, ℕ, List, Bool, true, false, cond, refl}
+use Rattle.std.specs.Prelude.{Option, Some, None, Result, Ok, Err, ◌&&◌}
 use Rattle.dwarf_bytes.specs.declared.fault.ReadFault.{ReadFault}
 use Rattle.dwarf_bytes.specs.declared.format.Format.{Format}
 use Rattle.dwarf_bytes.specs.declared.form.Form.{Form}
@@ -15,7 +13,7 @@ use Rattle.dwarf_bytes.specs.Forms.{byte_len, form_of}
 use Rattle.dwarf_bytes.specs.Contents.{Content, Number, Signed, Bytes, content_at, read_as}
 use Rattle.dwarf_bytes.specs.Items.{reading}
 use Rattle.dwarf_bytes.specs.Numbers.{block_at, cstr_at, fixed_at, offset_at, sleb_at, uleb_at}
-use Rattle.dwarf_units.specs.Attributes.{is_negative, is_negative_count, forms_of, is_among}
+use Rattle.dwarf_units.specs.Attributes.{is_negative_count}
 use Rattle.dwarf_units.specs.Attributes.{accepts, is_used}
 use Rattle.dwarf_units.specs.Private.Runs.{is_signed, unchecked_layout, valid_layout}
 use Rattle.dwarf_forms.specs.declared.attribute.AttributeSpecification.{AttributeSpecification}
@@ -24,8 +22,7 @@ use Rattle.dwarf_units.proofs.FixedValues.{IsFine, as_attribute, in-layout, neve
 
 read-fine : {X : Type 0} (name : ℕ) (make : X → Content) (r : Result (X × ℕ) ReadFault)
     → ((x : X) → is_negative_count name (make x) ≡ false) → IsFine name (read_as make r)
-read-fine name make (Ok x) fine = fine x.0
-read-fine name make (Err e) fine = tt
+read-fine name make r fine = grind (arith, fine)
 
 block-fine : (name : ℕ) (bytes : List ℕ) (len : Result (ℕ × ℕ) ReadFault)
     → IsFine name (len >>= λ len. read_as Bytes (block_at len.0 bytes len.1))
@@ -36,14 +33,7 @@ block-fine name bytes (Err e) = tt
 unused-fine : (name : ℕ) (b : Bool) (found : ValueLayout) → is_used name ≡ b
     → cond (b && true) None (Some layouts.Signed) ≡ Some found → (c : Content)
     → is_negative_count name c ≡ false
-unused-fine name true found used h c = cc
-unused-fine name false found used h c = by_forms (forms_of name) used
-  where
-    by_forms : (forms : Option (List ℕ)) → is_some forms ≡ false
-        → (option_map_or (λ allowed. is_among allowed DW_FORM_SDATA) forms false
-        && is_negative c) ≡ false
-    by_forms None none = refl
-    by_forms (Some allowed) none = cc
+unused-fine name b found used h c = grind (arith, used)
 
 valid-fine : (name : ℕ) (layout found : ValueLayout) (format : Format) (bytes : List ℕ) (at : ℕ)
     → valid_layout name layout ≡ Some found → IsFine name (content_at layout format bytes at)
@@ -68,8 +58,7 @@ valid-fine name layouts.LongBlock found format bytes at h =
 
 same-layout : (name : ℕ) (layout found : ValueLayout) (b : Bool)
     → cond b None (Some layout) ≡ Some found → layout ≡ found
-same-layout name layout found true h = cc
-same-layout name layout found false h = same_Some layout found h
+same-layout name layout found b h = grind arith
 
 -- An attribute whose value needs no check is read by its layout.
 pub record IsInLayout (format : Format) (s : AttributeSpecification) (layout : ValueLayout)
@@ -94,8 +83,7 @@ unchecked-read format s layout bytes at h =
     by_form true fine None is = no-layout (rw (fine, is, unchecked_layout) at h)
     by_form true fine (Some (Direct own)) is =
         let valid : valid_layout s.name own ≡ Some layout = rw (fine, is, unchecked_layout) at h in
-        subst (λ (l : ValueLayout). IsInLayout format s l bytes at)
-        (same-layout s.name own layout (is_used s.name && is_signed own) valid) (record {
+        rw (← same-layout s.name own layout (is_used s.name && is_signed own) valid) (record {
           form = is;
           read = in-layout format s own bytes at fine is
               (valid-fine s.name own layout format bytes at valid);
