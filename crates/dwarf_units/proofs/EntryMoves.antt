@@ -3,14 +3,13 @@ use Rattle.std.proofs.Common.{◌≡◌, ℕ, ◌≤◌, ℤ, List, length, drop
 use Rattle.std.proofs.Common.{length-take, length-drop}
 use Rattle.std.specs.Prelude.{Option, Some, None, Result, Ok, Err, ◌==◌}
 use Rattle.std.proofs.lemmas.List.Quantifiers.{position-Some}
-use Rattle.dwarf_bytes.specs.declared.fault.ReadFault.{ReadFault}
 use Rattle.dwarf_bytes.specs.declared.format.Format.{Format}
 use Rattle.dwarf_bytes.specs.declared.form.Form.{Form}
 use Rattle.dwarf_bytes.specs.declared.form.Form.TheVariants.{Direct, ImplicitConst, Indirect}
 use Rattle.dwarf_bytes.specs.declared.form.ValueLayout.{ValueLayout}
 use Rattle.dwarf_bytes.specs.Bind.{◌>>=◌}
 use Rattle.dwarf_bytes.specs.Forms.{form_of}
-use Rattle.dwarf_bytes.specs.Contents.{Content, Signed, Bytes, read_as, content_at}
+use Rattle.dwarf_bytes.specs.Contents.{Content, Signed, content_at}
 use Rattle.dwarf_bytes.specs.Numbers.{block_at, fixed_at, uleb_at, sleb_at, cstr_at, text_front}
 use Rattle.dwarf_bytes.specs.Numbers.{offset_at}
 use Rattle.dwarf_bytes.proofs.Numbers.Advance.{uleb_at-moves, sleb_at-moves}
@@ -37,8 +36,7 @@ uleb-stays bytes at x h = grind (arith, uleb_at-moves bytes at x.0 x.1)
 
 sleb-stays : (bytes : List ℕ) (at : ℕ) (x : ℤ × ℕ) → sleb_at bytes at ≡ Ok x
     → StaysWithin bytes at x.1
-sleb-stays bytes at x h = let moved = sleb_at-moves bytes at x.0 x.1 h in
-    (omega (arith, moved.0), moved.1)
+sleb-stays bytes at x h = grind (arith, sleb_at-moves bytes at x.0 x.1)
 
 cstr-stays : (bytes : List ℕ) (at : ℕ) (x : List ℕ × ℕ) → cstr_at bytes at ≡ Ok x
     → StaysWithin bytes at x.1
@@ -49,17 +47,6 @@ cstr-stays bytes at x h = grind (
   λ (n : ℕ). length-take n (drop at bytes),
   length-drop at bytes,
 )
-
-as-stays : {X : Type 0} (bytes : List ℕ) (at : ℕ) (content : X → Content)
-    (read : Result (X × ℕ) ReadFault) (x : Content × ℕ)
-    → ((y : X × ℕ) → read ≡ Ok y → StaysWithin bytes at y.1) → read_as content read ≡ Ok x
-    → StaysWithin bytes at x.1
-as-stays bytes at content read x stays h = grind (arith, stays)
-
-counted-stays : (bytes : List ℕ) (at : ℕ) (read : Result (ℕ × ℕ) ReadFault) (x : Content × ℕ)
-    → ((y : ℕ × ℕ) → read ≡ Ok y → StaysWithin bytes at y.1)
-    → (read >>= λ len. read_as Bytes (block_at len.0 bytes len.1)) ≡ Ok x → StaysWithin bytes at x.1
-counted-stays bytes at read x stays h = grind (arith, stays, block-stays)
 
 pub offset-stays : (format : Format) (bytes : List ℕ) (at : ℕ) (x : ℕ × ℕ)
     → offset_at format bytes at ≡ Ok x → StaysWithin bytes at x.1
@@ -78,9 +65,6 @@ content-stays layout format bytes at x le h = grind (
   cstr-stays bytes at,
   block-stays,
 )
-
-of-value-ok : {A : Type 0} (r : Result A ReadFault) (x : A) → of_value r ≡ Ok x → r ≡ Ok x
-of-value-ok r x h = grind arith
 
 direct-stays : (form : ℕ) (format : Format) (bytes : List ℕ) (at : ℕ) (x : Value × ℕ)
     → at ≤ length bytes → direct_at form format bytes at ≡ Ok x → StaysWithin bytes at x.1

@@ -1,16 +1,14 @@
 -- The offsets of the entries of a unit are increasing, up to its end.
 use Rattle.std.proofs.Common.{◌≡◌, ℕ, zero, suc, ◌+◌, ◌≤◌, List, [], ◌∷◌, ◌++◌, length, take}
-use Rattle.std.proofs.Common.{map, subst, arith, length-take, add-one}
-use Rattle.std.specs.Prelude.{Ok, nat_lt}
+use Rattle.std.proofs.Common.{map, arith, length-take, add-one}
+use Rattle.std.specs.Prelude.{Ok}
 use Rattle.std.specs.List.{filter_map}
 use Rattle.std.specs.List.Sorted.{IsStrictlyIncreasing}
-use Rattle.dwarf_bytes.specs.declared.fault.Cause.TheVariants as causes
 use Rattle.dwarf_bytes.specs.declared.format.Format.{Format}
-use Rattle.dwarf_bytes.specs.Items.{Lists, refuse_if, with_offset, items_from}
+use Rattle.dwarf_bytes.specs.Items.{Lists, items_from}
 use Rattle.dwarf_bytes.proofs.Numbers.Advance.{after-bind}
 use Rattle.dwarf_bytes.proofs.Items.ItemLaws.{Lists-within, Lists-each}
 use Rattle.dwarf_forms.specs.Declarations.{Declaration}
-use Rattle.dwarf_bytes.proofs.Numbers.Moves.{same-ok}
 use Rattle.dwarf_units.specs.declared.unit_headers.UnitHeader.{UnitHeader}
 use Rattle.dwarf_units.specs.Entries.{LocatedNode, Die, AreDepths, depth_after}
 use Rattle.dwarf_units.specs.Entries.{node_at, die_of, entries_of}
@@ -51,11 +49,8 @@ unfolding entries_of
 list-in info header table dies P h next =
     after-bind (items_from header.end (node_at header.format table (take header.end info)) []
     header.first) _ dies h P (λ all all_is h1.
-    after-bind (with_offset header.start (refuse_if (nat_lt 0 (depth_after all.0)) causes.TreeOpen))
-    _
-    dies h1 P (λ _ _ last.
     next all.0 all.1 (Lists-within _ (node_at header.format table (take header.end info)) []
-    header.first all.0 all.1 all_is) (same-ok (filter_map die_of all.0) dies last)))
+    header.first all.0 all.1 all_is) (grind (arith, h1)))
 
 -- The offsets of the entries of a unit are increasing, from the start of the unit up to its end.
 pub entries-rise : (info : List ℕ) (header : UnitHeader) (table : List Declaration)
@@ -65,9 +60,8 @@ entries-rise info header table dies h front back =
     list-in info header table dies (RiseWithin header.start header.end dies) h
     (λ all after listed same.
     let size = length-take header.end info in
-    subst (λ (ds : List Die). RiseWithin header.start header.end ds) same
-    (list-rises header.format table (take header.end info) header.end (omega (arith, size)) []
-    header.first all after listed header.start front back))
+    rw (← same) (list-rises header.format table (take header.end info) header.end
+    (omega (arith, size)) [] header.first all after listed header.start front back))
 
 -- Offsets that are increasing within an interval are strictly increasing.
 pub increasing : (from end : ℕ) (dies : List Die) → RiseWithin from end dies
@@ -86,7 +80,6 @@ offsets-rise info header table dies h =
     list-in info header table dies (IsStrictlyIncreasing (map (λ (die : Die). die.offset) dies)) h
     (λ all after listed same.
     let unit : List ℕ = take header.end info in
-    subst (λ (ds : List Die). IsStrictlyIncreasing (map (λ (die : Die). die.offset) ds)) same
-    (increasing 0 (header.first + length unit) (filter_map die_of all)
+    rw (← same) (increasing 0 (header.first + length unit) (filter_map die_of all)
     (list-rises header.format table unit (header.first + length unit) (omega arith) [] header.first
     all after listed 0 (omega arith) (omega arith))))

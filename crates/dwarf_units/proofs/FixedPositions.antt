@@ -1,30 +1,59 @@
 -- The value of an attribute of a fixed size is at its position.
+use Rattle.std.proofs.Common.{◌≡◌, ℕ, ◌+◌, ◌<◌, ◌≤◌, List, false, length, arith, ℤ, Bool, true}
+use Rattle.std.proofs.Common.{cond, refl, sym, ◌∙◌}
+use Rattle.std.specs.Prelude.{Some, Result, Ok, Err, Option, None, take, drop}
+use Rattle.dwarf_bytes.specs.declared.format.Format.{Format}
+use Rattle.dwarf_bytes.specs.declared.form.ValueLayout.{ValueLayout}
+use Rattle.dwarf_bytes.specs.Contents.{content_at, Content, Signed}
+use Rattle.dwarf_bytes.specs.Numbers.{block_at, fixed_at}
+use Rattle.dwarf_units.specs.Attributes.{is_negative, accepts, is_negative_count, number_of}
+use Rattle.dwarf_units.specs.Private.FixedSizes.{layout_len, number_in, used_value, fixed_len}
 use Rattle.std.proofs.lemmas.Option.{same_Some}
-use Rattle.std.proofs.Common.{◌≡◌, ℕ, ◌+◌, ◌<◌, ◌≤◌, ℤ, List, Bool, true, false, cond}
-use Rattle.std.proofs.Common.{length, refl, sym, ◌∙◌, arith}
-use Rattle.std.specs.Prelude.{Option, Some, None, Result, Ok, Err, take, drop}
 use Rattle.std.proofs.lemmas.Bool.{le-ltb}
 use Rattle.std.specs.Option.{option_map_or}
-use Rattle.std.proofs.lemmas.Option.{same_Some}
 use Rattle.dwarf_bytes.specs.declared.fault.ReadFault.{ReadFault}
-use Rattle.dwarf_bytes.specs.declared.fault.ReadFault.TheVariants as faults
-use Rattle.dwarf_bytes.specs.declared.fault.Cause.TheVariants as causes
-use Rattle.dwarf_bytes.specs.declared.format.Format.{Format}
 use Rattle.dwarf_bytes.specs.declared.form.Form.{Form}
 use Rattle.dwarf_bytes.specs.declared.form.Form.TheVariants.{Direct, ImplicitConst, Indirect}
-use Rattle.dwarf_bytes.specs.declared.form.ValueLayout.{ValueLayout}
-use Rattle.dwarf_bytes.specs.Contents.{Content, Signed, content_at}
 use Rattle.dwarf_bytes.specs.Forms.{form_of}
-use Rattle.dwarf_bytes.specs.Numbers.{block_at}
 use Rattle.dwarf_forms.specs.declared.attribute.AttributeSpecification.{AttributeSpecification}
 use Rattle.dwarf_units.specs.declared.used_position.UsedValue.{UsedValue}
 use Rattle.dwarf_units.specs.declared.used_position.UsedValue.TheVariants.{Constant, At}
-use Rattle.dwarf_units.specs.Attributes.{accepts, is_negative, is_negative_count, number_of}
 use Rattle.dwarf_units.specs.Entries.{attribute_at}
-use Rattle.dwarf_units.specs.Private.FixedSizes.{number_in, used_value}
-use Rattle.dwarf_units.specs.Private.FixedSizes.{fixed_len, layout_len}
-use Rattle.dwarf_units.proofs.FixedReads.{ReadsFixed, content-fixed}
 use Rattle.dwarf_units.proofs.FixedValues.{IsFine, constant-there, in-layout, never-count}
+use Rattle.dwarf_bytes.specs.declared.fault.ReadFault.TheVariants as faults
+use Rattle.dwarf_bytes.specs.declared.fault.Cause.TheVariants as causes
+
+-- ---- reads of a fixed size
+
+-- A read takes n bytes and returns a value with the property Good, or fails because fewer than n
+-- bytes remain.
+abbrev pub ReadsFixed : {X E : Type 0} → (X → Type 0) → E → ℕ → List ℕ → ℕ → Result (X × ℕ) E
+    → Type 0
+ReadsFixed Good short n bytes at (Ok x) = Good x.0 × (x.1 ≡ at + n) × (at + n ≤ length bytes)
+ReadsFixed Good short n bytes at (Err e) = (e ≡ short) × (length bytes < at + n)
+
+pub block-fixed : (n : ℕ) (bytes : List ℕ) (at : ℕ)
+    → ReadsFixed (λ _. Unit {0}) faults.Short n bytes at (block_at n bytes at)
+unfolding block_at
+block-fixed n bytes at = grind arith
+
+fixed-fixed : (n : ℕ) (bytes : List ℕ) (at : ℕ)
+    → ReadsFixed (λ _. Unit {0}) faults.Short n bytes at (fixed_at n bytes at)
+unfolding fixed_at
+fixed-fixed n bytes at = grind (arith, block-fixed n bytes at)
+
+pub content-fixed : (layout : ValueLayout) (format : Format) (n : ℕ) (bytes : List ℕ) (at : ℕ)
+    → layout_len format layout ≡ Some n → at ≤ length bytes
+    → ReadsFixed (λ c. is_negative c ≡ false) faults.Short n bytes at
+    (content_at layout format bytes at)
+unfolding content_at
+content-fixed layout format n bytes at len le = grind (
+  arith,
+  λ (k : ℕ). block-fixed k bytes at,
+  λ (k : ℕ). fixed-fixed k bytes at,
+  fixed-fixed 4 bytes at,
+  fixed-fixed 8 bytes at,
+)
 
 -- The attribute n bytes after the first one has the value at this position, and its size is m.
 abbrev pub HasValue : Format → AttributeSpecification → List ℕ → ℕ → ℕ → ℕ → UsedValue → Type 0

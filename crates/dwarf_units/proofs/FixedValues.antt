@@ -2,13 +2,11 @@
 -- constant of its declaration.
 use Rattle.std.proofs.lemmas.Bool.{ne_eqb}
 use Rattle.std.proofs.lemmas.Option.{same_Some}
-use Rattle.std.proofs.Common.{arith}
-use Rattle.std.proofs.Common.{◌≡◌, ℕ, ℤ, List, true, false, refl, ap, sym, ◌∙◌}
-use Rattle.std.specs.Prelude.{Option, Some, Result, Ok, Err, ◌==◌}
+use Rattle.std.proofs.Common.{arith, ◌≡◌, ℕ, ℤ, List, true, false, refl, ap, sym, ◌∙◌, Bool, cond}
+use Rattle.std.specs.Prelude.{Option, Some, Result, Ok, Err, ◌==◌, None, ◌&&◌}
 use Rattle.dwarf_bytes.specs.declared.constants.TheConstants.{DW_FORM_INDIRECT}
 use Rattle.dwarf_bytes.specs.declared.fault.ReadFault.{ReadFault}
 use Rattle.dwarf_bytes.specs.declared.fault.Cause.{Cause}
-use Rattle.dwarf_bytes.specs.declared.fault.Cause.TheVariants as causes
 use Rattle.dwarf_bytes.specs.declared.format.Format.{Format}
 use Rattle.dwarf_bytes.specs.declared.form.Form.{Form}
 use Rattle.dwarf_bytes.specs.declared.form.Form.TheVariants.{Direct, ImplicitConst, Indirect}
@@ -19,11 +17,13 @@ use Rattle.dwarf_bytes.specs.Contents.{Content, Signed, content_at}
 use Rattle.dwarf_bytes.specs.Items.{refuse_if, reading}
 use Rattle.dwarf_forms.specs.declared.values.ValueFault.{ValueFault}
 use Rattle.dwarf_forms.specs.Values.{Value, reading_value as of_value, direct_at, value_at}
-use Rattle.dwarf_units.specs.Attributes.{is_negative, is_negative_count}
-use Rattle.dwarf_units.specs.Attributes.{accepts, number_of}
+use Rattle.dwarf_units.specs.Attributes.{is_negative, is_negative_count, accepts, number_of}
+use Rattle.dwarf_units.specs.Attributes.{is_used}
 use Rattle.dwarf_forms.specs.declared.attribute.AttributeSpecification.{AttributeSpecification}
 use Rattle.dwarf_units.specs.declared.attributes.Attribute.{Attribute}
 use Rattle.dwarf_units.specs.Entries.{reading_value, attribute_at}
+use Rattle.dwarf_units.specs.Private.Runs.{is_signed, unchecked_layout, valid_layout}
+use Rattle.dwarf_bytes.specs.declared.fault.Cause.TheVariants as causes
 
 pub never-count : (name : ℕ) (c : Content) → is_negative c ≡ false
     → is_negative_count name c ≡ false
@@ -39,21 +39,6 @@ not-indirect form found is apart = ne_eqb form DW_FORM_INDIRECT
 abbrev pub IsFine : ℕ → Result (Content × ℕ) ReadFault → Type 0
 IsFine name (Ok c) = is_negative_count name c.0 ≡ false
 IsFine name (Err e) = Unit {0}
-
--- ---- the value of an attribute
-
-value-constant : (form : ℕ) (format : Format) (constant : Option ℤ) (c : ℤ) (bytes : List ℕ)
-    (at : ℕ) → form_of form ≡ Some ImplicitConst → constant ≡ Some c
-    → value_at form format constant bytes at ≡ Ok (record { form = form; content = Signed c }, at)
-unfolding value_at
-value-constant form format constant c bytes at is there = rw (is, there, value_at) refl
-
-value-content : (form : ℕ) (layout : ValueLayout) (format : Format) (constant : Option ℤ)
-    (bytes : List ℕ) (at : ℕ) → form_of form ≡ Some (Direct layout)
-    → value_at form format constant bytes at ≡ (of_value (content_at layout format bytes at)
-    >>= λ read. Ok (record { form = form; content = read.0 }, read.1))
-unfolding value_at direct_at
-value-content form layout format constant bytes at is = rw (is, value_at) (rw (is, direct_at) refl)
 
 -- ---- the attribute
 
@@ -87,7 +72,7 @@ checked-fine : (s : AttributeSpecification) (r : Result (Content × ℕ) ReadFau
     >>= checked s s.form)
 checked-fine s r fine = grind arith
 
--- An attribute whose form is not stored with it is read as a value of its form.
+-- An attribute whose form is in its declaration is read as a value of this form.
 attribute-direct : (format : Format) (s : AttributeSpecification) (found : Form) (bytes : List ℕ)
     (at : ℕ) → accepts s.name s.form ≡ true → form_of s.form ≡ Some found
     → (found ≡ Indirect → ⊥) → attribute_at format s bytes at
@@ -101,10 +86,11 @@ pub in-layout : (format : Format) (s : AttributeSpecification) (layout : ValueLa
     → IsFine s.name (content_at layout format bytes at)
     → (reading (content_at layout format bytes at) >>= as_attribute s)
     ≡ attribute_at format s bytes at
+unfolding value_at direct_at
 in-layout format s layout bytes at fine is valid =
     checked-fine s (content_at layout format bytes at) valid
     ∙ sym (attribute-direct format s (Direct layout) bytes at fine is (λ e. cc)
-    ∙ rw (value-content s.form layout format s.constant bytes at is) refl)
+    ∙ rw (is, value_at) (rw (is, direct_at) refl))
 
 -- An attribute whose value is in its declaration.
 pub constant-there : (format : Format) (s : AttributeSpecification) (c : ℤ) (bytes : List ℕ)
@@ -117,6 +103,51 @@ pub constant-there : (format : Format) (s : AttributeSpecification) (c : ℤ) (b
       },
       at,
     )
+unfolding value_at
 constant-there format s c bytes at fine is there valid =
     attribute-direct format s ImplicitConst bytes at fine is (λ e. cc)
-    ∙ rw (value-constant s.form format s.constant c bytes at is there, valid) refl
+    ∙ rw (is, there, value_at, valid) refl
+
+valid-fine : (name : ℕ) (layout found : ValueLayout) (format : Format) (bytes : List ℕ) (at : ℕ)
+    (b : Bool) → ((c : Content) → b ≡ false → is_negative_count name c ≡ false)
+    → cond (b && is_signed layout) None (Some layout) ≡ Some found
+    → IsFine name (content_at layout format bytes at)
+unfolding content_at
+valid-fine name layout found format bytes at b unused h =
+    grind (arith, λ (z : ℤ). unused (Signed z), never-count name)
+
+same-layout : (name : ℕ) (layout found : ValueLayout) (b : Bool)
+    → cond b None (Some layout) ≡ Some found → layout ≡ found
+same-layout name layout found b h = grind arith
+
+-- An attribute whose value needs no check is read by its layout.
+pub record IsInLayout (format : Format) (s : AttributeSpecification) (layout : ValueLayout)
+    (bytes : List ℕ) (at : ℕ) : Type 0 where
+  pub form : form_of s.form ≡ Some (Direct layout)
+  pub read : (reading (content_at layout format bytes at) >>= as_attribute s)
+      ≡ attribute_at format s bytes at
+
+pub unchecked-read : (format : Format) (s : AttributeSpecification) (layout : ValueLayout)
+    (bytes : List ℕ) (at : ℕ) → unchecked_layout s ≡ Some layout
+    → IsInLayout format s layout bytes at
+unfolding unchecked_layout
+unchecked-read format s layout bytes at h =
+    by_form (accepts s.name s.form) refl (form_of s.form) refl
+  where
+    no-layout : {P : Type 0} → (let none : Option ValueLayout = None in none) ≡ Some layout → P
+    no-layout none = cc
+
+    by_form : (b : Bool) → accepts s.name s.form ≡ b → (found : Option Form)
+        → form_of s.form ≡ found → IsInLayout format s layout bytes at
+    by_form false fine found is = no-layout (rw (fine, unchecked_layout) at h)
+    by_form true fine None is = no-layout (rw (fine, is, unchecked_layout) at h)
+    by_form true fine (Some (Direct own)) is =
+        let valid : valid_layout s.name own ≡ Some layout = rw (fine, is, unchecked_layout) at h in
+        rw (← same-layout s.name own layout (is_used s.name && is_signed own) valid) (record {
+          form = is;
+          read = in-layout format s own bytes at fine is
+              (valid-fine s.name own layout format bytes at (is_used s.name)
+              (λ c unused. grind (arith, unused)) valid);
+        })
+    by_form true fine (Some ImplicitConst) is = no-layout (rw (fine, is, unchecked_layout) at h)
+    by_form true fine (Some Indirect) is = no-layout (rw (fine, is, unchecked_layout) at h)

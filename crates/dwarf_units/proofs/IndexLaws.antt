@@ -1,11 +1,12 @@
--- Finding the table of a unit in the cache.
+-- Finding the table of a unit in the cache, and keeping it there as tables are added.
 use Rattle.std.proofs.Common.{◌≡◌, ◌⊎◌, inl, inr, ℕ, ◌+◌, ◌<◌, ◌≤◌, List, length, take}
-use Rattle.std.proofs.Common.{length-take-le, sym, ◌∙◌, subst, arith}
-use Rattle.std.specs.Prelude.{Option, Some, Ok, IfSome, slice_get, sum_by}
+use Rattle.std.proofs.Common.{length-take-le, sym, ◌∙◌, subst, arith, take_all, Bool, get_or, []}
+use Rattle.std.proofs.Common.{◌∷◌, ◌++◌, true, false, refl, append-nil}
+use Rattle.std.specs.Prelude.{Some, Ok, slice_get, sum_by, nat_le, if◌then◌else◌}
 use Rattle.std.proofs.lemmas.Bool.{cases_lt}
-use Rattle.std.proofs.lemmas.List.{get_or-take}
-use Rattle.std.proofs.lemmas.Option.{get_or_from_slice_get, same_Some}
-use Rattle.std.proofs.lemmas.Option.{slice_get-get_or, slice_get_within}
+use Rattle.std.proofs.lemmas.List.{get_or-take, take_more}
+use Rattle.std.proofs.lemmas.Option.{get_or_from_slice_get, same_Some, slice_get-get_or}
+use Rattle.std.proofs.lemmas.Option.{slice_get_within}
 use Rattle.dwarf_bytes.specs.declared.format.Format.{Format}
 use Rattle.dwarf_forms.specs.Declarations.{Declaration}
 use Rattle.dwarf_units.specs.declared.numbers.Numbers.{Numbers}
@@ -13,12 +14,19 @@ use Rattle.dwarf_units.specs.declared.unit_headers.UnitHeader.{UnitHeader}
 use Rattle.dwarf_units.specs.Units.{declarations_limit}
 use Rattle.dwarf_units.specs.Private.AbbreviationTables.{Table, table_size}
 use Rattle.dwarf_units.specs.Private.Numbers.{number_at}
-use Rattle.dwarf_units.specs.Private.Tables.{AreCached, AreElsewhere, CachedTables}
-use Rattle.dwarf_units.specs.Private.Tables.{IsCachedOrTooLarge, IsIndexOf, IsNumberOf}
-use Rattle.dwarf_units.specs.Private.Tables.{IsTableAt, size_limit, table_read}
-use Rattle.dwarf_units.proofs.MoreTables.{cached}
+use Rattle.dwarf_units.specs.Private.Tables.{AreCached, CachedTables}
+use Rattle.dwarf_units.specs.Private.Tables.{IsCachedOrTooLarge, IsIndexOf, IsTableAt}
+use Rattle.dwarf_units.specs.Private.Tables.{size_limit, table_read, IsAdded, IsParsedFrom, IsAt}
+use Rattle.dwarf_units.specs.Private.Tables.{StaysCached, with_table}
+use Rattle.dwarf_units.proofs.StoredLaws.{cached}
 use Rattle.dwarf_units.proofs.TableLaws.{cached-parsed, parsed-again, parsed-too-long}
-use Rattle.dwarf_units.proofs.TableLaws.{table-few}
+use Rattle.dwarf_units.proofs.TableLaws.{parsed-at, last-at}
+use Rattle.std.specs.List.{All}
+use Rattle.std.proofs.Math.Seq.{take-append_seam, take-length}
+use Rattle.std.proofs.lemmas.Grind.{common_steps}
+use Rattle.std.proofs.lemmas.List.Elements.{All-push}
+use Rattle.std.proofs.lemmas.List.Sums.{sum_by_push, sum_by-append}
+use Rattle.dwarf_forms.proofs.Elements.{at-front}
 
 -- The map has the index of a table.
 number-is : (section : List ℕ) (tables : List Table) (permanent budget : ℕ) (numbers : Numbers)
@@ -26,20 +34,6 @@ number-is : (section : List ℕ) (tables : List Table) (permanent budget : ℕ) 
     → IsTableAt format offset tables i → number_at numbers format offset ≡ Some i
 number-is section tables permanent budget numbers format offset i are (table, at, is) =
     rw (← is.1, ← is.0) (are.found i table at)
-
-pub index-none : (section : List ℕ) (tables : List Table) (permanent budget : ℕ)
-    (numbers : Numbers) (format : Format) (offset : ℕ) (found : Option ℕ)
-    → AreCached section tables permanent budget numbers
-    → number_at numbers format offset ≡ found
-    → IfSome found (λ number. IsTableAt format offset tables number → ⊥)
-    → AreElsewhere format offset tables
-index-none section tables permanent budget numbers format offset found are is elsewhere i table at
-    same = grind (
-      arith,
-      is,
-      elsewhere,
-      number-is section tables permanent budget numbers format offset i are (table, at, same),
-    )
 
 pub index-some : (section : List ℕ) (tables : List Table) (permanent budget number : ℕ)
     (numbers : Numbers) (unit : UnitHeader) → AreCached section tables permanent budget numbers
@@ -92,18 +86,6 @@ index-stays section tables permanent budget number numbers unit are (table, at, 
         are.past table (subst (λ (k : ℕ). slice_get tables k ≡ Some table) last at) in
         inr (omega (arith, past, are.counted))
 
--- The table at its index is parsed from the section.
-pub index-number : (k : CachedTables) (unit : UnitHeader) (number : ℕ) → IsIndexOf k unit number
-    → IsNumberOf k.section unit k.tables number
-index-number k unit number is = (
-  is.table,
-  is.found,
-  parsed-again k.section is.table unit.abbreviations declarations_limit is.parsed is.at.0
-      (table-few declarations_limit k.section is.table.offset is.table.declarations is.parsed.1),
-  is.at.0,
-  is.at.1,
-)
-
 -- A cached table is parsed again if the remaining budget is large enough ..
 pub index-fits : (k : CachedTables) (unit : UnitHeader) (number left : ℕ) (t : Table)
     → IsIndexOf k unit number → slice_get k.tables number ≡ Some t
@@ -123,3 +105,83 @@ pub index-long : {X : Type 0} (k : CachedTables) (unit : UnitHeader) (number lef
 index-long k unit number left t read is found is_read few past =
     parsed-too-long k.section is.table unit.abbreviations left read is.parsed is.at.0 is_read few
     (grind (arith, is.found, found))
+
+-- What holds for the table of a unit still holds after more tables are cached.
+pub stays-on : (old new : CachedTables) (unit : UnitHeader) → StaysCached old new
+    → new.section ≡ old.section → IsCachedOrTooLarge old unit → IsCachedOrTooLarge new unit
+stays-on old new unit grows same (table, at, parsed, is) =
+    (table, at, rw same parsed, by_case is)
+  where
+    by_case : ((number : ℕ) × (slice_get (take old.permanent old.tables) number ≡ Some table))
+        ⊎ (size_limit old.section < sum_by table_size (take old.permanent old.tables) + table_size
+        table)
+        → ((number : ℕ) × (slice_get (take new.permanent new.tables) number ≡ Some table))
+        ⊎ (size_limit new.section < sum_by table_size (take new.permanent new.tables) + table_size
+        table)
+    by_case (inl there) = inl (
+      there.0,
+      rw grows.1
+          (at-front (take old.permanent old.tables) grows.0 there.0 table there.1),
+    )
+    by_case (inr large) = rw (grows.1, same)
+        (inr (omega
+        (arith, large, sum_by-append table_size (take old.permanent old.tables) grows.0)))
+
+-- A table that is added for a unit stays in the cache, or exceeds the limit.
+pub stays-with : (old : CachedTables) (unit : UnitHeader) (table : Table)
+    → old.permanent ≤ length old.tables → IsAt unit.format unit.abbreviations table
+    → IsParsedFrom old.section table → IsCachedOrTooLarge (with_table old table) unit
+    × StaysCached old (with_table old table)
+stays-with old unit table within at parsed =
+    let before : List Table = take old.permanent old.tables in
+    by_test before (length-take-le old.permanent old.tables within) refl
+    (nat_le (sum_by table_size (before ++ table ∷ [])) (size_limit old.section)) refl
+  where
+    by_test : (before : List Table) → length before ≡ old.permanent → before
+        ≡ take old.permanent old.tables
+        → (b : Bool) → nat_le (sum_by table_size (before ++ table ∷ [])) (size_limit old.section)
+        ≡ b
+        → (let new : CachedTables = record {
+          section = old.section;
+          tables = before ++ table ∷ [];
+          permanent =
+              if b then length (before ++ table ∷ []) else old.permanent;
+        } in
+        IsCachedOrTooLarge new unit × StaysCached old new)
+    by_test before len is true fits =
+        let tables : List Table = before ++ table ∷ [] in
+        let last = last-at before tables (length before) table refl refl in
+        rw (take-length tables, ← is)
+        ((table, at, parsed, inl (length before, last)), (table ∷ [], refl))
+    by_test before len is false past =
+        let tables : List Table = before ++ table ∷ [] in
+        let front : take old.permanent tables ≡ before =
+        rw len at (take-append_seam before (table ∷ [])) in
+        let large : size_limit old.section < sum_by table_size before + table_size table =
+        grind (arith, common_steps, past, sum_by_push table_size before table) in
+        rw (front, ← is) ((table, at, parsed, inr large), ([], sym (append-nil before)))
+
+-- The same for a table that was parsed for the unit.
+pub stays-parsed : (old new : CachedTables) (unit : UnitHeader) (budget left number : ℕ)
+    → old.permanent ≤ length old.tables → budget ≤ declarations_limit
+    → IsAdded unit.format unit.abbreviations budget left old new number
+    → IsCachedOrTooLarge new unit × StaysCached old new
+stays-parsed old new unit budget left number within few added =
+    let parsed : IsParsedFrom old.section added.table =
+    parsed-at old.section budget added.table unit.abbreviations added.within added.at.0 added.read
+    (omega (arith, added.counted, few)) in
+    rw added.added (stays-with old unit added.table within added.at parsed)
+
+-- It holds for the units up to the next index.
+pub stays-next : (old new : CachedTables) (units : List UnitHeader) (index : ℕ) (d : UnitHeader)
+    → StaysCached old new → new.section ≡ old.section → index < length units
+    → IsCachedOrTooLarge new (get_or units index d) → All (IsCachedOrTooLarge old)
+    (take index units)
+    → All (IsCachedOrTooLarge new) (take (index + 1) units)
+stays-next old new units index d grows same within here all = rw (take_more units index d within)
+    (All-push (IsCachedOrTooLarge new) (take index units) (get_or units index d)
+    (λ k u lt. stays-on old new (get_or (take index units) k u) grows same (all k u lt)) here)
+
+pub stays-end : (tables : CachedTables) (units : List UnitHeader) (index : ℕ) → length units ≤ index
+    → All (IsCachedOrTooLarge tables) (take index units) → All (IsCachedOrTooLarge tables) units
+stays-end tables units index past all = rw (take_all index units past) at all

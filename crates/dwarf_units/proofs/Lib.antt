@@ -1,16 +1,12 @@
 pub mod UnitLaws
 pub mod TableLaws
 pub mod StoredLaws
-pub mod MoreTables
-pub mod PermanentLaws
 pub mod EntryMoves
 pub mod EntryAdvances
 pub mod NodeLaws
 pub mod EntryOrder
 pub mod RereadLaws
 pub mod FixedValues
-pub mod UncheckedValues
-pub mod FixedReads
 pub mod FixedPositions
 pub mod RunParts
 pub mod RunReads
@@ -20,6 +16,4 @@ pub mod NodeShapes
 pub mod LinkLaws
 pub mod SharedTableLaws
 pub mod IndexLaws
-pub mod NameLaws
-pub mod UsedLaws
 pub mod SlotLaws

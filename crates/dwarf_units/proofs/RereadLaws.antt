@@ -1,17 +1,16 @@
 -- An entry can be re-read at its offset.
 use Rattle.std.proofs.Common.{arith}
-use Rattle.std.proofs.Common.{◌≡◌, ℕ, zero, suc, List, [], ◌∷◌, ◌++◌, Bool, refl, sym}
-use Rattle.std.proofs.Common.{subst, take}
+use Rattle.std.proofs.Common.{◌≡◌, ℕ, zero, suc, List, [], ◌∷◌, ◌++◌, Bool, refl}
+use Rattle.std.proofs.Common.{take}
 use Rattle.std.specs.Prelude.{Some, Ok, slice_get}
-use Rattle.std.specs.List.{list_any, filter_map}
+use Rattle.std.specs.List.{filter_map}
 use Rattle.std.proofs.lemmas.Option.{same_Some}
 use Rattle.dwarf_bytes.specs.declared.format.Format.{Format}
 use Rattle.dwarf_bytes.specs.Items.{Item, Lists}
 use Rattle.dwarf_forms.specs.Declarations.{Declaration}
 use Rattle.dwarf_units.specs.declared.attributes.Attribute.{Attribute}
 use Rattle.dwarf_units.specs.declared.unit_headers.UnitHeader.{UnitHeader}
-use Rattle.dwarf_units.specs.Entries.{Node, Entry, Null, LocatedNode, Die, depth_after}
-use Rattle.dwarf_units.specs.Entries.{is_root, node_at_depth}
+use Rattle.dwarf_units.specs.Entries.{Node, Entry, Null, LocatedNode, Die}
 use Rattle.dwarf_units.specs.Entries.{node_at, entry_at, die_of, entries_of}
 use Rattle.dwarf_units.proofs.EntryOrder.{list-in}
 
@@ -20,23 +19,14 @@ abbrev IsReadAgain : Format → List Declaration → List ℕ → ℕ → ℕ �
 IsReadAgain format table unit at tag attributes =
     (after : ℕ) × (entry_at format table unit at ≡ Ok ((tag, attributes), after))
 
-node_at_depth-again : (format : Format) (table : List Declaration) (depth : ℕ) (rooted : Bool)
-    (unit : List ℕ) (at : ℕ) (x : Node × ℕ) → node_at_depth format table depth rooted unit at ≡ Ok x
-    → (tag : ℕ) (children : Bool) (attributes : List Attribute)
-    → x.0 ≡ Entry tag children attributes
-    → entry_at format table unit at ≡ Ok ((tag, attributes), x.1)
-unfolding entry_at
-node_at_depth-again format table depth rooted unit at x h tag children all is = grind (arith, is)
-
 node_at-again : (format : Format) (table : List Declaration) (unit : List ℕ)
     (before : List LocatedNode) (at : ℕ) (x : LocatedNode) (after : ℕ)
     → node_at format table unit before at ≡ Ok (Item x after)
     → (tag : ℕ) (children : Bool) (attributes : List Attribute)
     → x.node ≡ Entry tag children attributes → IsReadAgain format table unit x.offset tag attributes
+unfolding entry_at
 node_at-again format table unit before at x after h tag children attributes is =
-    let again = node_at_depth-again format table (depth_after before) (list_any is_root before) unit
-    at in
-    (after, grind (arith, is, again))
+    (after, grind (arith, is))
 
 -- This holds for every entry of a listing.
 list-reread : (format : Format) (table : List Declaration) (unit : List ℕ)
@@ -45,35 +35,29 @@ list-reread : (format : Format) (table : List Declaration) (unit : List ℕ)
     → Lists (node_at format table unit) before at all after
     → (i : ℕ) (die : Die) → slice_get (filter_map die_of all) i ≡ Some die
     → IsReadAgain format table unit die.offset die.tag die.attributes
-list-reread format table unit before at [] after h i die is = absurd (none i die is)
-  where
-    none : (i : ℕ) (die : Die) → slice_get [] i ≡ Some die → ⊥
-    none zero die h = cc
-    none (suc i) die h = cc
+list-reread format table unit before at [] after h i die is = cc
 list-reread format table unit before at (x ∷ all) after h i die is =
-    by_node x.offset x.depth x.node (node_at-again format table unit before at x h.0 h.1)
+    by_node x.node (node_at-again format table unit before at x h.0 h.1)
     (λ k is. list-reread format table unit (before ++ x ∷ []) h.0 all after h.2 k die is) i is
   where
-    by_node : (offset depth : ℕ) (node : Node)
+    by_node : (node : Node)
         → ((tag : ℕ) (children : Bool) (attributes : List Attribute)
         → node ≡ Entry tag children attributes
-        → IsReadAgain format table unit offset tag attributes)
+        → IsReadAgain format table unit x.offset tag attributes)
         → ((k : ℕ) → slice_get (filter_map die_of all) k ≡ Some die
         → IsReadAgain format table unit die.offset die.tag die.attributes)
         → (i : ℕ) → slice_get (filter_map die_of
-        (record { offset = offset; depth = depth; node = node } ∷ all)) i ≡ Some die
+        (record { offset = x.offset; depth = x.depth; node = node } ∷ all)) i ≡ Some die
         → IsReadAgain format table unit die.offset die.tag die.attributes
-    by_node offset depth (Entry tag children attributes) here rest zero is =
-        subst (λ (d : Die). IsReadAgain format table unit d.offset d.tag d.attributes)
-        (same_Some (record {
-          offset = offset;
-          depth = depth;
+    by_node (Entry tag children attributes) here rest zero is =
+        rw (← same_Some (record {
+          offset = x.offset;
+          depth = x.depth;
           tag = tag;
-          attributes =
-              attributes;
+          attributes = attributes;
         }) die is) (here tag children attributes refl)
-    by_node offset depth (Entry tag children attributes) here rest (suc i) is = rest i is
-    by_node offset depth Null here rest i is = rest i is
+    by_node (Entry tag children attributes) here rest (suc i) is = rest i is
+    by_node Null here rest i is = rest i is
 
 pub entries-again : (info : List ℕ) (header : UnitHeader) (table : List Declaration)
     (dies : List Die) → entries_of info header table ≡ Ok dies
@@ -84,4 +68,4 @@ entries-again info header table dies h i die is =
     list-in info header table dies (IsReadAgain header.format table (take header.end info)
     die.offset die.tag die.attributes) h (λ all after listed same.
     list-reread header.format table (take header.end info) [] header.first all after listed i die
-    (subst (λ (ds : List Die). slice_get ds i ≡ Some die) (sym same) is))
+    (rw same is))

@@ -31,8 +31,8 @@ use Rattle.dwarf_units.specs.Private.Runs.{unchecked_layout}
 use Rattle.dwarf_units.specs.Private.StoredAttributes.{stored_attributes, stored_attributes_at}
 use Rattle.dwarf_units.proofs.EntryAdvances.{attributes-stay}
 use Rattle.dwarf_units.proofs.FixedPositions.{block-there, direct-value}
-use Rattle.dwarf_units.proofs.UncheckedValues.{IsInLayout, unchecked-read}
-use Rattle.dwarf_units.proofs.NameLaws.{found-number, used-none, used-some}
+use Rattle.dwarf_units.proofs.FixedValues.{IsInLayout, unchecked-read}
+use Rattle.dwarf_units.proofs.SlotLaws.{found-number, used-none, used-some}
 use Rattle.dwarf_units.proofs.StoredReads.{fault-first}
 use Rattle.dwarf_units.proofs.StoredReads.{with_front}
 

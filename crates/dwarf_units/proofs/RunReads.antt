@@ -24,7 +24,7 @@ use Rattle.dwarf_units.specs.Private.Runs.{Run, Runs, all_at, run_before, runs_f
 use Rattle.dwarf_units.specs.Private.Runs.{then_read, unchecked_layout}
 use Rattle.dwarf_units.specs.Used.{used_among}
 use Rattle.dwarf_units.specs.Private.Used.{used_after, used_attributes_at}
-use Rattle.dwarf_units.proofs.UsedLaws.{among-append}
+use Rattle.dwarf_units.proofs.SlotLaws.{among-append}
 use Rattle.dwarf_units.specs.Private.StoredAttributes.{stored_attributes, stored_attributes_at}
 use Rattle.dwarf_units.proofs.FixedPositions.{IsAt, block-there, fixed-at}
 use Rattle.dwarf_units.proofs.StoredReads.{fault-first, stored-append}

@@ -18,7 +18,7 @@ use Rattle.dwarf_units.specs.Private.Runs.{run_before, runs_at, runs_from, then_
 use Rattle.dwarf_units.specs.Private.StoredAttributes.{Fills}
 use Rattle.dwarf_units.specs.Used.{Used}
 use Rattle.dwarf_units.specs.Private.Used.{used_after, with_used}
-use Rattle.dwarf_units.proofs.UsedLaws.{nothing-used, with-none, with-twice}
+use Rattle.dwarf_units.proofs.SlotLaws.{nothing-used, with-none, with-twice}
 
 -- ---- computing the runs
 

@@ -59,12 +59,9 @@ own-lists : (section : List ℕ) (ds : List SharedDeclaration)
     → map own_attributes (full_declarations section ds) ≡ map (λ d. d.list.own) ds
 own-lists section [] are = refl
 own-lists section (d ∷ ds) are =
-    let first : own_attributes (full_declaration section d) ≡ d.list.own =
-    own-first section d.list (are 0 d (omega arith)) in
-    let rest : map own_attributes (full_declarations section ds)
-    ≡ map (λ (d : SharedDeclaration). d.list.own) ds =
-    own-lists section ds (λ k e lt. are (suc k) e (omega (arith, lt))) in
-    rw (first, rest) refl
+    let first = own-first section d.list (are 0 d (omega arith)) in
+    let rest = own-lists section ds (λ k e lt. are (suc k) e (omega (arith, lt))) in
+    grind arith
 
 own-sum : (section : List ℕ) (ds : List SharedDeclaration)
     → AreShared section ds

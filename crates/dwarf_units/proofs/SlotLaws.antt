@@ -1,22 +1,131 @@
--- The used attributes of an entry in slots: the effect of adding one attribute.
-use Rattle.std.proofs.Common.{arith}
-use Rattle.std.proofs.Common.{◌≡◌, ℕ, ◌<◌, List, [], ◌∷◌, length, get_or, Bool, true}
-use Rattle.std.proofs.Common.{false, ap, sym, ◌∙◌}
-use Rattle.std.specs.Prelude.{Some}
+-- The used attributes of an entry: their names, and adding attributes one by one.
+use Rattle.std.proofs.Common.{arith, ◌≡◌, ℕ, List, [], ◌∷◌, Bool, true, false, refl, ap, sym, ◌∙◌}
+use Rattle.std.proofs.Common.{◌++◌, ◌<◌, length, get_or}
+use Rattle.std.specs.Prelude.{Some, None, ◌==◌, find, Option, Result, Ok}
+use Rattle.std.proofs.lemmas.Bool.{ne_eqb, eqb-true}
+use Rattle.dwarf_units.specs.declared.used_name.UsedName.{UsedName}
+use Rattle.dwarf_units.specs.declared.used_name.UsedName.TheVariants.{Name, LinkageName}
+use Rattle.dwarf_units.specs.declared.used_name.UsedName.TheVariants.{AbstractOrigin, Specification}
+use Rattle.dwarf_units.specs.declared.used_name.UsedName.TheVariants.{LowPc, HighPc, Ranges}
+use Rattle.dwarf_units.specs.declared.used_name.UsedName.TheVariants.{CallFile, CallLine, StmtList}
+use Rattle.dwarf_units.specs.declared.used_name.UsedName.TheVariants.{StrOffsetsBase, AddrBase}
+use Rattle.dwarf_units.specs.declared.used_name.UsedName.TheVariants.{RnglistsBase}
+use Rattle.dwarf_units.specs.Attributes.{is_used}
+use Rattle.dwarf_units.specs.Private.Names.{name_of, used_names, used_name}
 use Rattle.std.specs.Option.{option_or}
-use Rattle.std.proofs.Math.ListN.{set}
-use Rattle.std.proofs.lemmas.List.{get_or-set_same, get_or-set_other}
+use Rattle.dwarf_bytes.specs.declared.fault.Cause.{Cause}
 use Rattle.dwarf_units.specs.declared.attributes.Attribute.{Attribute}
 use Rattle.dwarf_units.specs.declared.attributes.AttributeValue.{AttributeValue}
-use Rattle.dwarf_units.specs.declared.used_name.UsedName.{UsedName}
-use Rattle.dwarf_units.specs.declared.used_name.UsedName.TheVariants.{Name}
 use Rattle.dwarf_units.specs.Entries.{value_of}
+use Rattle.dwarf_units.specs.Used.{Used, used_among, value_named}
+use Rattle.dwarf_units.specs.Private.Used.{used_by, with_used, used_after}
+use Rattle.std.proofs.Math.ListN.{set}
+use Rattle.std.proofs.lemmas.List.{get_or-set_same, get_or-set_other}
 use Rattle.dwarf_units.specs.Private.Slots.{slot_of, in_slot, in_slots}
-use Rattle.dwarf_units.specs.Private.Names.{name_of, used_names, used_name}
-use Rattle.dwarf_units.specs.Used.{Used}
-use Rattle.dwarf_units.specs.Private.Used.{with_used}
-use Rattle.dwarf_units.proofs.NameLaws.{named, found-number}
-use Rattle.dwarf_units.proofs.UsedLaws.{under-by, same-by}
+
+pub named : (name : UsedName) → used_name (name_of name) ≡ Some name
+named name = grind arith
+
+found-holds : {X : Type 0} (p : X → Bool) (xs : List X) (x : X) → find p xs ≡ Some x → p x ≡ true
+found-holds p [] x is = cc
+found-holds p (y ∷ ys) x is = let rest = found-holds p ys x in grind arith
+
+pub found-number : (number : ℕ) (name : UsedName) → used_name number ≡ Some name
+    → number ≡ name_of name
+found-number number name is = sym (eqb-true (name_of name) number
+    (found-holds (λ n. name_of n == number) used_names name is))
+
+-- ---- whether an attribute is used
+
+number-used : (name : UsedName) → is_used (name_of name) ≡ true
+number-used name = grind arith
+
+pub used-some : (number : ℕ) (name : UsedName) → used_name number ≡ Some name
+    → is_used number ≡ true
+used-some number name is = ap is_used (found-number number name is) ∙ number-used name
+
+pub used-none : (number : ℕ) → used_name number ≡ None → is_used number ≡ false
+used-none number none = rw (
+  ne_eqb number 3 (other Name),
+  ne_eqb number 110 (other LinkageName),
+  ne_eqb number 17 (other LowPc),
+  ne_eqb number 18 (other HighPc),
+  ne_eqb number 88 (other CallFile),
+  ne_eqb number 89 (other CallLine),
+  ne_eqb number 49 (other AbstractOrigin),
+  ne_eqb number 71 (other Specification),
+  ne_eqb number 85 (other Ranges),
+  ne_eqb number 16 (other StmtList),
+  ne_eqb number 114 (other StrOffsetsBase),
+  ne_eqb number 115 (other AddrBase),
+  ne_eqb number 116 (other RnglistsBase),
+) refl
+  where
+    other : (name : UsedName) → number ≡ name_of name → ⊥
+    other name is = let some : used_name number ≡ Some name = ap used_name is ∙ named name in cc
+
+-- ---- the value of each name
+
+pub under-by : (value : UsedName → Option AttributeValue) (name : UsedName)
+    → value_named name (used_by value) ≡ value name
+under-by value name = grind arith
+
+-- Two records with the same value for each name are equal.
+pub same-by : (v w : UsedName → Option AttributeValue) → ((name : UsedName) → v name ≡ w name)
+    → used_by v ≡ used_by w
+same-by v w same = rw (
+  same Name,
+  same LinkageName,
+  same AbstractOrigin,
+  same Specification,
+  same LowPc,
+  same HighPc,
+  same Ranges,
+  same CallFile,
+  same CallLine,
+  same StmtList,
+  same StrOffsetsBase,
+  same AddrBase,
+  same RnglistsBase,
+) refl
+
+pub by-under : (u : Used) → used_by (λ name. value_named name u) ≡ u
+by-under u = refl
+
+-- ---- lists of attributes
+
+pub or-none : {X : Type 0} (x : Option X) → option_or x None ≡ x
+or-none x = grind arith
+
+value-append : (xs ys : List Attribute) (name : ℕ)
+    → value_of (xs ++ ys) name ≡ option_or (value_of xs name) (value_of ys name)
+value-append [] ys name = refl
+value-append (a ∷ xs) ys name = let rest = value-append xs ys name in grind arith
+
+pub among-append : (xs ys : List Attribute) → with_used (used_among xs) ys ≡ used_among (xs ++ ys)
+unfolding with_used
+among-append xs ys = same-by _ _ (λ name. ap (λ x. option_or x (value_of ys (name_of name)))
+    (under-by (λ n. value_of xs (name_of n)) name) ∙ sym (value-append xs ys (name_of name)))
+
+pub with-none : (u : Used) → with_used u [] ≡ u
+unfolding with_used
+with-none u = same-by _ _ (λ name. or-none (value_named name u)) ∙ by-under u
+
+pub with-twice : (u : Used) (xs ys : List Attribute) → with_used (with_used u xs) ys
+    ≡ with_used u (xs ++ ys)
+unfolding with_used
+with-twice u xs ys = same-by
+    (λ name. option_or (value_named name (with_used u xs)) (value_of ys (name_of name)))
+    (λ name. option_or (value_named name u) (value_of (xs ++ ys) (name_of name))) (λ name. grind (
+      arith,
+      under-by (λ n. option_or (value_named n u) (value_of xs (name_of n))) name,
+      value-append xs ys (name_of name),
+    ))
+
+-- A read that stores nothing.
+pub nothing-used : (u : Used) (r : Result (List Attribute × ℕ) Cause) (place : ℕ)
+    → r ≡ Ok ([], place) → used_after u r ≡ Ok (u, place)
+nothing-used u r place is = ap (used_after u) is ∙ ap (λ (v : Used). Ok (v, place)) (with-none u)
 
 -- ---- names, their codes and their slots
 

@@ -1,40 +1,26 @@
 -- The cached tables after one more table is added to the permanent ones.
-use Rattle.std.proofs.Common.{take_all}
-use Rattle.std.proofs.Common.{◌≡◌, ℕ, ◌≤◌, List, [], ◌∷◌, ◌++◌, length}
-use Rattle.std.proofs.Common.{take, length-take-le, refl, ◌∙◌}
-use Rattle.std.proofs.Common.{arith}
+use Rattle.std.proofs.Common.{take_all, ◌≡◌, ℕ, ◌≤◌, List, [], ◌∷◌, ◌++◌, length, take}
+use Rattle.std.proofs.Common.{length-take-le, refl, arith, ◌⊎◌, ◌+◌, ◌-◌, ◌<◌, length-append}
+use Rattle.std.proofs.Common.{sym}
 use Rattle.std.specs.Prelude.{Some, slice_get}
 use Rattle.std.proofs.lemmas.Grind.{common_steps}
 use Rattle.std.proofs.lemmas.List.{get_or-take}
-use Rattle.std.proofs.lemmas.Option.{slice_get-get_or, slice_get_within}
-use Rattle.std.proofs.lemmas.Option.{get_or_from_slice_get}
+use Rattle.std.proofs.lemmas.Option.{slice_get-get_or, slice_get_within, get_or_from_slice_get}
 use Rattle.dwarf_bytes.specs.declared.format.Format.{Format}
 use Rattle.dwarf_forms.proofs.Elements.{at-last}
 use Rattle.dwarf_units.specs.declared.numbers.Numbers.{Numbers}
 use Rattle.dwarf_units.specs.Private.Numbers.{number_at, with_number}
-use Rattle.dwarf_units.specs.Private.AbbreviationTables.{Table}
-use Rattle.dwarf_units.specs.Private.Tables.{AreElsewhere, AreCached}
-use Rattle.dwarf_units.proofs.TableLaws.{parsed-before}
+use Rattle.dwarf_units.specs.Private.AbbreviationTables.{Table, table_size}
+use Rattle.dwarf_units.specs.Private.Tables.{AreElsewhere, AreCached, CachedTables, IsParsedFrom}
+use Rattle.dwarf_units.specs.Private.Tables.{with_table}
+use Rattle.dwarf_units.proofs.TableLaws.{parsed-before, last-at, parsed-after}
+use Rattle.std.proofs.Math.Seq.{take-append_seam, take-length}
+use Rattle.std.proofs.lemmas.List.Sums.{sum_by_push}
 
 -- One index is set.
 abbrev pub Sets : Numbers → Numbers → Format → ℕ → ℕ → Type 0
 Sets numbers next format offset number = (f : Format) (at : ℕ)
     → number_at next f at ≡ with_number numbers format offset number f at
-
-pub sets-as : (numbers next : Numbers) (given format : Format) (at offset number : ℕ)
-    → given ≡ format → at ≡ offset → Sets numbers next given at number
-    → Sets numbers next format offset number
-sets-as numbers next given format at offset number format_is offset_is sets =
-    rw (← format_is, ← offset_is) sets
-
-with-here : (numbers : Numbers) (format : Format) (offset number : ℕ)
-    → with_number numbers format offset number format offset ≡ Some number
-with-here numbers format offset number = grind arith
-
-with-there : (numbers : Numbers) (format : Format) (offset number : ℕ) (f : Format) (at : ℕ)
-    → ((at ≡ offset) × (f ≡ format) → ⊥) → with_number numbers format offset number f at
-    ≡ number_at numbers f at
-with-there numbers format offset number f at apart = grind (arith, common_steps)
 
 abbrev pub AreFound : Numbers → List Table → Type 0
 AreFound numbers tables = (i : ℕ) (table : Table) → slice_get tables i ≡ Some table
@@ -61,9 +47,9 @@ found-short tables permanent numbers next format offset number within elsewhere 
     let here = taken tables permanent i table within at in
     grind (
       arith,
+      common_steps,
       sets table.format table.offset,
-      with-there numbers format offset number
-          table.format table.offset (elsewhere i table here),
+      elsewhere i table here,
       found i table here,
     )
 
@@ -82,8 +68,7 @@ pub found-added : (section : List ℕ) (tables : List Table) (permanent budget :
 found-added section tables permanent budget numbers next table elsewhere sets all =
     let len = length-take-le permanent tables all.within in
     found-push (take permanent tables) next table
-    (rw len
-    (sets table.format table.offset ∙ with-here numbers table.format table.offset permanent))
+    (grind (arith, len, sets table.format table.offset))
     (found-short tables permanent numbers next table.format table.offset permanent all.within
     elsewhere sets all.found)
 
@@ -109,3 +94,74 @@ cached-truncated section tables after permanent budget numbers next format offse
       past = λ t at. absurd
           (omega (arith, slice_get_within (take permanent tables) permanent t at, len));
     })
+
+abbrev pub cached : List ℕ → List Table → ℕ → CachedTables
+cached section tables permanent =
+    record { section = section; tables = tables; permanent = permanent }
+
+-- The invariant holds after a permanent table is added ..
+pub cached-permanent : (section : List ℕ) (tables after : List Table)
+    (permanent budget now size : ℕ) (numbers next : Numbers) (table : Table)
+    → AreElsewhere table.format table.offset tables
+    → Sets numbers next table.format table.offset permanent → IsParsedFrom section table
+    → after ≡ take permanent tables ++ table ∷ [] → size ≡ table_size table → size ≤ budget
+    → now ≡ length after → AreCached section tables permanent budget numbers
+    → AreCached section after now (budget - size) next
+cached-permanent section tables after permanent budget now size numbers next table elsewhere sets
+    parsed is size_is fits now_is all =
+    let whole : take now after ≡ after = rw now_is (take-length after) in
+    let sum = sum_by_push table_size (take permanent tables) table in
+    record {
+      parsed = parsed-after section tables after permanent table all.parsed parsed is;
+      found = rw is
+          (found-added section tables permanent budget numbers next table elsewhere sets all);
+      counted = rw (whole, is) (omega (arith, sum, size_is, fits, all.counted));
+      within = omega (arith, now_is);
+      one = omega (arith, now_is);
+      past = λ t at. absurd (omega (arith, slice_get_within after now t at, now_is));
+    }
+
+-- .. and after a temporary one is.
+pub cached-temporary : (section : List ℕ) (tables after : List Table) (permanent budget size : ℕ)
+    (numbers next : Numbers) (table : Table) → AreElsewhere table.format table.offset tables
+    → Sets numbers next table.format table.offset permanent → IsParsedFrom section table
+    → after ≡ take permanent tables ++ table ∷ [] → size ≡ table_size table → budget < size
+    → AreCached section tables permanent budget numbers
+    → AreCached section after permanent budget next
+cached-temporary section tables after permanent budget size numbers next table elsewhere sets
+    parsed is size_is past all =
+    let before : List Table = take permanent tables in
+    let len : length before ≡ permanent = length-take-le permanent tables all.within in
+    let more : length (before ++ table ∷ []) ≡ permanent + 1 =
+    omega (arith, length-append before (table ∷ []), len) in
+    let front : take permanent (before ++ table ∷ []) ≡ before =
+    rw len at (take-append_seam before (table ∷ [])) in
+    let last : slice_get (before ++ table ∷ []) permanent ≡ Some table =
+    last-at before (before ++ table ∷ []) permanent table refl (sym len) in
+    rw is (record {
+      parsed = parsed-after section tables (before ++ table ∷ []) permanent table all.parsed parsed
+          refl;
+      found = found-added section tables permanent budget numbers next table elsewhere sets all;
+      counted = rw front all.counted;
+      within = omega (arith, more);
+      one = omega (arith, more);
+      past = λ t at. grind (arith, last, at, past, size_is);
+    })
+
+-- The contents of the cache after a table is added.
+pub contents-added : (before : CachedTables) (section : List ℕ) (tables after : List Table)
+    (permanent budget now size : ℕ) (numbers : Numbers) (table : Table)
+    → cached section tables permanent ≡ before → after ≡ take permanent tables ++ table ∷ []
+    → size ≡ table_size table → AreCached section tables permanent budget numbers
+    → ((size ≤ budget) × (now ≡ length after)) ⊎ ((budget < size) × (now ≡ permanent))
+    → cached section after now ≡ with_table before table
+contents-added before section tables after permanent budget now size numbers table view is size_is
+    all kind = rw (← view, is) (grind (
+      arith,
+      common_steps,
+      kind,
+      size_is,
+      all.counted,
+      is,
+      sum_by_push table_size (take permanent tables) table,
+    ))

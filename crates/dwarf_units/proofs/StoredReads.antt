@@ -20,8 +20,8 @@ use Rattle.dwarf_units.specs.Private.StoredAttributes.{Fills, stored_attributes}
 use Rattle.dwarf_units.specs.Private.StoredAttributes.{stored_attributes_at}
 use Rattle.dwarf_units.specs.Used.{Used, used_among}
 use Rattle.dwarf_units.specs.Private.Used.{used_after, with_used}
-use Rattle.dwarf_units.proofs.NameLaws.{found-number, used-none, used-some}
-use Rattle.dwarf_units.proofs.UsedLaws.{with-none, with-twice}
+use Rattle.dwarf_units.proofs.SlotLaws.{found-number, used-none, used-some}
+use Rattle.dwarf_units.proofs.SlotLaws.{with-none, with-twice}
 
 -- ---- two lists of attributes
 

@@ -1,13 +1,13 @@
 -- Each unit takes at least one byte, and none extends beyond the end of the section.
 use Rattle.std.proofs.Common.{◌≡◌, ℕ, ◌<◌, ◌≤◌, ◌⊎◌, inl, inr, List, [], ◌∷◌, length}
-use Rattle.std.proofs.Common.{refl, sym, arith, length-take, ◌++◌}
+use Rattle.std.proofs.Common.{refl, arith, length-take, ◌++◌}
 use Rattle.std.specs.Prelude.{Ok, Err, filter}
 use Rattle.dwarf_bytes.specs.declared.fault.Cause.{Cause}
 use Rattle.dwarf_bytes.specs.declared.fault.Cause.TheVariants as causes
 use Rattle.dwarf_bytes.specs.declared.fault.Section.TheVariants as sections
 use Rattle.dwarf_bytes.specs.declared.fault.LoadFault.{LoadFault}
 use Rattle.dwarf_bytes.specs.declared.format.Format.{Format}
-use Rattle.dwarf_bytes.specs.Items.{Item, End, Advances}
+use Rattle.dwarf_bytes.specs.Items.{Advances}
 use Rattle.dwarf_bytes.specs.Refusals.{memory_fault, at_item, in_section}
 use Rattle.dwarf_bytes.proofs.Numbers.LengthLaws.{initial_length_at-moves}
 use Rattle.dwarf_bytes.proofs.Items.Turns.{SoFar, so-far-item, so-far-end, so-far-fault}
@@ -27,19 +27,6 @@ unfolding unit_at
 unit_at-moves info at header h =
     grind (arith, initial_length_at-moves info at, header_in-places, length-take)
 
-pub header_at-item : (info : List ℕ) (before : List UnitHeader) (at : ℕ) (header : UnitHeader)
-    → at < length info → unit_at info at ≡ Ok header
-    → header_at info before at ≡ Ok (Item header header.end)
-header_at-item info before at header within is = grind arith
-
-pub header_at-fault : (info : List ℕ) (before : List UnitHeader) (at : ℕ) (cause : Cause)
-    → at < length info → unit_at info at ≡ Err cause → header_at info before at ≡ Err cause
-header_at-fault info before at cause within is = grind arith
-
-header_at-end : (info : List ℕ) (before : List UnitHeader) (at : ℕ) → length info ≤ at
-    → header_at info before at ≡ Ok (End at)
-header_at-end info before at past = grind arith
-
 pub header_at-advances : (info : List ℕ) → Advances (length info) (header_at info)
 header_at-advances info before at x after h = grind (arith, unit_at-moves info at)
 
@@ -51,15 +38,14 @@ pub units-item : (info : List ℕ) (before : List UnitHeader) (at : ℕ) (header
     → SoFar (length info) (header_at info) 0 (before ++ header ∷ []) header.end
 units-item info before at header so_far within is =
     so-far-item (length info) (header_at info) (header_at-advances info) 0 before at header
-    header.end so_far (header_at-item info before at header within (sym is))
+    header.end so_far (grind arith)
 
 pub units-end : (info : List ℕ) (before : List UnitHeader) (at : ℕ)
     → SoFar (length info) (header_at info) 0 before at → length info ≤ at
     → in_section sections.DebugInfo (headers_of info) ≡ Ok before
 unfolding headers_of
-units-end info before at so_far past = rw
-    (so-far-end (length info) (header_at info) (header_at-advances info) 0 before at at so_far
-    (header_at-end info before at past)) refl
+units-end info before at so_far past = rw (so-far-end (length info) (header_at info)
+    (header_at-advances info) 0 before at at so_far (grind arith)) refl
 
 at_item_cases : (cause : Cause) (at : ℕ) → (at_item sections.DebugInfo cause at ≡ memory_fault)
     ⊎ (at_item sections.DebugInfo cause at ≡ record
@@ -73,8 +59,9 @@ pub units-fault : (info : List ℕ) (before : List UnitHeader) (at : ℕ) (cause
     → (fault ≡ memory_fault) ⊎ (in_section sections.DebugInfo (headers_of info) ≡ Err fault)
 unfolding headers_of
 units-fault info before at cause fault so_far within is told_is =
+    let fails : header_at info before at ≡ Err cause = grind arith in
     let stops = so-far-fault (length info) (header_at info) (header_at-advances info) 0 before at
-    cause so_far (header_at-fault info before at cause within (sym is)) in
+    cause so_far fails in
     grind (arith, stops, told_is, at_item_cases cause at)
 
 -- The headers of the units that are read are a filtered list of all headers.

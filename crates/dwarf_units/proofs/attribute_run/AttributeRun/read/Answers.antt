@@ -1,15 +1,7 @@
 use Rattle.std.proofs.Common.{refl}
-use Rattle.std.proofs.lemmas.Result.{err_from_is_err_and}
 use Rattle.dwarf_units.specs.Private.Runs.{last_at, stretch_at}
-use Rattle.dwarf_units.proofs.StoredReads.{last-read, next-fault, next-read}
+use Rattle.dwarf_units.proofs.StoredReads.{last-read, next-read}
 use Rattle.dwarf_units.proofs.attribute_run.AttributeRun.read.Goals as goal
-
-pub returns-in_err-read : goal.returns-in_err-read
-returns-in_err-read c =
-    let p = err_from_is_err_and c.from_residual.result c.from_residual.ensures.1 in
-    rw (p.1, p.2, ← c.self.view_is)
-    (next-fault c.args.found.now _ (last_at c.args.keep c.args.format c.self.inside.last
-    c.args.cursor.now.bytes) c.in_err-read.field-0.0 _ refl c.in_err-read.ensures)
 
 pub returns : goal.returns
 returns c = rw (← c.self.view_is)

@@ -1,15 +1,8 @@
-use Rattle.std.proofs.Common.{refl, ap, sym}
+use Rattle.std.proofs.Common.{ap, sym}
 use Rattle.std.specs.Prelude.{Ok}
 use Rattle.dwarf_units.specs.Used.{Used}
-use Rattle.dwarf_units.proofs.UsedLaws.{with-none}
+use Rattle.dwarf_units.proofs.SlotLaws.{with-none}
 use Rattle.dwarf_units.proofs.attribute_run.Stretch.read.Goals as goal
-
-pub returns-then-keep : goal.returns-then-keep
-returns-then-keep c = rw (← c.self.view_is) (
-  rw (sym c.from.ensures, c.in_ok-block.ensures.block.0, c.if-keep.true)
-      (rw (c.add_used.ensures, c.fork-first.ensures, ← c.self.view_is) refl),
-  c.in_ok-block.ensures.block.1,
-)
 
 pub returns-else-keep : goal.returns-else-keep
 returns-else-keep c = rw (← c.self.view_is) (

@@ -1,48 +1,38 @@
 use Rattle.std.proofs.Common.{inl, inr, refl, ◌∙◌, take}
-use Rattle.dwarf_units.proofs.MoreTables.{cached-permanent, cached-temporary, contents-added}
-use Rattle.dwarf_units.proofs.StoredLaws.{cached-truncated, sets-as}
+use Rattle.dwarf_units.proofs.StoredLaws.{cached-permanent, cached-temporary, contents-added}
+use Rattle.dwarf_units.proofs.StoredLaws.{cached-truncated}
 use Rattle.dwarf_units.proofs.TableLaws.{last-at}
 use Rattle.dwarf_units.proofs.table_store.TableStore.add.Goals as goal
 
 pub invariant_of-self-in_err-push : goal.invariant_of-self-in_err-push
 invariant_of-self-in_err-push c =
     let inside = c.self.inside in
-    let table = c.args.table in
-    let elsewhere = rw (← c.self.view_is) at c.requires.new in
-    let sets = sets-as inside.numbers c.insert.new.self c.format.result table.format
-    c.offset.result table.offset inside.permanent c.format.ensures c.offset.ensures
-    c.in_ok-insert.ensures.ok in
     cached-truncated inside.section.now inside.tables.items c.push.new.self.items
-    inside.permanent inside.budget inside.numbers c.insert.new.self table.format table.offset
-    elsewhere sets (rw c.truncate.ensures.items at c.in_err-push.ensures.items) c.self.invariant
+    inside.permanent inside.budget inside.numbers c.insert.new.self c.args.table.format
+    c.args.table.offset (rw (← c.self.view_is) at c.requires.new)
+    (rw (c.format.ensures, c.offset.ensures) at c.in_ok-insert.ensures.ok)
+    (rw c.truncate.ensures.items at c.in_err-push.ensures.items) c.self.invariant
 
 pub invariant_of-self-then-size-self : goal.invariant_of-self-then-size-self
 invariant_of-self-then-size-self c =
-    let is = rw c.truncate.ensures.items at c.in_ok-push.ensures.items in
     let inside = c.self.inside in
-    let table = c.args.table in
-    let elsewhere = rw (← c.self.view_is) at c.requires.new in
-    let sets = sets-as inside.numbers c.insert.new.self c.format.result table.format
-    c.offset.result table.offset inside.permanent c.format.ensures c.offset.ensures
-    c.in_ok-insert.ensures.ok in
     cached-permanent inside.section.now inside.tables.items c.push.new.self.items
     inside.permanent inside.budget c.len-self-inside.result c.size-size.result inside.numbers
-    c.insert.new.self table elsewhere sets (rw (← c.self.view_is) at c.requires.parsed)
-    is c.size-size.ensures c.if-size-self.true
-    (c.len-self-inside.ensures ∙ c.push.new.self.ok.0) c.self.invariant
+    c.insert.new.self c.args.table (rw (← c.self.view_is) at c.requires.new)
+    (rw (c.format.ensures, c.offset.ensures) at c.in_ok-insert.ensures.ok)
+    (rw (← c.self.view_is) at c.requires.parsed)
+    (rw c.truncate.ensures.items at c.in_ok-push.ensures.items) c.size-size.ensures
+    c.if-size-self.true (c.len-self-inside.ensures ∙ c.push.new.self.ok.0) c.self.invariant
 
 pub invariant_of-self-else-size-self : goal.invariant_of-self-else-size-self
 invariant_of-self-else-size-self c =
-    let is = rw c.truncate.ensures.items at c.in_ok-push.ensures.items in
     let inside = c.self.inside in
-    let table = c.args.table in
-    let elsewhere = rw (← c.self.view_is) at c.requires.new in
-    let sets = sets-as inside.numbers c.insert.new.self c.format.result table.format
-    c.offset.result table.offset inside.permanent c.format.ensures c.offset.ensures
-    c.in_ok-insert.ensures.ok in
     cached-temporary inside.section.now inside.tables.items c.push.new.self.items
-    inside.permanent inside.budget c.size-size.result inside.numbers c.insert.new.self table
-    elsewhere sets (rw (← c.self.view_is) at c.requires.parsed) is
+    inside.permanent inside.budget c.size-size.result inside.numbers c.insert.new.self c.args.table
+    (rw (← c.self.view_is) at c.requires.new)
+    (rw (c.format.ensures, c.offset.ensures) at c.in_ok-insert.ensures.ok)
+    (rw (← c.self.view_is) at c.requires.parsed)
+    (rw c.truncate.ensures.items at c.in_ok-push.ensures.items)
     c.size-size.ensures c.if-size-self.false c.self.invariant
 
 pub returns-then-size-self-clause-added : goal.returns-then-size-self-clause-added

@@ -1,25 +1,15 @@
-use Rattle.std.proofs.Common.{◌≡◌, List, ap, sym, ◌∙◌, subst}
+use Rattle.std.proofs.Common.{◌≡◌, ap, sym, ◌∙◌, subst}
 use Rattle.std.specs.Prelude.{Some, slice_get, option_copied}
-use Rattle.std.proofs.lemmas.Option.{none-some, same_Some}
+use Rattle.std.proofs.lemmas.Option.{same_Some}
 use Rattle.dwarf_forms.proofs.Codes.{got}
-use Rattle.dwarf_units.specs.Private.AbbreviationTables.{Table}
 use Rattle.dwarf_units.specs.Private.Tables.{CachedTables, IsAt}
 use Rattle.dwarf_units.proofs.IndexLaws.{index-some, index-stays}
 use Rattle.dwarf_units.proofs.table_store.TableStore.is_index.Goals as goal
 
-pub returns-in_default-clause-none : goal.returns-in_default-clause-none
-returns-in_default-clause-none c is =
-    absurd (none-some is.0 (sym (ap (λ r. option_copied r) c.in_default.is)
-    ∙ (got c.deref.result.now c.args.number c.get.result c.get.ensures.lookup.0
-    c.get.ensures.lookup.1
-    ∙ (ap (λ (ts : List Table). slice_get ts c.args.number) c.deref.ensures.value
-    ∙ (ap (λ (k : CachedTables). slice_get k.tables c.args.number) c.self.view_is ∙ is.1)))))
-
 there : (c : goal.After-is_of) → slice_get c.self.inside.tables.items c.args.number
     ≡ Some c.in-Some.table.now
-there c =
-    ap (λ (ts : List Table). slice_get ts c.args.number) (sym c.deref.ensures.value)
-    ∙ (sym (got c.deref.result.now c.args.number c.get.result c.get.ensures.lookup.0
+there c = rw (← c.deref.ensures.value)
+    (sym (got c.deref.result.now c.args.number c.get.result c.get.ensures.lookup.0
     c.get.ensures.lookup.1) ∙ ap (λ r. option_copied r) c.in-Some.is)
 
 pub returns-clause-some : goal.returns-clause-some

@@ -1,6 +1,6 @@
 use Rattle.std.proofs.Common.{arith}
 use Rattle.dwarf_units.specs.Private.Names.{named_attribute}
-use Rattle.dwarf_units.proofs.NameLaws.{named}
+use Rattle.dwarf_units.proofs.SlotLaws.{named}
 use Rattle.dwarf_units.proofs.SlotLaws.{put-is, stored-is}
 use Rattle.dwarf_units.proofs.used_attributes.UsedAttributes.add.Goals as goal
 
