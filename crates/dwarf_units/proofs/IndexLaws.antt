@@ -39,16 +39,16 @@ pub index-some : (section : List ℕ) (tables : List Table) (permanent budget nu
     (numbers : Numbers) (unit : UnitHeader) → AreCached section tables permanent budget numbers
     → IsTableAt unit.format unit.abbreviations tables number
     → IsIndexOf (cached section tables permanent) unit number
-index-some section tables permanent budget number numbers unit are is = record {
-  table = is.0;
-  found = is.1;
-  at = is.2;
-  parsed = cached-parsed section tables number is.0 are.parsed is.1;
-  only = λ other same at is_same. same_Some number other
-      (sym (number-is section tables permanent budget numbers unit.format unit.abbreviations number
-      are is) ∙ number-is section tables permanent budget numbers unit.format unit.abbreviations
-      other are (same, at, is_same));
-}
+index-some section tables permanent budget number numbers unit are is =
+    let found = number-is section tables permanent budget numbers unit.format unit.abbreviations in
+    record {
+      table = is.0;
+      found = is.1;
+      at = is.2;
+      parsed = cached-parsed section tables number is.0 are.parsed is.1;
+      only = λ other same at is_same.
+          grind (arith, found number are is, found other are (same, at, is_same));
+    }
 
 got-taken : (tables : List Table) (permanent i : ℕ) (table : Table) → i < permanent
     → permanent ≤ length tables
@@ -73,18 +73,14 @@ index-stays section tables permanent budget number numbers unit are (table, at, 
   by_place (cases_lt number permanent),
 )
   where
-    within : number < length tables
-    within = slice_get_within tables number table at
-
     by_place : (number < permanent) ⊎ (permanent ≤ number)
         → ((k : ℕ) × (slice_get (take permanent tables) k ≡ Some table))
         ⊎ (size_limit section < sum_by table_size (take permanent tables) + table_size table)
     by_place (inl lt) = inl (number, got-taken tables permanent number table lt are.within at)
     by_place (inr le) =
+        let within = slice_get_within tables number table at in
         let last : number ≡ permanent = omega (arith, le, within, are.one) in
-        let past : budget < table_size table =
-        are.past table (subst (λ (k : ℕ). slice_get tables k ≡ Some table) last at) in
-        inr (omega (arith, past, are.counted))
+        inr (omega (arith, are.past table (rw last at at), are.counted))
 
 -- A cached table is parsed again if the remaining budget is large enough ..
 pub index-fits : (k : CachedTables) (unit : UnitHeader) (number left : ℕ) (t : Table)

@@ -119,17 +119,16 @@ have-runs : (format : Format) (n : ℕ) (used : List UsedPosition)
 unfolding runs_from attributes_at
 have-runs format n used [] = record {
   same = λ keep bytes first le. rw (block-there n bytes first le).1
-      (by_keep keep (kept_in keep format bytes first used) (first + n));
+      (none-after keep (kept_in keep format bytes first used) (first + n));
   short = λ keep bytes first lt. rw (block-short n bytes first lt) refl;
 }
   where
     result : List Attribute → ℕ → Result (List Attribute × ℕ) Cause
     result all end = Ok (all, end)
 
-    by_keep : (k : Bool) (front : List Attribute) (end : ℕ) → result front end
-        ≡ result (front ++ stored_attributes k []) end
-    by_keep true front end = ap (λ l. result l end) (sym (append-nil front))
-    by_keep false front end = ap (λ l. result l end) (sym (append-nil front))
+    none-after : (keep : Bool) (front : List Attribute) (end : ℕ) → result front end
+        ≡ result (front ++ stored_attributes keep []) end
+    none-after keep front end = grind (arith, append-nil front)
 have-runs format n used (s ∷ ss) =
     by_end (λ end more. have-runs format end more ss) (end_of format n s) refl
   where
@@ -148,10 +147,9 @@ have-runs format n used (s ∷ ss) =
           }) layout (record { stretch = record { len = n; used = used }; last = Checked s })
               ∷ others.runs;
         })
-    by_layout None is more = last-more format n used s ss _ others refl
-        (checked-one format n used s) more
-    by_layout (Some layout) is more = last-more format n used s ss _ others
-        refl (unchecked-one format n used s layout is) more
+    by_layout None is = last-more format n used s ss _ others refl (checked-one format n used s)
+    by_layout (Some layout) is =
+        last-more format n used s ss _ others refl (unchecked-one format n used s layout is)
 
     by_end : ((end : ℕ) (more : List UsedPosition)
         → AreRuns format end more ss (runs_from format end more ss))
@@ -163,9 +161,8 @@ have-runs format n used (s ∷ ss) =
         option_and_then_some (λ m. cond (nat_le (n + m) 65535) (Some (n + m)) None)
         (fixed_len format s) end is (λ m len small.
         let same : n + m ≡ end = ended n m end (nat_le (n + m) 65535) small in
-        subst (λ (k : ℕ). AreRuns format n used (s ∷ ss) (runs_from format k (used ++ position) ss))
-        same (fixed-more format n m used s ss (runs_from format (n + m) (used ++ position) ss) len
-        (more (n + m) (used ++ position))))
+        rw (← same) (fixed-more format n m used s ss (runs_from format (n + m) (used ++ position) ss)
+        len (more (n + m) (used ++ position))))
 
 pub runs-read : (keep : Bool) (format : Format) (declared : List AttributeSpecification)
     (bytes : List ℕ) (at : ℕ) → at ≤ length bytes
