@@ -1,11 +1,11 @@
 -- Finding the table of a unit in the cache, and keeping it there as tables are added.
 use Rattle.std.proofs.Common.{◌≡◌, ◌⊎◌, inl, inr, ℕ, ◌+◌, ◌<◌, ◌≤◌, List, length, take}
-use Rattle.std.proofs.Common.{length-take-le, sym, ◌∙◌, subst, arith, take_all, Bool, get_or, []}
+use Rattle.std.proofs.Common.{length-take-le, sym, arith, take_all, Bool, get_or, []}
 use Rattle.std.proofs.Common.{◌∷◌, ◌++◌, true, false, refl, append-nil}
 use Rattle.std.specs.Prelude.{Some, Ok, slice_get, sum_by, nat_le, if◌then◌else◌}
 use Rattle.std.proofs.lemmas.Bool.{cases_lt}
 use Rattle.std.proofs.lemmas.List.{get_or-take, take_more}
-use Rattle.std.proofs.lemmas.Option.{get_or_from_slice_get, same_Some, slice_get-get_or}
+use Rattle.std.proofs.lemmas.Option.{get_or_from_slice_get, slice_get-get_or}
 use Rattle.std.proofs.lemmas.Option.{slice_get_within}
 use Rattle.dwarf_bytes.specs.declared.format.Format.{Format}
 use Rattle.dwarf_forms.specs.Declarations.{Declaration}

@@ -1,6 +1,6 @@
 -- Reading attributes in runs is reading them one by one.
-use Rattle.std.proofs.Common.{◌≡◌, ℕ, ◌+◌, ◌<◌, ◌≤◌, ◌⊎◌, inl, inr, List, [], ◌∷◌, ◌++◌, Bool, true}
-use Rattle.std.proofs.Common.{false, cond, length, refl, ap, sym, subst, arith, append_assoc}
+use Rattle.std.proofs.Common.{◌≡◌, ℕ, ◌+◌, ◌<◌, ◌≤◌, ◌⊎◌, inl, inr, List, [], ◌∷◌, ◌++◌, Bool}
+use Rattle.std.proofs.Common.{cond, length, refl, arith, append_assoc}
 use Rattle.std.proofs.Common.{append-nil}
 use Rattle.std.specs.Prelude.{Option, Some, None, Result, Ok, Err, nat_le}
 use Rattle.std.specs.Option.{option_map_or, option_to_list}
@@ -161,8 +161,8 @@ have-runs format n used (s ∷ ss) =
         option_and_then_some (λ m. cond (nat_le (n + m) 65535) (Some (n + m)) None)
         (fixed_len format s) end is (λ m len small.
         let same : n + m ≡ end = ended n m end (nat_le (n + m) 65535) small in
-        rw (← same) (fixed-more format n m used s ss (runs_from format (n + m) (used ++ position) ss)
-        len (more (n + m) (used ++ position))))
+        rw (← same) (fixed-more format n m used s ss
+        (runs_from format (n + m) (used ++ position) ss) len (more (n + m) (used ++ position))))
 
 pub runs-read : (keep : Bool) (format : Format) (declared : List AttributeSpecification)
     (bytes : List ℕ) (at : ℕ) → at ≤ length bytes

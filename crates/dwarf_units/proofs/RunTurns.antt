@@ -1,5 +1,5 @@
 -- Computing runs attribute by attribute, and adding the used attributes of a run.
-use Rattle.std.proofs.Common.{◌≡◌, ℕ, List, [], ◌∷◌, ◌++◌, append_assoc, append-nil, refl, ap, sym}
+use Rattle.std.proofs.Common.{◌≡◌, ℕ, List, [], ◌∷◌, ◌++◌, append_assoc, append-nil, refl, sym}
 use Rattle.std.proofs.Common.{◌∙◌, Bool, inr}
 use Rattle.std.specs.Prelude.{Some, None, Result, Ok, Err}
 use Rattle.std.specs.Option.{option_to_list}
@@ -46,19 +46,15 @@ pub runs-ended : (format : Format) (n : ℕ) (done : List Run) (front : List Use
     → after_these now (runs_from format 0 [] rest) ≡ whole
 unfolding runs_from
 runs-ended format n done front s left rest now whole parts none pushed so_far =
-    let others = runs_from format 0 [] rest in
-    rw pushed (ap (λ (runs : List Run). record others { runs = runs })
-    (append_assoc done (run_before n front s ∷ []) others.runs)
-    ∙ rw (parts, none) at so_far)
+    rw (pushed, append_assoc done (run_before n front s ∷ []) (runs_from format 0 [] rest).runs)
+    (rw (parts, none) at so_far)
 
 pub runs-all : (format : Format) (n : ℕ) (done : List Run) (front : List UsedPosition)
     (left : List AttributeSpecification) (whole : Runs) → left ≡ []
     → after_these done (runs_from format n front left) ≡ whole
     → record { runs = done; rest = record { len = n; used = front } } ≡ whole
 unfolding runs_from
-runs-all format n done front left whole none so_far =
-    ap (λ (runs : List Run). record { runs = runs; rest = record { len = n; used = front } })
-    (sym (append-nil done)) ∙ rw none at so_far
+runs-all format n done front left whole none so_far = rw (none, append-nil done) at so_far
 
 -- ---- reading the runs
 

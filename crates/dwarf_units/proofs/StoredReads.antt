@@ -1,6 +1,6 @@
 -- Reading the attributes of an entry one by one, and storing the used ones.
 use Rattle.std.proofs.Common.{arith}
-use Rattle.std.proofs.Common.{◌≡◌, ℕ, List, [], ◌∷◌, ◌++◌, Bool, true, false, refl, ap, sym, ◌∙◌}
+use Rattle.std.proofs.Common.{◌≡◌, ℕ, List, [], ◌∷◌, ◌++◌, Bool, true, false, refl, sym, ◌∙◌}
 use Rattle.std.proofs.Common.{◌⊎◌}
 use Rattle.std.specs.Prelude.{Some, None, Result, Ok, Err}
 use Rattle.std.proofs.lemmas.List.Elements.{filter-append}
@@ -135,11 +135,8 @@ pub one-stored : (keep : Bool) (format : Format) (s : AttributeSpecification) (b
     → attribute_at format s bytes at ≡ Ok a
     → used_after used (stored_attributes_at keep format (s ∷ []) bytes at) ≡ Ok (now, a.1)
 one-stored keep format s bytes at used now name a kept found added read =
-    let same : with_used used (a.0 ∷ []) ≡ now =
-    ap (λ (n : ℕ). with_used used (record { name = n; value = a.0.value } ∷ []))
-    (found-number a.0.name name found) ∙ sym added in
     one-read keep format s bytes at used a read
-    ∙ rw (kept, used-some a.0.name name found) (ap (λ (u : Used). Ok (u, a.1)) same)
+    ∙ rw (kept, used-some a.0.name name found, added, ← found-number a.0.name name found) refl
 
 pub one-left : (keep : Bool) (format : Format) (s : AttributeSpecification) (bytes : List ℕ)
     (at : ℕ) (used : Used) (a : Attribute × ℕ) → (keep ≡ false) ⊎ (used_name a.0.name ≡ None)
@@ -168,9 +165,7 @@ pub stored-left : (keep : Bool) (format : Format) (s : AttributeSpecification)
     (then_read (stored_attributes_at keep format (s ∷ []) bytes place)
     (λ k. stored_attributes_at keep format behind bytes k)) ≡ whole
 stored-left keep format s left behind bytes used place whole parts so_far =
-    ap (used_after used) (sym (stored-append keep format (s ∷ []) behind bytes place))
-    ∙ (ap (λ (l : List AttributeSpecification). used_after used
-    (stored_attributes_at keep format l bytes place)) (sym parts) ∙ so_far)
+    rw (← stored-append keep format (s ∷ []) behind bytes place) (rw parts at so_far)
 
 pub stored-end : (keep : Bool) (format : Format) (left : List AttributeSpecification)
     (bytes : List ℕ) (used : Used) (place : ℕ) (whole : Result (Used × ℕ) Cause) → left ≡ []

@@ -1,7 +1,7 @@
-use Rattle.std.proofs.Common.{◌≡◌, ◌+◌, ℕ, List, length, ap, ◌∙◌, subst, arith}
+use Rattle.std.proofs.Common.{◌≡◌, ◌+◌, ℕ, List, length, ap, ◌∙◌, arith}
 use Rattle.std.specs.Prelude.{min}
 use Rattle.abbreviation_memo.specs.Declarations.{SharedDeclaration, full_declarations}
-use Rattle.dwarf_units.specs.Private.NodeShapes.{AreShapes, shape_count}
+use Rattle.dwarf_units.specs.Private.NodeShapes.{shape_count}
 use Rattle.dwarf_units.proofs.NodeShapes.{shapes-more}
 use Rattle.dwarf_units.proofs.node_shape.shapes.Goals as goal
 
@@ -20,5 +20,4 @@ returns c section format shared are =
     ∙ ap (λ (ds : List SharedDeclaration). min (length ds) 127) c.declarations.ensures) in
     let all : c.loop-code.code ≡ shape_count c.args.table.now =
     omega (arith, c.loop-code-test.false, c.loop-code.auto.code-end, count) in
-    subst (λ (n : ℕ). AreShapes format (full_declarations section c.args.table.now) n
-    c.loop-code.shapes.items) all (c.loop-code.invariant section format shared are)
+    rw (← all) (c.loop-code.invariant section format shared are)

@@ -1,4 +1,4 @@
-use Rattle.std.proofs.Common.{◌≡◌, ℕ, ◌≤◌, List, length, refl, ap, subst, ◌∙◌, arith}
+use Rattle.std.proofs.Common.{◌≡◌, ◌≤◌, length, refl, ap, ◌∙◌, arith}
 use Rattle.std.proofs.lemmas.Result.{err_from_is_err_and}
 use Rattle.dwarf_units.specs.Private.Links.{IsLink}
 use Rattle.dwarf_units.specs.Private.Used.{used_after}
@@ -38,8 +38,7 @@ loop-link-preserved c =
     let same : c.read_one.new.cursor.bytes ≡ c.args.cursor.now.bytes =
     c.in_ok-read_one.ensures.1 ∙ loop.invariant.bytes in
     let within : c.read_one.new.cursor.place ≤ length c.args.cursor.now.bytes =
-    subst (λ (b : List ℕ). c.read_one.new.cursor.place ≤ length b) same
-    (omega (arith, c.place-in-Some.ensures.place, c.place-in-Some.ensures.within)) in
+    rw (← same) (omega (arith, c.place-in-Some.ensures.place, c.place-in-Some.ensures.within)) in
     record {
       valid = link-valid c.args.self.now loop.link.rest c.in_ok-link-2.link (next-link c);
       bytes = same;

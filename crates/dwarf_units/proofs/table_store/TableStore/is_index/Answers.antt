@@ -1,8 +1,7 @@
-use Rattle.std.proofs.Common.{◌≡◌, ap, sym, ◌∙◌, subst}
+use Rattle.std.proofs.Common.{◌≡◌, ap, sym, ◌∙◌}
 use Rattle.std.specs.Prelude.{Some, slice_get, option_copied}
 use Rattle.std.proofs.lemmas.Option.{same_Some}
 use Rattle.dwarf_forms.proofs.Codes.{got}
-use Rattle.dwarf_units.specs.Private.Tables.{CachedTables, IsAt}
 use Rattle.dwarf_units.proofs.IndexLaws.{index-some, index-stays}
 use Rattle.dwarf_units.proofs.table_store.TableStore.is_index.Goals as goal
 
@@ -26,7 +25,5 @@ returns-clause-stays c is =
 
 pub returns-clause-none : goal.returns-clause-none
 returns-clause-none c is =
-    let same : is.0 ≡ c.in-Some.table.now = same_Some is.0 c.in-Some.table.now (sym is.1
-    ∙ (ap (λ (k : CachedTables). slice_get k.tables c.args.number) (sym c.self.view_is)
-    ∙ there c)) in
-    c.is_of.ensures.1 (subst (IsAt c.args.unit.now.format c.args.unit.now.abbreviations) same is.2)
+    let found = rw (← c.self.view_is) at is.1 in
+    c.is_of.ensures.1 (rw (same_Some is.0 c.in-Some.table.now (sym found ∙ there c)) at is.2)
