@@ -15,8 +15,11 @@
 #include <time.h>
 #include <unistd.h>
 
+enum { MOST_ADDRESSES = 1 << 22 };
+
 static int to_program, from_program;
 static size_t answered; // bytes of answers
+static size_t lengths[MOST_ADDRESSES], length_count; // bytes of each answer
 
 static double now(void) {
     struct timespec time;
@@ -74,11 +77,21 @@ static void read_bytes(size_t wanted) {
     }
 }
 
-// Returns the length of the next answer.
-static size_t next_length(FILE *lengths) {
+// Reads the lengths of the answers from a file into `lengths`.
+static void read_lengths(const char *path) {
+    FILE *file = fopen(path, "r");
+    if (!file) exit(1);
     size_t length;
-    if (fscanf(lengths, "%zu", &length) != 1) fail("no length of an answer", 0);
-    return length;
+    while (length_count < MOST_ADDRESSES && fscanf(file, "%zu", &length) == 1)
+        lengths[length_count++] = length;
+    fclose(file);
+}
+
+// Returns the number of bytes of all answers from a number on.
+static size_t bytes_from(size_t first) {
+    size_t sum = 0;
+    for (size_t i = first; i < length_count; i++) sum += lengths[i];
+    return sum;
 }
 
 // Returns the number of reads and writes of a process.
@@ -107,51 +120,47 @@ static long peak_of(pid_t program) {
     return kilobytes / 1024;
 }
 
-// Sends each address after the previous answer. Returns the number of addresses.
-static size_t ping_pong(char *line, char *end, FILE *lengths) {
-    size_t asked = 0;
-    for (; line < end; asked++) {
+// Sends each address after the previous answer.
+static void ping_pong(char *line) {
+    for (size_t i = 1; i < length_count; i++) {
         char *next = strchr(line, '\n') + 1;
         send_all(line, next - line);
-        read_bytes(next_length(lengths));
+        read_bytes(lengths[i]);
         line = next;
     }
-    return asked;
 }
 
-// Sends all addresses while it reads the answers. Returns the number of addresses.
-static size_t batch(char *first, char *end, FILE *lengths) {
-    size_t asked = 0, wanted = 0;
-    for (char *line = first; line < end; line++)
-        if (*line == '\n') {
-            wanted += next_length(lengths);
-            asked++;
-        }
+// Sends all addresses while it reads `wanted` bytes of answers.
+static void batch(char *first, char *end, size_t wanted) {
     if (fork() == 0) {
         send_all(first, end - first);
         _exit(0);
     }
     read_bytes(wanted);
-    return asked;
 }
 
 int main(int argc, char **argv) {
     if (argc < 5) return 2;
-    FILE *file = fopen(argv[2], "r"), *lengths = fopen(argv[3], "r");
-    if (!file || !lengths) return 1;
+    FILE *file = fopen(argv[2], "r");
+    if (!file) return 1;
     static char text[1 << 26];
     char *end = text + fread(text, 1, sizeof text, file), *rest = strchr(text, '\n') + 1;
+    read_lengths(argv[3]);
+    if (length_count < 2) fail("no lengths of answers", 0);
+    size_t wanted = bytes_from(1);
     double begin = now();
     pid_t program = start(argv + 4);
     send_all(text, rest - text);
-    read_bytes(next_length(lengths));
+    read_bytes(lengths[0]);
     double loaded = now();
     long calls = calls_of(program);
     int in_turn = !strcmp(argv[1], "pingpong");
-    size_t asked = (in_turn ? ping_pong : batch)(rest, end, lengths);
+    if (in_turn) ping_pong(rest);
+    else batch(rest, end, wanted);
     double done = now();
     calls = in_turn ? calls_of(program) - calls : 0;
     long peak = peak_of(program);
+    size_t asked = length_count - 1;
     printf("%.0f answers a second", asked / (done - loaded));
     if (calls) printf(", %.2f reads and writes an answer", (double)calls / asked);
     printf(", first answer after %.0f ms", 1000 * (loaded - begin));

@@ -8,8 +8,8 @@ use crate::memoized_lists::MemoizedLists;
 use dwarf_bytes::Cause;
 use std::alloc::Global;
 
-/// Memoizes the list at an offset. What the search for new offsets finds is not trusted: each list
-/// is read again when it is memoized.
+/// Memoizes the list at an offset. The offsets that the search finds are not trusted: each list is
+/// read again when it is memoized.
 pub(crate) fn memoize(
     alloc: Global,
     lists: &mut MemoizedLists<'_>,

@@ -16,7 +16,7 @@ use std::alloc::{AllocError, Global};
 use std::collections::BTreeMap;
 use std::marker::Model;
 
-/// What is memoized of the list at an offset.
+/// The memo of the list at an offset.
 #[derive(Clone, Copy)]
 pub(crate) struct Memo {
     /// The set of the names of its attributes.

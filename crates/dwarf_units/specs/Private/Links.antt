@@ -1,5 +1,4 @@
--- What is read of a list that declarations share: attributes that are unused and have no bytes are
--- skipped.
+-- Links skip the attributes of a shared list that are unused and have no bytes.
 use Rattle.std.specs.Prelude.{◌≡◌, ℕ, ◌<◌, ◌≤◌, List, length, Bool, false, IfSome, not, ◌&&◌, ◌==◌}
 use Rattle.std.specs.Prelude.{Some}
 use Rattle.std.specs.Option.{option_map_or}
