@@ -29,8 +29,27 @@ pub(crate) struct Operands {
 }
 
 /// Returns the operands of the kind of entry with a code, or `None` for the end of a list. Fails if
-/// the code is unknown.
+/// the code is unknown. The most common kinds are tested first, because the order of kinds is hard
+/// to predict.
+#[inline(always)]
 fn operands_of(code: u8) -> Result<Option<Operands>, Cause>
+    ensures { result ≡ operands_of code }
+{
+    if code == DW_RLE_OFFSET_PAIR {
+        return Ok(Some(Operands {
+            first: Operand::Number,
+            second: Some(Operand::Number),
+        }));
+    }
+    if code == DW_RLE_END_OF_LIST {
+        return Ok(None);
+    }
+    any_operands_of(code)
+}
+
+/// Returns the operands of any kind of entry, as `operands_of` does.
+#[inline(never)]
+fn any_operands_of(code: u8) -> Result<Option<Operands>, Cause>
     ensures { result ≡ operands_of code }
 {
     let (first, second) = match code {

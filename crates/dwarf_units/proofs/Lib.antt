@@ -8,6 +8,7 @@ pub mod EntryOrder
 pub mod RereadLaws
 pub mod FixedValues
 pub mod FixedPositions
+pub mod FixedSizeLaws
 pub mod RunParts
 pub mod RunReads
 pub mod RunTurns

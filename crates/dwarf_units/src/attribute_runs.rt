@@ -1,13 +1,17 @@
 //! The attributes of a declaration in runs (DWARF 5, 7.5.3).
 
-ghost use Rattle.std.specs.Prelude.{◌≡◌, IfOk};
+ghost use Rattle.std.specs.Prelude.{◌≡◌, IfOk, IfSome, Ok, true};
+ghost use Rattle.dwarf_units.specs.Used.{used_among};
+ghost use Rattle.dwarf_units.specs.Private.FixedSizes.{attributes_in};
 ghost use Rattle.dwarf_units.specs.Private.Runs.{all_at, fixed_size, own_runs, runs_of};
 ghost use Rattle.dwarf_units.specs.Private.StoredAttributes.{Fills};
 ghost use Rattle.dwarf_units.specs.Private.Used.{used_after};
 
 use crate::attribute_run::{AttributeRun, Stretch, push_position};
+use crate::fixed_size_values::{FixedSizeValues, indices_of};
 use crate::fixed_sizes::end_of;
 use crate::used_attributes::UsedAttributes;
+use crate::used_name::SLOTS;
 use crate::used_position::UsedPosition;
 use abbreviation_memo::AbbreviationTable;
 use dwarf_bytes::{Cause, Cursor, Format};
@@ -21,14 +25,20 @@ pub(crate) struct AttributeRuns {
     runs: Vec<AttributeRun>,
     /// The attributes after the runs.
     rest: Stretch,
+    /// The index of the position of each used attribute in `rest`, by slot.
+    indices: Option<[u8; SLOTS]>,
 }
 
 impl Model for AttributeRuns {
+    ghost use Rattle.std.specs.Prelude.{IfSome};
     ghost use Rattle.dwarf_units.specs.Private.Runs.{Runs};
+    ghost use Rattle.dwarf_units.specs.Private.Slots.{AreIndices};
 
     ghost Value = { Runs };
 
     ghost view = { λ r. record { runs = r.runs.items; rest = r.rest } };
+
+    ghost invariant = { λ r. IfSome r.indices (AreIndices r.rest.used) };
 }
 
 impl AttributeRuns {
@@ -53,8 +63,13 @@ impl AttributeRuns {
             len = 0;
             used = Vec::new(alloc);
         }
+        let indices = indices_of(&used);
         let rest = Stretch { len, used };
-        Ok(AttributeRuns { runs, rest })
+        Ok(AttributeRuns {
+            runs,
+            rest,
+            indices,
+        })
     }
 
     /// Returns the size of all attributes in bytes, if it is fixed.
@@ -62,6 +77,35 @@ impl AttributeRuns {
         ensures { result ≡ fixed_size self.now }
     {
         self.runs.is_empty().then_some(self.rest.len)
+    }
+
+    /// Returns the used attributes of an entry whose attributes start at the cursor, and skips all
+    /// of its attributes. Returns `None` if their size is not fixed, or if bytes are missing.
+    // Inlined: called for each scope and each reference.
+    #[inline(always)]
+    pub(crate) fn fixed_size_values<'b>(
+        &'b self,
+        format: Format,
+        cursor: &mut Cursor<'b>,
+    ) -> Option<FixedSizeValues<'b>>
+        ensures { IfSome result (λ values. (all_at true format self.now cursor.old.bytes
+            cursor.old.place ≡ Ok (
+              attributes_in format cursor.old.bytes cursor.old.place
+                  self.now.rest.used,
+              cursor.new.place,
+            ))
+            × (values ≡ used_among (attributes_in format cursor.old.bytes cursor.old.place
+            self.now.rest.used)) × (cursor.new.bytes ≡ cursor.old.bytes)) }
+    {
+        if !self.runs.is_empty() {
+            return None;
+        }
+        let indices = self.indices.as_ref()?;
+        let values = FixedSizeValues::new(format, cursor.fork(), &self.rest.used, indices);
+        if cursor.block(u64::from(self.rest.len)).is_err() {
+            return None;
+        }
+        Some(values)
     }
 
     /// Reads the attributes of an entry, which start at the cursor. Adds the used ones to `found`

@@ -64,6 +64,8 @@ impl<'a> TableStore<'a> {
     }
 
     /// Returns the index of the table of a unit, if it is cached. Tries the index `guess` first.
+    // Inlined: called for each scope and each reference.
+    #[inline(always)]
     pub(crate) fn index(&self, unit: &UnitHeader, guess: usize) -> Option<usize>
         ensures none { IfNone result (AreElsewhere unit.now.format unit.now.abbreviations
             self.now.tables) }
@@ -74,6 +76,19 @@ impl<'a> TableStore<'a> {
         if self.is_index(unit, guess) {
             return Some(guess);
         }
+        self.find(unit)
+    }
+
+    /// Returns the index of the table of a unit, if it is cached.
+    // Not inlined: it is rare, and its code would slow down the caller.
+    #[inline(never)]
+    fn find(&self, unit: &UnitHeader) -> Option<usize>
+        ensures none { IfNone result (AreElsewhere unit.now.format unit.now.abbreviations
+            self.now.tables) }
+        ensures some { IfSome result (IsIndexOf self.now unit.now) }
+        ensures stays { IfSome result (λ _. IsCachedOrTooLarge self.now unit.now) }
+        ensures limit { IsWithinLimit self.now }
+    {
         let number = self.numbers.get(unit.format, unit.abbreviations)?;
         if self.is_index(unit, number) {
             return Some(number);
@@ -82,7 +97,9 @@ impl<'a> TableStore<'a> {
     }
 
     /// Returns whether the table at an index is the table of a unit.
-    fn is_index(&self, unit: &UnitHeader, number: usize) -> bool
+    // Inlined: called for each scope and each reference.
+    #[inline(always)]
+    pub(crate) fn is_index(&self, unit: &UnitHeader, number: usize) -> bool
         ensures some { IsTrue result → IsIndexOf self.now unit.now number }
         ensures stays { IsTrue result → IsCachedOrTooLarge self.now unit.now }
         ensures none { IsTableAt unit.now.format unit.now.abbreviations self.now.tables number

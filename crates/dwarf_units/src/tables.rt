@@ -1,7 +1,7 @@
 //! A cache of the abbreviation tables of all units (DWARF 5, 7.5.3).
 
 ghost use Rattle.std.specs.Prelude.{◌≡◌, ℕ, ◌+◌, ◌<◌, ◌≤◌, List, Some, Ok, length};
-ghost use Rattle.std.specs.Prelude.{nat_lt, slice_get, IfOk, OnOk, IfSome, IfNone};
+ghost use Rattle.std.specs.Prelude.{nat_lt, slice_get, IfOk, OnOk, IfSome, IfNone, IsTrue};
 ghost use Rattle.std.specs.List.{All};
 ghost use Rattle.dwarf_bytes.specs.declared.fault.Section.TheVariants as sections;
 ghost use Rattle.dwarf_bytes.specs.Refusals.{in_section};
@@ -122,6 +122,8 @@ impl<'a> Tables<'a> {
     /// Returns the index of the table of a unit, which is valid until the next call. Tries the
     /// index `guess` first. A table that is not cached is re-parsed and replaces the previous
     /// temporary table.
+    // Inlined: called for each scope and each reference.
+    #[inline(always)]
     pub fn number_of(
         &mut self,
         alloc: Global,
@@ -148,7 +150,18 @@ impl<'a> Tables<'a> {
         self.add(alloc, unit, &mut left)
     }
 
+    /// Returns whether the table at an index is the table of a unit.
+    // Inlined: called for each scope and each reference.
+    #[inline(always)]
+    pub fn is_number_of(&self, unit: &UnitHeader, number: usize) -> bool
+        ensures { IsTrue result → IsNumberOf self.now.section unit.now self.now.tables number }
+    {
+        self.store.is_index(unit, number)
+    }
+
     /// Returns the table at an index.
+    // Inlined: called for each scope and each reference.
+    #[inline(always)]
     pub fn table(&self, number: usize) -> UnitTable<'_>
         requires { number < length self.now.tables }
         ensures { slice_get self.now.tables number ≡ Some result }

@@ -2,11 +2,12 @@
 
 ghost use Rattle.std.specs.Prelude.{◌≡◌, ◌∷◌, []};
 ghost use Rattle.dwarf_units.specs.Private.Names.{named_attribute};
-ghost use Rattle.dwarf_units.specs.Used.{used_among, value_named};
+ghost use Rattle.dwarf_units.specs.Used.{used_among};
 ghost use Rattle.dwarf_units.specs.Private.Used.{with_used};
 
 use crate::attributes::AttributeValue;
-use crate::used_name::UsedName;
+use crate::entry_values::EntryValues;
+use crate::used_name::{SLOTS, UsedName};
 use std::marker::Model;
 
 /// The values of the used attributes of an entry. If an attribute occurs twice, the first value
@@ -14,9 +15,9 @@ use std::marker::Model;
 #[derive(Drop)]
 pub struct UsedAttributes {
     /// Whether the entry has the attribute, by slot.
-    has: [bool; 13],
+    has: [bool; SLOTS],
     /// The values by slot. A value is meaningful only if the flag of its slot is set.
-    values: [AttributeValue; 13],
+    values: [AttributeValue; SLOTS],
 }
 
 impl Model for UsedAttributes {
@@ -36,8 +37,8 @@ impl UsedAttributes {
     {
         let value = AttributeValue { form: 0, number: 0 };
         UsedAttributes {
-            has: [false; 13],
-            values: [value; 13],
+            has: [false; SLOTS],
+            values: [value; SLOTS],
         }
     }
 
@@ -46,7 +47,7 @@ impl UsedAttributes {
     pub(crate) fn clear(&mut self)
         ensures { self.new ≡ used_among [] }
     {
-        self.has = [false; 13];
+        self.has = [false; SLOTS];
     }
 
     /// Adds an attribute. Has no effect if the entry already has an attribute of this name.
@@ -60,12 +61,13 @@ impl UsedAttributes {
             self.values[slot] = value;
         }
     }
+}
 
-    /// Returns the value of an attribute, if the entry has it.
+impl EntryValues for UsedAttributes {
+    ghost used = { λ u. u };
+
     #[inline(always)]
-    pub fn value(&self, name: UsedName) -> Option<AttributeValue>
-        ensures { result ≡ value_named name self.now }
-    {
+    fn value(&self, name: UsedName) -> Option<AttributeValue> {
         let slot = name.slot();
         self.has[slot].then_some(self.values[slot])
     }

@@ -6,6 +6,9 @@ ghost use Rattle.dwarf_units.specs.Private.Names.{used_name};
 
 use dwarf_bytes::constants::*;
 
+/// The number of slots, one for each name of a used attribute.
+pub(crate) const SLOTS: usize = 13;
+
 /// The name of a used attribute.
 #[derive(Clone, Copy)]
 pub enum UsedName {

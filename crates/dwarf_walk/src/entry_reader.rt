@@ -1,7 +1,7 @@
 //! Re-reading of entries at their offsets.
 
 ghost use Rattle.std.specs.Prelude.{◌≡◌, ◌<◌, ◌≤◌, ◌==◌, ◌⊎◌, ℕ, true, if◌then◌else◌, List, Some};
-ghost use Rattle.std.specs.Prelude.{Ok, OnOk, take};
+ghost use Rattle.std.specs.Prelude.{Ok, OnOk, IfSome, ◌-◌, take};
 ghost use Rattle.dwarf_bytes.specs.declared.fault.Cause.TheVariants as causes;
 ghost use Rattle.dwarf_bytes.specs.Refusals.{Gives};
 ghost use Rattle.dwarf_forms.specs.Declarations.{Declaration};
@@ -24,7 +24,7 @@ use crate::sections::Sections;
 use crate::unit_entries::{NamedEntry, ScopeEntry};
 use crate::walk::unit_bytes;
 use dwarf_bytes::{Cause, Cursor};
-use dwarf_units::{Tables, UnitHeader, UsedAttributes};
+use dwarf_units::{FixedSizeEntry, Tables, UnitHeader, UsedAttributes};
 use std::alloc::{AllocError, Global};
 
 /// The size in bytes above which an entry is cached, so that it is not re-read for each reference
@@ -66,7 +66,31 @@ impl<'a> EntryReader<'a> {
         }
     }
 
+    /// Returns the entry at an offset in the unit of `header`, if all of its attributes have a fixed
+    /// size and the table of the unit is the one that was used last.
+    // Inlined: called for each scope and each reference.
+    #[inline(always)]
+    fn fixed_size_entry(&self, header: &UnitHeader, offset: usize) -> Option<FixedSizeEntry<'_>>
+        ensures entry { IfSome result (λ entry. (table : List Declaration) → declarations_of
+            declarations_limit self.now.tables.section header.now.abbreviations ≡ Ok table
+            → used_by_name_at header.now.format table (take header.now.«end» self.now.info.now)
+            offset ≡ Ok (entry.tag, entry.values)) }
+        ensures len { IfSome result (λ entry. (table : List Declaration) → declarations_of
+            declarations_limit self.now.tables.section header.now.abbreviations ≡ Ok table
+            → len_at header.now.format table (take header.now.«end» self.now.info.now) offset
+            ≡ Ok (entry.after - offset)) }
+        ensures number { IfSome result (λ _. HasTableOf header.now self.now) }
+    {
+        if !self.tables.is_number_of(header, self.number) {
+            return None;
+        }
+        let table = self.tables.table(self.number);
+        table.fixed_size_entry(unit_bytes(self.info, header), offset)
+    }
+
     /// Reads the entry at an offset in the unit of `header` into `found`, and returns its tag.
+    // Not inlined: it is rare, and its code would slow down the caller.
+    #[inline(never)]
     fn entry(&mut self, header: &UnitHeader, offset: usize) -> Result<u64, Cause>
         ensures entry { (table : List Declaration) → declarations_of declarations_limit
             self.old.tables.section header.now.abbreviations ≡ Ok table
@@ -103,6 +127,10 @@ impl<'a> EntryReader<'a> {
             (take header.now.«end» s.debug_info) offset) }
         ensures reader { (s : SectionBytes) → IsReaderOf s self.old → IsReaderOf s self.new }
     {
+        if let Some(entry) = self.fixed_size_entry(header, offset) {
+            let kind = kind_of(entry.tag).ok_or(Cause::Reference)?;
+            return Ok(ScopeEntry::of(offset, kind, &entry.values));
+        }
         let tag = self.entry(header, offset)?;
         let kind = kind_of(tag).ok_or(Cause::Reference)?;
         Ok(ScopeEntry::of(offset, kind, &self.found))
@@ -210,6 +238,12 @@ impl<'a> EntryReader<'a> {
             → len_at header.now.format table (take header.now.«end» s.debug_info) offset
             ≡ Ok self.new.len) }
     {
+        if let Some(entry) = self.fixed_size_entry(header, offset) {
+            let len = entry.after.saturating_sub(offset);
+            let names = NamedEntry::of(offset, &entry.values);
+            self.len = len;
+            return Ok(names);
+        }
         self.entry(header, offset)?;
         Ok(NamedEntry::of(offset, &self.found))
     }

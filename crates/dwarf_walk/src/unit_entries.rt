@@ -9,7 +9,7 @@ ghost use Rattle.dwarf_walk.specs.Private.Readers.{die_with};
 
 use crate::scope_kind::ScopeKind;
 use dwarf_bytes::constants::DW_FORM_REF_SIG8;
-use dwarf_units::{AttributeValue, UnitHeader, UsedAttributes, UsedName};
+use dwarf_units::{AttributeValue, EntryValues, UnitHeader, UsedAttributes, UsedName};
 
 /// The names of an entry. `offset` is relative to the start of `.debug_info`, and `next` is the
 /// reference to the next entry of the origin chain.
@@ -63,8 +63,10 @@ pub struct UnitEntries {
 
 impl NamedEntry {
     /// Extracts the names of the entry at an offset from its used attributes.
-    pub(crate) fn of(offset: usize, found: &UsedAttributes) -> NamedEntry
-        ensures { (attributes : List Attribute) → found.now ≡ used_among attributes
+    // Inlined: called for each scope and each reference.
+    #[inline(always)]
+    pub(crate) fn of<V: EntryValues>(offset: usize, found: &V) -> NamedEntry
+        ensures { (attributes : List Attribute) → V.used found.now ≡ used_among attributes
             → result ≡ named_entry (die_with offset attributes) }
     {
         NamedEntry {
@@ -81,8 +83,10 @@ impl NamedEntry {
 
 impl ScopeEntry {
     /// Extracts the scope at an offset from its used attributes.
-    pub(crate) fn of(offset: usize, kind: ScopeKind, found: &UsedAttributes) -> ScopeEntry
-        ensures { (attributes : List Attribute) → found.now ≡ used_among attributes
+    // Inlined: called for each scope.
+    #[inline(always)]
+    pub(crate) fn of<V: EntryValues>(offset: usize, kind: ScopeKind, found: &V) -> ScopeEntry
+        ensures { (attributes : List Attribute) → V.used found.now ≡ used_among attributes
             → result ≡ scope_entry (die_with offset attributes) kind }
     {
         ScopeEntry {

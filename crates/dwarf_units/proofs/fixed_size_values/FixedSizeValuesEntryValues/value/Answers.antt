@@ -1,0 +1,49 @@
+use Rattle.std.proofs.Common.{◌≡◌, ◌∙◌, ap, sym, arith, get_or}
+use Rattle.std.specs.Prelude.{Some, None, Option, option_map, slice_get}
+use Rattle.std.specs.Option.{option_copied}
+use Rattle.dwarf_forms.proofs.Codes.{got}
+use Rattle.dwarf_units.specs.declared.attributes.Attribute.{Attribute}
+use Rattle.dwarf_units.specs.Private.FixedSizes.{attribute_in}
+use Rattle.dwarf_units.specs.Private.Slots.{index_in, slot_of}
+use Rattle.dwarf_units.proofs.FixedSizeLaws.{value-at}
+use Rattle.dwarf_units.proofs.fixed_size_values.FixedSizeValuesEntryValues.value.Goals as goal
+
+pub returns-in_err-position : goal.returns-in_err-position
+returns-in_err-position c =
+    let inside = c.self.inside in
+    let value = value-at inside.format inside.first.bytes inside.first.place c.args.name
+    inside.used.now in
+    let each = c.self.invariant.each c.slot.result c.slot.ensures.bound in
+    let here = got inside.used.now c.from.result c.get.result c.get.ensures.lookup.0
+    c.get.ensures.lookup.1 in
+    grind (
+      arith,
+      value,
+      each,
+      here,
+      c.self.view_is,
+      c.in_err-position.was,
+      c.slot.ensures.slot,
+      c.from.ensures,
+      c.from_residual.ensures,
+    )
+
+pub returns : goal.returns
+returns c =
+    let inside = c.self.inside in
+    let value = value-at inside.format inside.first.bytes inside.first.place c.args.name
+    inside.used.now in
+    let each = c.self.invariant.each c.slot.result c.slot.ensures.bound in
+    let here = got inside.used.now c.from.result c.get.result c.get.ensures.lookup.0
+    c.get.ensures.lookup.1 in
+    grind (
+      arith,
+      value,
+      each,
+      here,
+      c.self.view_is,
+      c.in_ok-position.was,
+      c.slot.ensures.slot,
+      c.from.ensures,
+      c.read.ensures,
+    )
