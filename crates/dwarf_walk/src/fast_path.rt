@@ -1,7 +1,7 @@
 //! The fast path of the walk: a table gives the shape of null entries and of entries of a fixed
 //! size by their first byte. All others are read with a cursor.
 
-ghost use Rattle.std.specs.Prelude.{◌≡◌, ◌+◌, ◌≤◌, ◌<◌, length, min, true, false, OnOk, is_some};
+ghost use Rattle.std.specs.Prelude.{◌≡◌, ◌≤◌, ◌<◌, length, min, true, false, OnOk, is_some};
 ghost use Rattle.std.specs.Prelude.{if◌then◌else◌};
 ghost use Rattle.dwarf_units.specs.Entries.{Node, depth_limit};
 ghost use Rattle.dwarf_units.specs.NodeShapes.{HasShape};
@@ -66,8 +66,7 @@ impl Walk {
 
     /// Updates the least depth with an entry at an offset, and stores the entry if it is a scope.
     /// Does nothing for a null entry, whose tag is 0.
-    // Inlined: called for each entry. It does not branch on whether the entry is a scope, because
-    // that is hard to predict.
+    // Inlined: called for each entry.
     #[inline(always)]
     pub(crate) fn add_scope(
         &mut self,
@@ -81,27 +80,25 @@ impl Walk {
         ensures null { OnOk result (is_null ≡ true → tag ≡ 0
             → state_of self.new ≡ state_of self.old) }
     {
-        let is_scope = kind_of(tag).is_some();
-        let scope = WalkedScope {
+        if kind_of(tag).is_none() {
+            self.least = least_after(self.least, self.depth, is_null);
+            return Ok(());
+        }
+        self.scopes.push(WalkedScope {
             offset: narrow(offset)?,
             depth: self.depth as u16,
             least: self.least.min(self.depth) as u16,
-        };
-        self.scopes.put(scope, is_scope)?;
-        self.least = least_after(self.least, self.depth, is_null, is_scope);
+        })?;
+        self.least = self.depth + 1;
         Ok(())
     }
 }
 
-/// Returns the least depth after a node at a depth. A scope resets it to the depth of its children.
-/// A null entry does not change it.
-// Inlined: compiled to conditional moves.
+/// Returns the least depth after a node that is no scope. A null entry does not change it.
+// Inlined: compiled to a conditional move.
 #[inline(always)]
-fn least_after(least: u32, depth: u32, is_null: bool, is_scope: bool) -> u32
-    requires { depth ≤ depth_limit }
-    ensures { result ≡ (if is_scope then depth + 1
-        else (if is_null then least else min least depth)) }
+fn least_after(least: u32, depth: u32, is_null: bool) -> u32
+    ensures { result ≡ (if is_null then least else min least depth) }
 {
-    let other = if is_null { least } else { least.min(depth) };
-    if is_scope { depth + 1 } else { other }
+    if is_null { least } else { least.min(depth) }
 }

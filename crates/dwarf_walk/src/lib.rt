@@ -12,7 +12,6 @@ mod scope_kind;
 mod sections;
 mod unit_entries;
 mod walk;
-mod walked_scopes;
 
 pub use entry_bitmap::EntryBitmap;
 pub use entry_reader::EntryReader;

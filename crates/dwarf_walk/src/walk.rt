@@ -12,10 +12,9 @@ ghost use Rattle.dwarf_walk.specs.EntryBitmap.{AddsOffsets, offsets_of};
 ghost use Rattle.dwarf_walk.specs.Private.Readers.{IsAfterEntry, ReadsNode, Takes, state_of};
 ghost use Rattle.dwarf_walk.specs.Private.Readers.{nodes_of, walk_of};
 
-use crate::descendants::count_descendants;
+use crate::descendants::{WalkedScope, count_descendants};
 use crate::entry_bitmap::EntryBitmap;
 use crate::unit_entries::{RootEntry, UnitEntries};
-use crate::walked_scopes::WalkedScopes;
 use dwarf_bytes::{Cause, Cursor, LoadFault, Section, Span};
 use dwarf_units::{UnitHeader, UnitTable, UsedAttributes};
 use std::alloc::{AllocError, Global};
@@ -34,7 +33,7 @@ pub(crate) struct NodeHead {
 pub(crate) struct Walk {
     pub(crate) depth: u32,
     pub(crate) root: Option<RootEntry>,
-    pub(crate) scopes: WalkedScopes,
+    pub(crate) scopes: Vec<WalkedScope>,
     pub(crate) least: u32,
 }
 
@@ -62,7 +61,7 @@ pub fn entries(
     Ok(UnitEntries {
         header,
         root: walk.root,
-        scopes: count_descendants(alloc, walk.scopes.as_slice())?,
+        scopes: count_descendants(alloc, &walk.scopes)?,
     })
 }
 
@@ -74,7 +73,7 @@ impl Walk {
         Walk {
             depth: 0,
             root: None,
-            scopes: WalkedScopes::new(alloc),
+            scopes: Vec::new(alloc),
             least: 0,
         }
     }

@@ -75,7 +75,7 @@ abbrev pub state_of : Walk → WalkState
 state_of w = record {
   depth = w.depth;
   root = w.root;
-  scopes = w.scopes;
+  scopes = w.scopes.items;
   least = w.least;
 }
 

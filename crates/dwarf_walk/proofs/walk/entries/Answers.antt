@@ -20,13 +20,13 @@ returns-then-walk-gt0-clause-decodes c =
 
 pub count_descendants-requires : goal.count_descendants-requires
 count_descendants-requires c =
-    rw c.as_slice.ensures (entries-bounded c.args.info.now c.args.header
+    rw c.deref.ensures.value (entries-bounded c.args.info.now c.args.header
     c.args.table.now.declarations (state_of c.in_ok-walk.walk) c.in_ok-walk.ensures.decodes)
 
 pub returns-clause-decodes : goal.returns-clause-decodes
 returns-clause-decodes c = entries-end c.args.info.now c.args.header c.args.table.now.declarations
     (state_of c.in_ok-walk.walk) _ c.in_ok-walk.ensures.decodes (omega (arith, c.if-walk-gt0.false))
-    (c.in_ok-count_descendants.ensures ∙ ap counted_places c.as_slice.ensures)
+    (c.in_ok-count_descendants.ensures ∙ ap counted_places c.deref.ensures.value)
 
 pub returns-clause-bitmap : goal.returns-clause-bitmap
 returns-clause-bitmap c = entries-bitmap c.args.info.now c.args.header c.args.table.now.declarations
