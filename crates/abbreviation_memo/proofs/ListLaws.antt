@@ -1,7 +1,7 @@
 -- Attribute lists by their first attributes and the rest.
 use Rattle.std.proofs.Common.{◌≡◌, ℕ, ◌<◌, ◌≤◌, List, [], ◌∷◌, ◌++◌, length, false, refl, ap, sym}
-use Rattle.std.proofs.Common.{◌∙◌, subst, arith, append_assoc}
-use Rattle.std.specs.Prelude.{Option, Some, None, IfSome, Ok, Err, ◌==◌}
+use Rattle.std.proofs.Common.{◌∙◌, subst, arith, append_assoc, Option, Some, None, IfSome, Ok, Err}
+use Rattle.std.proofs.Common.{◌==◌}
 use Rattle.std.specs.List.{list_any}
 use Rattle.std.proofs.lemmas.List.Folds.{list_any-append}
 use Rattle.dwarf_bytes.specs.declared.fault.Cause.{Cause}
@@ -15,7 +15,7 @@ use Rattle.dwarf_forms.specs.declared.attribute.AttributeSpecification.{Attribut
 use Rattle.dwarf_forms.specs.Tables.{attribute_at, attributes_at, shares_name}
 use Rattle.dwarf_forms.proofs.Moves.{attribute_at-advances, attribute_at-ends, attributes_at-lists}
 use Rattle.dwarf_forms.proofs.Moves.{attributes_at-moves, attributes-ok}
-use Rattle.dwarf_forms.proofs.SuffixLaws.{attribute-again, attribute-new, either, end-again, named}
+use Rattle.dwarf_forms.proofs.SuffixLists.{attribute-again, attribute-new, either, end-again, named}
 use Rattle.dwarf_forms.proofs.SuffixLists.{append-ok, so-far-append}
 use Rattle.abbreviation_memo.specs.Lists.{IsListAt, first_of, list_at, list_from, listed}
 

@@ -1,7 +1,5 @@
 -- A property of all entries of a map.
-use Rattle.std.proofs.Common.{◌≡◌, ℕ, [], cond, ap, sym, ◌∙◌}
-use Rattle.std.proofs.Common.{arith}
-use Rattle.std.specs.Prelude.{Some}
+use Rattle.std.proofs.Common.{◌≡◌, ℕ, [], cond, ap, sym, ◌∙◌, arith, Some}
 use Rattle.std.specs.Ordering.{nat_cmp}
 use Rattle.std.specs.BTreeMap.{BTreeMap, get, is_at}
 use Rattle.std.specs.Map.{lookup}

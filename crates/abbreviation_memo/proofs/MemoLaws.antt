@@ -1,7 +1,6 @@
 -- The memos of lists, and the names of their attributes.
 use Rattle.std.proofs.Common.{◌≡◌, ℕ, ◌<◌, List, [], ◌∷◌, length, Bool, false, refl, ap, sym, ◌∙◌}
-use Rattle.std.proofs.Common.{arith}
-use Rattle.std.specs.Prelude.{Some, Ok, ◌==◌, ◌||◌}
+use Rattle.std.proofs.Common.{arith, Some, Ok, ◌==◌, ◌||◌}
 use Rattle.std.specs.List.{list_any}
 use Rattle.std.specs.Ordering.{nat_cmp}
 use Rattle.std.specs.BTreeMap.{BTreeMap, get}

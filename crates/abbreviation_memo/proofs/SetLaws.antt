@@ -1,8 +1,7 @@
 -- Sets of names while nodes are added.
-use Rattle.std.proofs.Common.{◌≡◌, ◌≢◌, ℕ, zero, suc, ◌+◌, ◌/◌, ◌%◌, ◌<◌, ◌≤◌, List}
-use Rattle.std.proofs.Common.{[], ◌∷◌, ◌++◌, length, reverse, Bool, true, false, refl, ap}
-use Rattle.std.proofs.Common.{sym, ◌∙◌, subst, arith, length-append}
-use Rattle.std.specs.Prelude.{◌==◌, ◌||◌, Result, IfOk, OnErr}
+use Rattle.std.proofs.Common.{◌≡◌, ◌≢◌, ℕ, zero, suc, ◌+◌, ◌/◌, ◌%◌, ◌<◌, ◌≤◌, List, [], ◌∷◌, ◌++◌}
+use Rattle.std.proofs.Common.{length, reverse, Bool, true, false, refl, ap, sym, ◌∙◌, subst, arith}
+use Rattle.std.proofs.Common.{length-append, ◌==◌, ◌||◌, Result, IfOk, OnErr}
 use Rattle.std.specs.Int.Digits.{digits_of}
 use Rattle.std.proofs.Math.ListN.{get_or-append}
 use Rattle.std.proofs.Math.Seq.{get_or-append_seam}
@@ -13,8 +12,7 @@ use Rattle.std.proofs.lemmas.Option.{slice_get_within}
 use Rattle.dwarf_forms.proofs.AttributeEncodings.{unlike}
 use Rattle.abbreviation_memo.specs.declared.name_sets.Branch.{Branch}
 use Rattle.abbreviation_memo.specs.Private.NameSets.{AreSets, IsWithin, SetsStay, branch_along}
-use Rattle.abbreviation_memo.specs.Private.NameSets.{branch_at}
-use Rattle.abbreviation_memo.specs.Private.NameSets.{is_in, no_names, side}
+use Rattle.abbreviation_memo.specs.Private.NameSets.{branch_at, is_in, no_names, side}
 
 -- ---- a name by its bits
 

@@ -1,8 +1,7 @@
 -- The codes of the elements of a table.
-use Rattle.std.proofs.Common.{◌≡◌, ℕ, ◌+◌, List, [], ◌∷◌, Bool}
-use Rattle.std.proofs.Common.{false, cond, refl, sym, ap, ◌∙◌}
-use Rattle.std.specs.Prelude.{map, not, Option, Some, None, position, ◌==◌, ◌||◌}
-use Rattle.std.specs.Prelude.{IfSome, IfOk, Result, Ok, Err}
+use Rattle.std.proofs.Common.{◌≡◌, ℕ, ◌+◌, List, [], ◌∷◌, Bool, false, cond, refl, sym, ap, ◌∙◌}
+use Rattle.std.proofs.Common.{map, not, Option, Some, None, position, ◌==◌, ◌||◌, IfSome, IfOk}
+use Rattle.std.proofs.Common.{Result, Ok, Err}
 use Rattle.std.specs.List.{list_any, position_or_len}
 use Rattle.std.proofs.lemmas.List.{length-map}
 use Rattle.dwarf_bytes.specs.declared.fault.Cause.{Cause}

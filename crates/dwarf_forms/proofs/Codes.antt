@@ -1,14 +1,9 @@
--- Lookup by index, in a list or in a map.
-use Rattle.std.proofs.Common.{◌≡◌, ℕ, ◌≢◌, List, [], length, get_or, Bool, cond}
-use Rattle.std.proofs.Common.{arith}
-use Rattle.std.specs.Prelude.{Option, Some, find, position, nat_lt, is_some, slice_get}
-use Rattle.std.specs.Prelude.{IfSome}
+-- Lookup by index in a list.
+use Rattle.std.proofs.Common.{◌≡◌, ℕ, List, length, get_or, arith, Option, find, position, nat_lt}
+use Rattle.std.proofs.Common.{is_some, slice_get, IfSome, Bool}
 use Rattle.std.specs.Borrow.{Bor}
 use Rattle.std.specs.Option.{option_copied, option_and_then}
 use Rattle.std.specs.List.{position_or_len}
-use Rattle.std.specs.Ordering.{nat_cmp}
-use Rattle.std.specs.BTreeMap.{BTreeMap, get, is_at}
-use Rattle.std.proofs.lemmas.Grind.{common_steps}
 use Rattle.std.proofs.lemmas.Option.{slice_get_past, slice_get-get_or}
 use Rattle.std.proofs.lemmas.List.Folds.{find_at}
 
@@ -21,12 +16,3 @@ find-place p xs place is =
 pub got : {X : Type 0} (xs : List X) (i : ℕ) (r : Option (Bor X)) → is_some r ≡ nat_lt i (length xs)
     → IfSome r (λ x. x.now ≡ get_or xs i x.now) → option_copied r ≡ slice_get xs i
 got xs i r within value = grind (arith, slice_get-get_or xs i, slice_get_past xs i)
-
--- a map with one more entry
-abbrev pub PutsPlace : BTreeMap ℕ ℕ → BTreeMap ℕ ℕ → ℕ → ℕ → Type 0
-PutsPlace moved next code place = (q : ℕ)
-    → get nat_cmp next q ≡ cond (is_at (nat_cmp code) q) (Some place) (get nat_cmp moved q)
-
-pub others-stay : (moved next : BTreeMap ℕ ℕ) (code place : ℕ) → PutsPlace moved next code place
-    → (q : ℕ) → q ≢ code → get nat_cmp next q ≡ get nat_cmp moved q
-others-stay moved next code place puts q apart = grind (arith, common_steps, puts q)

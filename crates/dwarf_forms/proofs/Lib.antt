@@ -4,14 +4,11 @@ pub mod CodeMaps
 pub mod Names
 pub mod Moves
 pub mod TableTurns
-pub mod Stretches
+pub mod Encodings
 pub mod ListEncodings
 pub mod AttributeEncodings
-pub mod AttributeReads
-pub mod SuffixLaws
 pub mod SuffixLists
 pub mod Elements
-pub mod HeadEncodings
-pub mod TableEncodings
+pub mod HeadReads
 pub mod EncodedTables
 pub mod ValueEncodings

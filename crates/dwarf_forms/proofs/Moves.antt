@@ -1,62 +1,120 @@
--- The number of bytes that each read of a part of a declaration consumes.
-use Rattle.std.proofs.Common.{◌≡◌, ℕ, suc, ◌-◌, ◌<◌, ◌≤◌, ℤ, List, [], length, refl, arith}
-use Rattle.std.specs.Prelude.{Option, Result, Ok, Err, ◌==◌, ◌&&◌, ◌||◌}
-use Rattle.std.specs.Prelude.{is_none}
+-- The reads of the parts of a declaration, and the number of bytes that each of them consumes.
+use Rattle.std.proofs.Common.{◌≡◌, ◌≢◌, ℕ, suc, ◌-◌, ◌≤◌, ℤ, List, [], length, false, true, arith}
+use Rattle.std.proofs.Common.{refl, Option, IsSome, is_none, Result, Ok, Err, ◌==◌, ◌&&◌, ◌||◌}
 use Rattle.std.specs.List.{list_any}
 use Rattle.dwarf_bytes.specs.declared.fault.Cause.TheVariants as causes
 use Rattle.dwarf_bytes.specs.Numbers.{uleb_at}
-use Rattle.dwarf_bytes.specs.Items.{At, Item, End, Advances, Lists, reading, without_offset}
-use Rattle.dwarf_bytes.specs.Items.{items_from}
-use Rattle.dwarf_bytes.proofs.Numbers.Advance.{after-bind, after-test, chosen, MovesOn}
-use Rattle.dwarf_bytes.proofs.Items.ItemLaws.{Lists-within}
-use Rattle.dwarf_bytes.proofs.Numbers.Moves.{same-item, same-end, uleb-moves, sleb-moves}
-use Rattle.dwarf_bytes.proofs.Numbers.Moves.{u8-moves}
 use Rattle.dwarf_bytes.specs.Forms.{form_of}
+use Rattle.dwarf_bytes.specs.Items.{At, Next, Item, End, Advances, Lists, reading, without_offset}
+use Rattle.dwarf_bytes.specs.Items.{items_from}
+use Rattle.dwarf_bytes.proofs.Items.ItemLaws.{Lists-within}
+use Rattle.dwarf_bytes.proofs.Items.Turns.{Ends, Lists-moves}
+use Rattle.dwarf_bytes.proofs.Numbers.Advance.{after-bind, after-test, chosen, MovesOn}
+use Rattle.dwarf_bytes.proofs.Numbers.Moves.{same-ok, uleb-moves, sleb-moves, u8-moves}
 use Rattle.dwarf_forms.specs.declared.attribute.AttributeSpecification.{AttributeSpecification}
 use Rattle.dwarf_forms.specs.declared.declaration.Head.{Head}
 use Rattle.dwarf_forms.specs.Tables.{constant_at, attribute_at, attributes_at, codes_of, head_at}
 use Rattle.dwarf_forms.specs.Tables.{declaration_at}
-use Rattle.dwarf_bytes.proofs.Items.Turns.{Ends, Lists-moves}
+use Rattle.dwarf_forms.proofs.ListEncodings.{IsNew}
+
+-- the conditions on an attribute that do not depend on the ones before it
+abbrev pub IsUsable : AttributeSpecification → Type 0
+IsUsable attribute = (attribute.name ≢ 0) × IsSome (form_of attribute.form)
+
+abbrev pub name_of : AttributeSpecification → ℕ
+name_of attribute = attribute.name
+
+-- the fields of an attribute are read one after the other
+pub record FieldsAt (section : List ℕ) (at : ℕ) (x : AttributeSpecification) (next : ℕ)
+    : Type 0 where
+  pub mid : ℕ
+  pub last : ℕ
+  pub name : reading (uleb_at section at) ≡ Ok (x.name, mid)
+  pub form : reading (uleb_at section mid) ≡ Ok (x.form, last)
+  pub constant : constant_at x.form section last ≡ Ok (x.constant, next)
+
+-- a name 0 and a form 0 are read
+pub record EndAt (section : List ℕ) (at next : ℕ) : Type 0 where
+  pub mid : ℕ
+  pub name : reading (uleb_at section at) ≡ Ok (0, mid)
+  pub form : reading (uleb_at section mid) ≡ Ok (0, next)
+
+-- what the read of an attribute after other ones has found
+abbrev pub Found : List ℕ → List AttributeSpecification → ℕ → Next AttributeSpecification → Type 0
+Found section before at (Item x next) = FieldsAt section at x next × IsNew IsUsable name_of before x
+Found section before at (End next) = EndAt section at next
+
+pub found : (section : List ℕ) (before : List AttributeSpecification) (at : ℕ)
+    (next : Next AttributeSpecification) → attribute_at section before at ≡ Ok next
+    → Found section before at next
+found section before at next h =
+    let P : Type 0 = Found section before at next in
+    after-bind (reading (uleb_at section at)) _ next h P (λ name name_is h1.
+    after-bind (reading (uleb_at section name.1)) _ next h1 P (λ form form_is h2.
+    chosen ((name.0 == 0) && (form.0 == 0)) _ _ (Ok next) h2 P (λ zeros is.
+    rw (← same-ok (End form.1) next is)
+    (record { mid = name.1; name = grind arith; form = grind arith })) (λ _ h3.
+    after-test ((name.0 == 0) || is_none (form_of form.0)) causes.Form _ next h3 P (λ usable h4.
+    after-test (list_any (λ y. y.name == name.0) before) causes.AttrTwice _ next h4 P (λ once h5.
+    after-bind (constant_at form.0 section form.1) _ next h5 P (λ constant constant_is is.
+    rw (← same-ok
+    (Item (record { name = name.0; form = form.0; constant = constant.0 }) constant.1) next is) (
+      record {
+        mid = name.1;
+        last = form.1;
+        name = name_is;
+        form = form_is;
+        constant = constant_is;
+      },
+      (parts name.0 (form_of form.0) usable, once),
+    )))))))
+  where
+    parts : (name : ℕ) {X : Type 0} (form : Option X) → ((name == 0) || is_none form) ≡ false
+        → (name ≢ 0) × IsSome form
+    parts name form h = grind arith
+
+-- the tests of a name and a form
+tests : (name f : ℕ) {X : Type 0} (form : Option X) → name ≢ 0 → IsSome form
+    → (((name == 0) && (f == 0)) ≡ false) × (((name == 0) || is_none form) ≡ false)
+tests name f form h some = (grind arith, grind arith)
+
+pub found-again : (section : List ℕ) (before : List AttributeSpecification) (at : ℕ)
+    (next : Next AttributeSpecification) → Found section before at next
+    → attribute_at section before at ≡ Ok next
+found-again section before at (Item x next) f =
+    let t = tests x.name x.form (form_of x.form) f.1.0.0 f.1.0.1 in
+    rw (f.0.name, f.0.form, f.0.constant, f.1.1, t.0, t.1) refl
+found-again section before at (End next) f = rw (f.name, f.form) refl
+
+-- an attribute is refused after others if one of them has its name
+pub found-twice : (section : List ℕ) (before other : List AttributeSpecification) (at : ℕ)
+    (x : AttributeSpecification) (next : ℕ) → Found section before at (Item x next)
+    → list_any (λ y. y.name == x.name) other ≡ true
+    → attribute_at section other at ≡ Err causes.AttrTwice
+found-twice section before other at x next f twice =
+    let t = tests x.name x.form (form_of x.form) f.1.0.0 f.1.0.1 in
+    rw (f.0.name, f.0.form, twice, t.0, t.1) refl
 
 -- a constant has zero or more bytes, and ends within the section
-pub constant_at-moves : (form : ℕ) (section : List ℕ) (at : ℕ) (read : Option ℤ × ℕ)
+constant_at-moves : (form : ℕ) (section : List ℕ) (at : ℕ) (read : Option ℤ × ℕ)
     → at ≤ length section → constant_at form section at ≡ Ok read
     → (at ≤ read.1) × (read.1 ≤ length section)
 constant_at-moves form section at read le h = grind (arith, sleb-moves section at)
 
 pub attribute_at-advances : (section : List ℕ) → Advances (length section) (attribute_at section)
 attribute_at-advances section before at x after h =
-    let P : Type 0 = (at < after) × (after ≤ length section) in
-    after-bind (reading (uleb_at section at)) _ (Item x after) h P (λ name name_is h1.
-    after-bind (reading (uleb_at section name.1)) _ (Item x after) h1 P (λ form form_is h2.
-    chosen ((name.0 == 0) && (form.0 == 0)) _ _ (Ok (Item x after)) h2 P (λ _ is. cc) (λ _ h3.
-    after-test ((name.0 == 0) || is_none (form_of form.0)) causes.Form _ (Item x after) h3 P
-    (λ _ h4.
-    after-test (list_any (λ attribute. attribute.name == name.0) before) causes.AttrTwice _
-    (Item x after) h4 P (λ _ h5.
-    after-bind (constant_at form.0 section form.1) _ (Item x after) h5 P (λ constant constant_is h6.
-    let named = uleb-moves section at name name_is in
-    let formed = uleb-moves section name.1 form form_is in
-    let moved = constant_at-moves form.0 section form.1 constant formed.1 constant_is in
-    let place = (same-item (record { name = name.0; form = form.0; constant = constant.0 }) x
-    constant.1 after h6).1 in
-    (omega (arith, named.0, formed.0, moved.0, place), omega (arith, moved.1, place))))))))
+    let f = (found section before at (Item x after) h).0 in
+    let name = uleb-moves section at (x.name, f.mid) f.name in
+    let form = uleb-moves section f.mid (x.form, f.last) f.form in
+    let moved = constant_at-moves x.form section f.last (x.constant, after) form.1 f.constant in
+    (omega arith, moved.1)
 
 pub attribute_at-ends : (section : List ℕ) → Ends (length section) (attribute_at section)
 attribute_at-ends section before at after h =
-    let P : Type 0 = (at < after) × (after ≤ length section) in
-    after-bind (reading (uleb_at section at)) _ (End after) h P (λ name name_is h1.
-    after-bind (reading (uleb_at section name.1)) _ (End after) h1 P (λ form form_is h2.
-    chosen ((name.0 == 0) && (form.0 == 0)) _ _ (Ok (End after)) h2 P (λ _ is.
-    let named = uleb-moves section at name name_is in
-    let formed = uleb-moves section name.1 form form_is in
-    let place = same-end {X = AttributeSpecification} form.1 after is in
-    (omega (arith, named.0, formed.0, place), omega (arith, formed.1, place))) (λ _ h3.
-    after-test ((name.0 == 0) || is_none (form_of form.0)) causes.Form _ (End after) h3 P (λ _ h4.
-    after-test (list_any (λ attribute. attribute.name == name.0) before) causes.AttrTwice _
-    (End after) h4 P (λ _ h5.
-    after-bind (constant_at form.0 section form.1) _ (End after) h5 P
-    (λ constant constant_is h6. cc))))))
+    let f = found section before at (End after) h in
+    let name = uleb-moves section at (0, f.mid) f.name in
+    let form = uleb-moves section f.mid (0, after) f.form in
+    (omega arith, form.1)
 
 untold-ok : {X : Type 0} (r : Result X At) (x : X) → without_offset r ≡ Ok x → r ≡ Ok x
 untold-ok r x h = grind arith

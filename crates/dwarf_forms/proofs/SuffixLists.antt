@@ -1,86 +1,104 @@
 -- Attribute lists with a memoized rest.
-use Rattle.std.proofs.Common.{◌≡◌, ℕ, List, [], ◌∷◌, ◌++◌, length, Bool, true, false, refl, ap, sym}
-use Rattle.std.proofs.Common.{◌∙◌, subst, append_assoc, append-nil}
-use Rattle.std.proofs.Common.{arith}
-use Rattle.std.specs.Prelude.{Result, Ok, Err, ◌||◌, if◌then◌else◌}
+use Rattle.std.proofs.Common.{◌≡◌, ℕ, List, [], ◌∷◌, ◌++◌, length, Bool, true, false, refl, ◌∙◌}
+use Rattle.std.proofs.Common.{append_assoc, append-nil, arith, Result, Ok, Err, ◌==◌, ◌||◌}
+use Rattle.std.proofs.Common.{if◌then◌else◌}
 use Rattle.std.specs.List.{list_any}
 use Rattle.std.proofs.lemmas.List.Folds.{list_any-append}
 use Rattle.dwarf_bytes.specs.declared.fault.Cause.TheVariants as causes
-use Rattle.dwarf_bytes.specs.Items.{At, Lists, without_offset, items_from}
-use Rattle.dwarf_bytes.proofs.Items.ItemLaws.{put_front, items_from-step}
-use Rattle.dwarf_bytes.proofs.Items.ItemLaws.{items_from-Lists}
+use Rattle.dwarf_bytes.specs.Items.{At, Item, End, Lists, without_offset, items_from}
+use Rattle.dwarf_bytes.proofs.Items.ItemLaws.{put_front, first_step, items_from-step}
 use Rattle.dwarf_bytes.proofs.Items.Turns.{SoFar}
 use Rattle.dwarf_forms.specs.declared.attribute.AttributeSpecification.{AttributeSpecification}
 use Rattle.dwarf_forms.specs.Tables.{attribute_at, attributes_at, shares_name}
-use Rattle.dwarf_forms.proofs.Moves.{attribute_at-advances, attributes_at-lists, attributes-ok}
-use Rattle.dwarf_forms.proofs.SuffixLaws.{named, attribute-again, attribute-new, end-again}
-use Rattle.dwarf_forms.proofs.SuffixLaws.{attribute-twice, either, shares-cons, shares-none}
+use Rattle.dwarf_forms.proofs.Moves.{Found, found, found-again, found-twice, attribute_at-advances}
+use Rattle.dwarf_forms.proofs.Moves.{attributes_at-lists, attributes-ok}
+
+abbrev pub named : ℕ → AttributeSpecification → Bool
+named name attribute = attribute.name == name
+
+-- an attribute is also read after other attributes if none has its name
+pub attribute-again : (section : List ℕ) (before other : List AttributeSpecification) (at : ℕ)
+    (x : AttributeSpecification) (next : ℕ) → attribute_at section before at ≡ Ok (Item x next)
+    → list_any (named x.name) other ≡ false → attribute_at section other at ≡ Ok (Item x next)
+attribute-again section before other at x next read new =
+    let f = found section before at (Item x next) read in
+    found-again section other at (Item x next) (f.0, (f.1.0, new))
+
+-- .. and no attribute before it has its name
+pub attribute-new : (section : List ℕ) (before : List AttributeSpecification) (at : ℕ)
+    (x : AttributeSpecification) (next : ℕ) → attribute_at section before at ≡ Ok (Item x next)
+    → list_any (named x.name) before ≡ false
+attribute-new section before at x next read = (found section before at (Item x next) read).1.1
+
+pub end-again : (section : List ℕ) (before other : List AttributeSpecification) (at next : ℕ)
+    → attribute_at section before at ≡ Ok (End next) → attribute_at section other at ≡ Ok (End next)
+end-again section before other at next read =
+    found-again section other at (End next) (found section before at (End next) read)
+
+-- ---- names that two lists share, by the attributes of the second list
+
+pub either : (a b : Bool) → (a || b) ≡ false → (a ≡ false) × (b ≡ false)
+either a b h = grind arith
+
+pub shares-cons : (own rest : List AttributeSpecification) (x : AttributeSpecification)
+    → shares_name own (x ∷ rest) ≡ (list_any (named x.name) own || shares_name own rest)
+shares-cons [] rest x = refl
+shares-cons (a ∷ own) rest x = let others = shares-cons own rest x in grind arith
+
+pub shares-none : (own : List AttributeSpecification) → shares_name own [] ≡ false
+shares-none [] = refl
+shares-none (a ∷ own) = shares-none own
 
 -- ---- lists
 
--- a list is also read after more attributes if none of them has a name of the list
-pub lists-again : (section : List ℕ) (own before : List AttributeSpecification) (at : ℕ)
+-- the result of reading a list after more attributes
+lists-again : (section : List ℕ) (own before : List AttributeSpecification) (at : ℕ)
     (xs : List AttributeSpecification) (next : ℕ) → Lists (attribute_at section) before at xs next
-    → shares_name own xs ≡ false → Lists (attribute_at section) (own ++ before) at xs next
-lists-again section own before at [] next listed apart =
-    end-again section before (own ++ before) at next listed
-lists-again section own before at (x ∷ xs) next listed apart =
-    let parts = either (list_any (named x.name) own) (shares_name own xs)
-    (sym (shares-cons own xs x) ∙ apart) in
-    let new : list_any (named x.name) (own ++ before) ≡ false =
-    list_any-append (named x.name) own before
-    ∙ rw (parts.0, attribute-new section before at x listed.0 listed.1) refl in (
-      listed.0,
-      attribute-again section before (own ++ before) at x listed.0 listed.1 new,
-      rw (append_assoc own before (x ∷ []))
-          (lists-again section own (before ++ x ∷ []) listed.0 xs next listed.2 parts.1),
-    )
-
--- a list is refused after other attributes if one of them has a name of the list
-pub lists-twice : (section : List ℕ) (own before : List AttributeSpecification) (at : ℕ)
-    (xs : List AttributeSpecification) (next : ℕ) → Lists (attribute_at section) before at xs next
-    → shares_name own xs ≡ true
     → without_offset (items_from (length section) (attribute_at section) (own ++ before) at)
-    ≡ Err causes.AttrTwice
-lists-twice section own before at [] next listed shared = cc (shared, shares-none own)
-lists-twice section own before at (x ∷ xs) next listed shared =
-    by_name (λ more. lists-twice section own (before ++ x ∷ []) listed.0 xs next listed.2 more)
-    (list_any (named x.name) own) refl
+    ≡ (if shares_name own xs then Err causes.AttrTwice else Ok (xs, next))
+lists-again section own before at [] next listed =
+    rw (
+      items_from-step (length section) (attribute_at section) (attribute_at-advances section)
+          (own ++ before) at,
+      end-again section before (own ++ before) at next listed,
+      shares-none own,
+    ) refl
+lists-again section own before at (x ∷ xs) next listed =
+    rw (
+      items_from-step (length section) (attribute_at section) (attribute_at-advances section)
+          (own ++ before) at,
+      shares-cons own xs x,
+    ) (by_name (lists-again section own (before ++ x ∷ []) listed.0 xs next listed.2)
+    (list_any (named x.name) own) refl)
   where
-    resolved : {X : Type 0} (x : X) (r : Result (List X × ℕ) At) → without_offset r
-        ≡ Err causes.AttrTwice
-        → without_offset (put_front x r) ≡ Err causes.AttrTwice
-    resolved x r h = grind arith
+    f : Found section before at (Item x listed.0)
+    f = found section before at (Item x listed.0) listed.1
 
-    by_name : (shares_name own xs ≡ true
-        → without_offset (items_from (length section) (attribute_at section) (own
-        ++ (before ++ x ∷ []))
-        listed.0) ≡ Err causes.AttrTwice) → (b : Bool) → list_any (named x.name) own ≡ b
-        → without_offset (items_from (length section) (attribute_at section) (own ++ before) at)
-        ≡ Err causes.AttrTwice
-    by_name rest true is =
-        let twice : list_any (named x.name) (own ++ before) ≡ true =
-        list_any-append (named x.name) own before ∙ rw is refl in
-        rw (
-          items_from-step (length section) (attribute_at section) (attribute_at-advances section)
-              (own ++ before) at,
-          attribute-twice section before (own ++ before) at x listed.0
-              listed.1 twice,
-        ) refl
-    by_name rest false is =
-        let new : list_any (named x.name) (own ++ before) ≡ false =
-        list_any-append (named x.name) own before
-        ∙ rw (is, attribute-new section before at x listed.0 listed.1) refl in
-        let more : shares_name own xs ≡ true = sym (ap (λ (b : Bool). b || shares_name own xs) is)
-        ∙ (sym (shares-cons own xs x) ∙ shared) in
-        rw (
-          items_from-step (length section) (attribute_at section) (attribute_at-advances section)
-              (own ++ before) at,
-          attribute-again section before (own ++ before) at x listed.0 listed.1 new,
-          append_assoc own before (x ∷ []),
-        ) (resolved x (items_from (length section) (attribute_at section) (own
-        ++ (before ++ x ∷ []))
-        listed.0) (rest more))
+    items : List AttributeSpecification → ℕ → Result (List AttributeSpecification × ℕ) At
+    items = items_from (length section) (attribute_at section)
+
+    resolved : (b : Bool) (r : Result (List AttributeSpecification × ℕ) At) → without_offset r
+        ≡ (if b then Err causes.AttrTwice else Ok (xs, next)) → without_offset (put_front x r)
+        ≡ (if b then Err causes.AttrTwice else Ok (x ∷ xs, next))
+    resolved b r h = grind arith
+
+    by_name : without_offset (items (own ++ (before ++ x ∷ [])) listed.0)
+        ≡ (if shares_name own xs then Err causes.AttrTwice else Ok (xs, next)) → (b : Bool)
+        → list_any (named x.name) own ≡ b → without_offset
+        (first_step items (own ++ before) at (attribute_at section (own ++ before) at))
+        ≡ (if b || shares_name own xs then Err causes.AttrTwice else Ok (x ∷ xs, next))
+    by_name rest true is = rw (found-twice section before (own ++ before) at x listed.0 f
+        (list_any-append (named x.name) own before ∙ rw is refl)) refl
+    by_name rest false is = rw (
+      found-again section (own ++ before) at (Item x listed.0) (
+        f.0,
+        (
+          f.1.0,
+          list_any-append (named x.name) own before ∙ rw (is, f.1.1) refl,
+        ),
+      ),
+      append_assoc own before (x ∷ []),
+    ) (resolved (shares_name own xs) _ rest)
 
 -- the result of reading a list after other attributes
 pub attributes-append : (section : List ℕ) (own : List AttributeSpecification) (at : ℕ)
@@ -88,21 +106,8 @@ pub attributes-append : (section : List ℕ) (own : List AttributeSpecification)
     → without_offset (items_from (length section) (attribute_at section) own at)
     ≡ (if shares_name own rest then Err causes.AttrTwice else Ok (rest, next))
 attributes-append section own at rest next read =
-    subst (λ (ys : List AttributeSpecification). without_offset
-    (items_from (length section) (attribute_at section) ys at)
-    ≡ (if shares_name own rest then Err causes.AttrTwice else Ok (rest, next))) (append-nil own)
-    (by_test (shares_name own rest) refl)
-  where
-    listed : Lists (attribute_at section) [] at rest next
-    listed = attributes_at-lists section at (rest, next) read
-
-    by_test : (b : Bool) → shares_name own rest ≡ b
-        → without_offset (items_from (length section) (attribute_at section) (own ++ []) at)
-        ≡ (if b then Err causes.AttrTwice else Ok (rest, next))
-    by_test true shared = lists-twice section own [] at rest next listed shared
-    by_test false apart = rw (items_from-Lists (length section) (attribute_at section)
-        (attribute_at-advances section) (own ++ []) at rest next
-        (lists-again section own [] at rest next listed apart)) refl
+    rw append-nil at (lists-again section own [] at rest next
+    (attributes_at-lists section at (rest, next) read))
 
 pub append-ok : (section : List ℕ) (own : List AttributeSpecification) (at : ℕ)
     (rest : List AttributeSpecification) (next : ℕ) → attributes_at section at ≡ Ok (rest, next)

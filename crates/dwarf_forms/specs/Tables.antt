@@ -1,7 +1,6 @@
 -- The read of an abbreviation table (DWARF 5, 7.5.3), up to its first fault.
-use Rattle.std.specs.Prelude.{ℕ, ℤ, List, [], length, Option, Some, None, is_none, Result, Ok}
-use Rattle.std.specs.Prelude.{Bool, map}
-use Rattle.std.specs.Prelude.{nat_lt, nat_le, ◌==◌, ◌||◌, ◌&&◌, if◌then◌else◌}
+use Rattle.std.specs.Prelude.{ℕ, ℤ, List, [], length, Option, Some, None, is_none, Result, Ok, Bool}
+use Rattle.std.specs.Prelude.{map, nat_lt, nat_le, ◌==◌, ◌||◌, ◌&&◌, if◌then◌else◌}
 use Rattle.std.specs.List.{list_any}
 use Rattle.dwarf_bytes.specs.declared.fault.Cause.{Cause}
 use Rattle.dwarf_bytes.specs.declared.fault.Cause.TheVariants as causes

@@ -6,7 +6,7 @@ use Rattle.dwarf_bytes.proofs.Items.Turns.{so-far-item}
 use Rattle.dwarf_forms.specs.declared.attribute.AttributeSpecification.{AttributeSpecification}
 use Rattle.dwarf_forms.specs.Tables.{attribute_at}
 use Rattle.dwarf_forms.proofs.Moves.{attribute_at-advances, attributes-ok}
-use Rattle.dwarf_forms.proofs.SuffixLaws.{attribute-again, end-again, named}
+use Rattle.dwarf_forms.proofs.SuffixLists.{attribute-again, end-again, named}
 use Rattle.abbreviation_memo.proofs.ListLaws.{list-continues}
 use Rattle.abbreviation_memo.proofs.shared.first_attributes.Goals as goal
 

@@ -6,35 +6,31 @@ use Rattle.abbreviation_memo.proofs.abbreviation_table.AbbreviationTable.parse.G
 
 pub loop-table-smaller : goal.loop-table-smaller
 loop-table-smaller c =
-    let section = c.args.lists.now in
     let inv = c.loop-table.invariant in
-    let turn = turn-item c.args.budget c.args.offset section
-    (full_declarations section c.loop-table.table) (full_declarations section c.extend.new.self)
-    c.loop-table.cursor c.extend.new.cursor c.in_ok-extend.field-0 inv.bytes inv.read
-    (rw inv.section at c.in_ok-extend.ensures.table) c.if-branch.true in
-    rw (turn.bytes_stay, inv.bytes) (omega (arith, turn.moves, turn.within))
+    let turn = turn-item inv.so_far (full_declarations c.args.lists.now c.extend.new.self)
+    c.extend.new.cursor c.in_ok-extend.field-0 (rw inv.section at c.in_ok-extend.ensures.table)
+    c.if-branch.true in
+    rw (turn.0.bytes_are, inv.so_far.bytes_are) (omega (arith, turn.1, turn.2))
 
 pub loop-table-preserved : goal.loop-table-preserved
 loop-table-preserved c =
-    let section = c.args.lists.now in
     let inv = c.loop-table.invariant in
-    let turn = turn-item c.args.budget c.args.offset section
-    (full_declarations section c.loop-table.table) (full_declarations section c.extend.new.self)
-    c.loop-table.cursor c.extend.new.cursor c.in_ok-extend.field-0 inv.bytes inv.read
-    (rw inv.section at c.in_ok-extend.ensures.table) c.if-branch.true in
+    let turn = turn-item inv.so_far (full_declarations c.args.lists.now c.extend.new.self)
+    c.extend.new.cursor c.in_ok-extend.field-0 (rw inv.section at c.in_ok-extend.ensures.table)
+    c.if-branch.true in
     record {
       section = c.in_ok-extend.ensures.section ∙ inv.section;
-      bytes = turn.bytes_stay;
-      few = omega (arith, turn.few, length-map c.extend.new.self (full_declaration section));
-      read = turn.read;
+      few = omega (
+        arith,
+        turn.0.few,
+        length-map c.extend.new.self (full_declaration c.args.lists.now),
+      );
+      so_far = turn.0;
       shared = rw inv.section at c.in_ok-extend.ensures.shared;
     }
 
 pub returns-clause-table : goal.returns-clause-table
 returns-clause-table c =
-    let section = c.args.lists.now in
     let inv = c.loop-table.invariant in
-    turn_end c.args.budget c.args.offset section (full_declarations section c.loop-table.table)
-    (full_declarations section c.extend.new.self) c.loop-table.cursor c.extend.new.cursor
-    c.in_ok-extend.field-0 inv.bytes inv.read (rw inv.section at c.in_ok-extend.ensures.table)
-    c.if-branch.false
+    turn_end inv.so_far (full_declarations c.args.lists.now c.extend.new.self) c.extend.new.cursor
+    c.in_ok-extend.field-0 (rw inv.section at c.in_ok-extend.ensures.table) c.if-branch.false

@@ -1,5 +1,4 @@
-use Rattle.std.proofs.Common.{ℕ, List, ap, ◌∙◌}
-use Rattle.std.specs.Prelude.{map, position, ◌==◌}
+use Rattle.std.proofs.Common.{ℕ, List, ap, ◌∙◌, map, position, ◌==◌}
 use Rattle.dwarf_forms.proofs.CodeMaps.{position-map}
 use Rattle.abbreviation_memo.proofs.SharedTableLaws.{code_of}
 use Rattle.abbreviation_memo.proofs.abbreviation_table.AbbreviationTable.position.Goals as goal

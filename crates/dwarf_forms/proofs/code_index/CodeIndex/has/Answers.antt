@@ -1,5 +1,4 @@
-use Rattle.std.proofs.Common.{ℕ, ◌∙◌, ap}
-use Rattle.std.specs.Prelude.{Option, is_some, ◌==◌}
+use Rattle.std.proofs.Common.{ℕ, ◌∙◌, ap, Option, is_some, ◌==◌}
 use Rattle.dwarf_forms.proofs.CodeLaws.{is_some-position}
 use Rattle.dwarf_forms.proofs.code_index.CodeIndex.has.Goals as goal
 
