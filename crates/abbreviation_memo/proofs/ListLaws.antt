@@ -1,27 +1,36 @@
 -- Attribute lists by their first attributes and the rest.
 use Rattle.std.proofs.Common.{◌≡◌, ℕ, ◌<◌, ◌≤◌, List, [], ◌∷◌, ◌++◌, length, false, refl, ap, sym}
-use Rattle.std.proofs.Common.{◌∙◌, subst, arith, append_assoc, Option, Some, None, IfSome, Ok, Err}
+use Rattle.std.proofs.Common.{Result, ◌∙◌, arith, append_assoc, Option, Some, None, IfSome, Ok, Err}
 use Rattle.std.proofs.Common.{◌==◌}
 use Rattle.std.specs.List.{list_any}
 use Rattle.std.proofs.lemmas.List.Folds.{list_any-append}
 use Rattle.dwarf_bytes.specs.declared.fault.Cause.{Cause}
-use Rattle.dwarf_bytes.specs.Items.{Item, End, Lists}
+use Rattle.dwarf_bytes.specs.Items.{At, Item, End, Lists, items_from, without_offset}
 use Rattle.dwarf_bytes.specs.Position.{Position}
 use Rattle.dwarf_bytes.specs.Refusals.{ReadsNext}
+use Rattle.dwarf_bytes.proofs.Items.ItemLaws.{first_step, put_front, items_from-step}
 use Rattle.dwarf_bytes.proofs.Items.ItemLaws.{items_from-Lists}
-use Rattle.dwarf_bytes.proofs.Items.Turns.{SoFar, so-far-none, so-far-item, so-far-end}
+use Rattle.dwarf_bytes.proofs.Items.Turns.{SoFar}
 use Rattle.dwarf_bytes.proofs.Numbers.Moves.{same-item}
 use Rattle.dwarf_forms.specs.declared.attribute.AttributeSpecification.{AttributeSpecification}
 use Rattle.dwarf_forms.specs.Tables.{attribute_at, attributes_at, shares_name}
 use Rattle.dwarf_forms.proofs.Moves.{attribute_at-advances, attribute_at-ends, attributes_at-lists}
 use Rattle.dwarf_forms.proofs.Moves.{attributes_at-moves, attributes-ok}
-use Rattle.dwarf_forms.proofs.SuffixLists.{attribute-again, attribute-new, either, end-again, named}
+use Rattle.dwarf_forms.proofs.SuffixLists.{attribute-again, attribute-new, end-again, named}
 use Rattle.dwarf_forms.proofs.SuffixLists.{append-ok, so-far-append}
 use Rattle.abbreviation_memo.specs.Lists.{IsListAt, first_of, list_at, list_from, listed}
 
 pub list-read : (section : List ℕ) (at : ℕ) (xs : List AttributeSpecification) (after : ℕ)
     → attributes_at section at ≡ Ok (xs, after) → list_at section at ≡ xs
 list-read section at xs after read = ap listed read
+
+-- a list, by what is read first
+attributes-step : (section : List ℕ) (at : ℕ) → attributes_at section at ≡ without_offset
+    (first_step (items_from (length section) (attribute_at section)) [] at
+    (attribute_at section [] at))
+unfolding attributes_at
+attributes-step section at = ap without_offset (items_from-step (length section)
+    (attribute_at section) (attribute_at-advances section) [] at)
 
 -- a list without the names of the attributes before it continues them
 pub list-continues : (section : List ℕ) (first : ℕ) (own : List AttributeSpecification) (at : ℕ)
@@ -39,23 +48,19 @@ pub attribute-before : (section : List ℕ) (place at after : ℕ) (x : Attribut
     → list_any (λ other. other.name == x.name) rest ≡ false
     → attributes_at section place ≡ Ok (x ∷ rest, after)
 attribute-before section place at after x rest first read new =
-    list-continues section place (x ∷ []) at rest after
-    (so-far-item (length section) (attribute_at section) (attribute_at-advances section) place []
-    place x at (so-far-none (length section) (attribute_at section) place) first) read
-    (rw new refl)
+    rw (attributes-step section place, first) (put (items_from (length section)
+    (attribute_at section) (x ∷ []) at) (append-ok section (x ∷ []) at rest after read
+    (rw new refl)))
+  where
+    put : (r : Result (List AttributeSpecification × ℕ) At) → without_offset r ≡ Ok (rest, after)
+        → without_offset (put_front x r) ≡ Ok (x ∷ rest, after)
+    put r h = grind arith
 
 pub list-ends : (section : List ℕ) (at after : ℕ) → attribute_at section [] at ≡ Ok (End after)
     → attributes_at section at ≡ Ok ([], after)
-list-ends section at after ends =
-    attributes-ok section at ([], after)
-    (so-far-end (length section) (attribute_at section) (attribute_at-advances section) at [] at
-    after (so-far-none (length section) (attribute_at section) at) ends)
+list-ends section at after ends = rw (attributes-step section at, ends) refl
 
 -- ---- the first attribute of a valid list
-
-pub is-list : (section : List ℕ) (at : ℕ) (xs : List AttributeSpecification) (after : ℕ)
-    → attributes_at section at ≡ Ok (xs, after) → IsListAt section at
-is-list section at xs after read = (after, rw (list-read section at xs after read) read)
 
 -- a list that is read after other attributes is also read without them
 lists-alone : (section : List ℕ) (own before : List AttributeSpecification) (at : ℕ)
@@ -65,11 +70,13 @@ lists-alone : (section : List ℕ) (own before : List AttributeSpecification) (a
 lists-alone section own before at [] next listed =
     end-again section (own ++ before) before at next listed
 lists-alone section own before at (x ∷ xs) next listed =
-    let new = either (list_any (named x.name) own) (list_any (named x.name) before)
-    (sym (list_any-append (named x.name) own before)
-    ∙ attribute-new section (own ++ before) at x listed.0 listed.1) in (
+    let new : list_any (named x.name) before ≡ false = grind (
+      arith,
+      list_any-append (named x.name) own before,
+      attribute-new section (own ++ before) at x listed.0 listed.1,
+    ) in (
       listed.0,
-      attribute-again section (own ++ before) before at x listed.0 listed.1 new.1,
+      attribute-again section (own ++ before) before at x listed.0 listed.1 new,
       lists-alone section own (before ++ x ∷ []) listed.0 xs next
           (rw (append_assoc own before (x ∷ [])) at listed.2),
     )
@@ -94,18 +101,19 @@ starts-at section place (Some x) rest is read = by_list (list_at section place) 
         → Lists (attribute_at section) [] place xs is.0 → StartsAt section place (Some x) rest
     by_list [] list listed = cc
     by_list (y ∷ ys) list listed =
-        let same = same-item y x listed.0 rest (sym listed.1 ∙ read) in
+        let same = same-item x y rest listed.0 (sym read ∙ listed.1) in
         let others : attributes_at section listed.0 ≡ Ok (ys, is.0) =
         attributes-ok section listed.0 (ys, is.0)
         (items_from-Lists (length section) (attribute_at section) (attribute_at-advances section)
         [] listed.0 ys is.0 (lists-alone section (y ∷ []) [] listed.0 ys is.0 listed.2)) in
-        let moved = attribute_at-advances section [] place x rest read in
-        subst (λ (z : AttributeSpecification). StartsAt section place (Some z) rest) same.0
-        (subst (λ (k : ℕ). StartsAt section place (Some y) k) same.1 (record {
-          list = list ∙ ap (λ (zs : List AttributeSpecification). y ∷ zs)
-              (sym (list-read section listed.0 ys is.0 others));
-          after = (omega (arith, same.1, moved.0), is-list section listed.0 ys is.0 others);
-        }))
+        let read_again = list-read section listed.0 ys is.0 others in
+        record {
+          list = rw (list, same.0, same.1, read_again) refl;
+          after = (
+            (attribute_at-advances section [] place x rest read).0,
+            (is.0, rw (same.1, read_again) others),
+          );
+        }
 
 -- ---- reading the start of a list
 
@@ -125,13 +133,8 @@ start-later section place (Some x) rest read = attribute_at-advances section [] 
 -- a valid list has a valid start
 pub start-valid : {X : Type 0} (section : List ℕ) (place : ℕ) (cause : Cause)
     → IsListAt section place → attribute_at section [] place ≡ Err cause → X
-start-valid {X = X} section place cause is fault = by_list (list_at section place)
-    (attributes_at-lists section place (list_at section place, is.0) is.1)
-  where
-    by_list : (xs : List AttributeSpecification)
-        → Lists (attribute_at section) [] place xs is.0 → X
-    by_list [] listed = cc (listed, fault)
-    by_list (y ∷ ys) listed = cc (listed.1, fault)
+start-valid section place cause is fault =
+    let read = rw (attributes-step section place, fault) at is.1 in cc
 
 pub list-within : (section : List ℕ) (place : ℕ) → IsListAt section place → place < length section
 list-within section place is =

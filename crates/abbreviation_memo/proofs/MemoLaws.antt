@@ -1,12 +1,10 @@
 -- The memos of lists, and the names of their attributes.
-use Rattle.std.proofs.Common.{◌≡◌, ℕ, ◌<◌, List, [], ◌∷◌, length, Bool, false, refl, ap, sym, ◌∙◌}
-use Rattle.std.proofs.Common.{arith, Some, Ok, ◌==◌, ◌||◌}
-use Rattle.std.specs.List.{list_any}
+use Rattle.std.proofs.Common.{◌≡◌, ℕ, ◌<◌, List, [], ◌∷◌, length, false, sym, ◌∙◌, arith, Some, Ok}
 use Rattle.std.specs.Ordering.{nat_cmp}
 use Rattle.std.specs.BTreeMap.{BTreeMap, get}
 use Rattle.dwarf_bytes.specs.Items.{Item, End}
 use Rattle.dwarf_forms.specs.declared.attribute.AttributeSpecification.{AttributeSpecification}
-use Rattle.dwarf_forms.specs.Tables.{attribute_at, attributes_at, shares_name}
+use Rattle.dwarf_forms.specs.Tables.{attribute_at, attributes_at}
 use Rattle.abbreviation_memo.specs.declared.memoized_lists.Memo.{Memo}
 use Rattle.abbreviation_memo.specs.declared.name_sets.Branch.{Branch}
 use Rattle.abbreviation_memo.specs.Lists.{list_at}
@@ -17,13 +15,6 @@ use Rattle.abbreviation_memo.proofs.MapLaws.{Puts, entries-put}
 use Rattle.abbreviation_memo.proofs.SetLaws.{HasMore}
 
 -- ---- names
-
-pub names-share : (sets : List Branch) (set : ℕ) (own rest : List AttributeSpecification)
-    → HasNames sets set rest → list_any (λ attribute. is_in sets set attribute.name) own
-    ≡ shares_name own rest
-names-share sets set [] rest has = refl
-names-share sets set (a ∷ own) rest has =
-    rw (has.names a.name, names-share sets set own rest has) refl
 
 pub names-stay : (old new : List Branch) (set : ℕ) (xs : List AttributeSpecification)
     → SetsStay old new → HasNames old set xs → HasNames new set xs
@@ -37,12 +28,8 @@ pub names-more : (old new : List Branch) (set more : ℕ) (x : AttributeSpecific
     → HasMore old new set more x.name → HasNames new more (x ∷ xs)
 names-more old new set more x xs has within with_more = record {
   within = within;
-  names = λ name. with_more name ∙ (ap (λ (b : Bool). b || is_in old set name) (same name x.name)
-      ∙ ap (λ (b : Bool). (x.name == name) || b) (has.names name));
+  names = λ name. grind (arith, with_more name, has.names name);
 }
-  where
-    same : (a b : ℕ) → (a == b) ≡ (b == a)
-    same a b = grind arith
 
 -- ---- memos
 

@@ -2,6 +2,7 @@ pub mod Codes
 pub mod CodeLaws
 pub mod CodeMaps
 pub mod Names
+pub mod Loops
 pub mod Moves
 pub mod TableTurns
 pub mod Encodings

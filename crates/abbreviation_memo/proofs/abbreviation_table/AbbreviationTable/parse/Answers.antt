@@ -10,7 +10,7 @@ loop-table-smaller c =
     let turn = turn-item inv.so_far (full_declarations c.args.lists.now c.extend.new.self)
     c.extend.new.cursor c.in_ok-extend.field-0 (rw inv.section at c.in_ok-extend.ensures.table)
     c.if-branch.true in
-    rw (turn.0.bytes_are, inv.so_far.bytes_are) (omega (arith, turn.1, turn.2))
+    rw (turn.0.read.bytes_are, inv.so_far.read.bytes_are) (omega (arith, turn.1, turn.2))
 
 pub loop-table-preserved : goal.loop-table-preserved
 loop-table-preserved c =

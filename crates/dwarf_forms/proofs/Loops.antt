@@ -1,0 +1,45 @@
+-- A loop that reads items at a cursor.
+use Rattle.std.proofs.Common.{◌≡◌, ℕ, ◌<◌, ◌≤◌, List, [], ◌∷◌, ◌++◌, length, ◌∙◌, Result, Ok, Err}
+use Rattle.dwarf_bytes.specs.declared.fault.Cause.{Cause}
+use Rattle.dwarf_bytes.specs.Items.{Next, Item, End, Advances, items_from}
+use Rattle.dwarf_bytes.specs.Position.{Position}
+use Rattle.dwarf_bytes.proofs.Items.Turns.{SoFar, so-far-item, so-far-end, so-far-fault}
+
+-- The items that were read from offset `first` on, and the cursor after them.
+pub record ItemsSoFar {X : Type 0} (step : List ℕ → List X → ℕ → Result (Next X) Cause)
+    (first : ℕ) (bytes : List ℕ) (items : List X) (cursor : Position) : Type 0 where
+  pub bytes_are : cursor.bytes ≡ bytes
+  pub read : SoFar (length bytes) (step bytes) first items cursor.place
+
+module _ {X : Type 0} {step : List ℕ → List X → ℕ → Result (Next X) Cause} {first : ℕ}
+    {bytes : List ℕ} {items : List X} {cursor : Position}
+    (advances : Advances (length bytes) (step bytes))
+    (so_far : ItemsSoFar step first bytes items cursor) where
+  here : (read : Result (Next X) Cause) → step cursor.bytes items cursor.place ≡ read
+      → step bytes items cursor.place ≡ read
+  here read is = rw so_far.bytes_are at is
+
+  pub one-more : (new : Position) (x : X)
+      → step cursor.bytes items cursor.place ≡ Ok (Item x new.place) → new.bytes ≡ cursor.bytes
+      → ItemsSoFar step first bytes (items ++ x ∷ []) new × (cursor.place < new.place)
+      × (new.place ≤ length bytes)
+  one-more new x is same =
+      let read = here (Ok (Item x new.place)) is in
+      let moved = advances items cursor.place x new.place read in (
+        record {
+          bytes_are = same ∙ so_far.bytes_are;
+          read = so-far-item _ _ advances first items cursor.place x new.place so_far.read read;
+        },
+        moved.0,
+        moved.1,
+      )
+
+  pub all-read : (after : ℕ) → step cursor.bytes items cursor.place ≡ Ok (End after)
+      → items_from (length bytes) (step bytes) [] first ≡ Ok (items, after)
+  all-read after is =
+      so-far-end _ _ advances first items cursor.place after so_far.read (here (Ok (End after)) is)
+
+  pub first-fault : (cause : Cause) → step cursor.bytes items cursor.place ≡ Err cause
+      → items_from (length bytes) (step bytes) [] first ≡ Err (cause, cursor.place)
+  first-fault cause is =
+      so-far-fault _ _ advances first items cursor.place cause so_far.read (here (Err cause) is)
