@@ -182,13 +182,3 @@ table_read budget section at table next s good few =
     (declaration_at-advances budget section) [] at table next
     (read-list (declaration-decoded budget section) [] at table next parts (λ i d within.
     (fit i d within, new i d within)))
-
--- Two valid tables encoded at the start of the same bytes are equal.
-pub one-table : (a b x y : List ℕ) (s t : List Declaration) → EncodesTable a s → AreValid s
-    → EncodesTable b t → AreValid t → a ++ x ≡ b ++ y → (a ≡ b) × (s ≡ t)
-one-table a b x y s t is good_s js good_t e =
-    let budget = length s + length t in
-    one-encoding (λ bytes table. EncodesTable bytes table × AreValid table
-    × (length table ≤ budget)) (table_at budget) (λ bytes table next s.
-    table_read budget bytes 0 table next (again s (λ front is. is.0)) s.encoded.1 s.encoded.2) a b x
-    y s t (is, good_s, omega arith) (js, good_t, omega arith) e

@@ -101,11 +101,11 @@ lists-again section own before at (x ∷ xs) next listed =
     ) (resolved (shares_name own xs) _ rest)
 
 -- the result of reading a list after other attributes
-pub attributes-append : (section : List ℕ) (own : List AttributeSpecification) (at : ℕ)
+pub attributes_append : (section : List ℕ) (own : List AttributeSpecification) (at : ℕ)
     (rest : List AttributeSpecification) (next : ℕ) → attributes_at section at ≡ Ok (rest, next)
     → without_offset (items_from (length section) (attribute_at section) own at)
     ≡ (if shares_name own rest then Err causes.AttrTwice else Ok (rest, next))
-attributes-append section own at rest next read =
+attributes_append section own at rest next read =
     rw append-nil at (lists-again section own [] at rest next
     (attributes_at-lists section at (rest, next) read))
 
@@ -114,7 +114,7 @@ pub append-ok : (section : List ℕ) (own : List AttributeSpecification) (at : �
     → shares_name own rest ≡ false
     → without_offset (items_from (length section) (attribute_at section) own at) ≡ Ok (rest, next)
 append-ok section own at rest next read apart =
-    attributes-append section own at rest next read ∙ rw apart refl
+    attributes_append section own at rest next read ∙ rw apart refl
 
 -- ---- the list from its first offset on, if its rest after the attributes read so far is memoized
 

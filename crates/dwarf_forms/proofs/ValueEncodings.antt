@@ -57,7 +57,7 @@ direct-reads form format bytes at value next s =
     }) in
     rw (s.encoded.1, direct_at, content, ← s.encoded.3) refl
 
-abbrev Spells_by : Option Shape → ℕ → Format → Option ℤ → List ℕ → Value → Type 0
+abbrev pub Spells_by : Option Shape → ℕ → Format → Option ℤ → List ℕ → Value → Type 0
 Spells_by f form format constant bytes value = elim f [
   | None ↦ ⊥
   | Some (Direct layout) ↦ SpellsDirectly form format bytes value
@@ -66,7 +66,7 @@ Spells_by f form format constant bytes value = elim f [
   | Some Indirect ↦ SpellsIndirectly format bytes value
 ]
 
-abbrev Value_read : Option Shape → ℕ → Format → Option ℤ → List ℕ → ℕ
+abbrev pub Value_read : Option Shape → ℕ → Format → Option ℤ → List ℕ → ℕ
     → Result (Value × ℕ) ValueFault
 Value_read f form format constant bytes at = elim f [
   | None ↦ Err Form
@@ -80,18 +80,18 @@ Value_read f form format constant bytes at = elim f [
       inner.1
 ]
 
-value-by : (f : Option Shape) (form : ℕ) (format : Format) (constant : Option ℤ) (bytes : List ℕ)
+pub value-encoded : (f : Option Shape) (form : ℕ) (format : Format) (constant : Option ℤ) (bytes : List ℕ)
     (at : ℕ) (value : Value) (next : ℕ) → Value_read f form format constant bytes at
     ≡ Ok (value, next) → IsEncodedAt (Spells_by f form format constant) bytes at value next
-value-by None form format constant bytes at value next h = cc
-value-by (Some (Direct layout)) form format constant bytes at value next h =
+value-encoded None form format constant bytes at value next h = cc
+value-encoded (Some (Direct layout)) form format constant bytes at value next h =
     direct-encoded form format bytes at value next h
-value-by (Some ImplicitConst) form format None bytes at value next h = cc
-value-by (Some ImplicitConst) form format (Some c) bytes at value next h =
+value-encoded (Some ImplicitConst) form format None bytes at value next h = cc
+value-encoded (Some ImplicitConst) form format (Some c) bytes at value next h =
     let same : (value ≡ record { form = form; content = Signed c }) × (at ≡ next) =
     grind (arith, h) in
     rw (← same.1) (nothing bytes at (c, refl, refl, same.0))
-value-by (Some Indirect) form format constant bytes at value next h =
+value-encoded (Some Indirect) form format constant bytes at value next h =
     let p : (inner : ℕ) × (mid : ℕ) × (uleb_at bytes at ≡ Ok (inner, mid))
     × (direct_at inner format bytes mid ≡ Ok (value, next)) = grind (arith, h) in
     again (joined (uleb-encoded bytes at p.0 p.1 p.2)
@@ -104,42 +104,20 @@ value-by (Some Indirect) form format constant bytes at value next h =
           both.rest_is;
     })
 
-pub value-encoded : (form : ℕ) (format : Format) (constant : Option ℤ) (bytes : List ℕ) (at : ℕ)
-    (value : Value) (next : ℕ) → value_at form format constant bytes at ≡ Ok (value, next)
-    → IsEncodedAt (Spells form format constant) bytes at value next
-unfolding value_at
-value-encoded form format constant bytes at value next h =
-    value-by (form_of form) form format constant bytes at value next h
-
-read-by : (f : Option Shape) (form : ℕ) (format : Format) (constant : Option ℤ) (bytes : List ℕ)
+pub value-reads : (f : Option Shape) (form : ℕ) (format : Format) (constant : Option ℤ) (bytes : List ℕ)
     (at : ℕ) (value : Value) (next : ℕ)
     → IsEncodedAt (Spells_by f form format constant) bytes at value next
     → Value_read f form format constant bytes at ≡ Ok (value, next)
-read-by None form format constant bytes at value next s = absurd s.encoded
-read-by (Some (Direct layout)) form format constant bytes at value next s =
+value-reads None form format constant bytes at value next s = absurd s.encoded
+value-reads (Some (Direct layout)) form format constant bytes at value next s =
     direct-reads form format bytes at value next s
-read-by (Some ImplicitConst) form format constant bytes at value next s =
+value-reads (Some ImplicitConst) form format constant bytes at value next s =
     let place : at ≡ next = omega (arith, s.next_is, ap length s.encoded.2) in
     rw (s.encoded.1, s.encoded.3, place) refl
-read-by (Some Indirect) form format constant bytes at value next s =
+value-reads (Some Indirect) form format constant bytes at value next s =
     let p = parted {A = IsUleb} {B = SpellsDirectly value.form format} {p = (value.form, value)}
     (again s (λ front e. rw e.whole (both e.front e.rest e.form_is e.value_is))) in
     rw (
       uleb-again bytes at value.form p.0 p.1,
       direct-reads value.form format bytes p.0 value next p.2,
     ) refl
-
-pub value-reads : (form : ℕ) (format : Format) (constant : Option ℤ) (bytes : List ℕ) (at : ℕ)
-    (value : Value) (next : ℕ) → IsEncodedAt (Spells form format constant) bytes at value next
-    → value_at form format constant bytes at ≡ Ok (value, next)
-unfolding value_at
-value-reads form format constant bytes at value next s =
-    read-by (form_of form) form format constant bytes at value next s
-
--- Two encodings at the start of the same bytes are equal.
-pub one-value : (form : ℕ) (format : Format) (constant : Option ℤ) (a b x y : List ℕ) (v w : Value)
-    → Spells form format constant a v → Spells form format constant b w → a ++ x ≡ b ++ y
-    → (a ≡ b) × (v ≡ w)
-one-value form format constant a b x y v w is js e =
-    one-encoding (Spells form format constant) (value_at form format constant)
-    (λ bytes value next. value-reads form format constant bytes 0 value next) a b x y v w is js e

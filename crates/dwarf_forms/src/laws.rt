@@ -31,6 +31,7 @@ pub fn table_is_unique()
 
 /// A list of attributes that is read on its own is also read after other attributes, unless the two
 /// share a name. If they do, the read fails with `AttrTwice`, whichever name is shared.
+#[tactic(auto, using(crate::proofs::SuffixLists::attributes_append))]
 pub fn attributes_are_joined()
     ensures { (section : List ℕ) (own : List Specification) (at : ℕ)
         (rest : List Specification) (next : ℕ)
