@@ -2,4 +2,3 @@ pub mod SetLaws
 pub mod ListLaws
 pub mod MapLaws
 pub mod MemoLaws
-pub mod SharedTableLaws

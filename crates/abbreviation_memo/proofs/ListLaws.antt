@@ -117,18 +117,14 @@ starts-at section place (Some x) rest is read = by_list (list_at section place) 
 
 -- ---- reading the start of a list
 
-pub start-next : (section : List ℕ) (place : ℕ) (old new : Position)
+pub start-later : (section : List ℕ) (place : ℕ) (old new : Position)
     (found : Option AttributeSpecification) → old ≡ record { bytes = section; place = place }
     → ReadsNext (Ok found) (λ bytes. attribute_at bytes []) old new
-    → attribute_at section [] place ≡ Ok (first_of found new.place)
-start-next section place old new None start read = rw start at read.0
-start-next section place old new (Some x) start read = rw start at read.0
-
-pub start-later : (section : List ℕ) (place : ℕ) (first : Option AttributeSpecification) (rest : ℕ)
-    → attribute_at section [] place ≡ Ok (first_of first rest)
-    → (place < rest) × (rest ≤ length section)
-start-later section place None rest read = attribute_at-ends section [] place rest read
-start-later section place (Some x) rest read = attribute_at-advances section [] place x rest read
+    → (place < new.place) × (new.place ≤ length section)
+start-later section place old new None start read =
+    attribute_at-ends section [] place new.place (rw start at read.0)
+start-later section place old new (Some x) start read =
+    attribute_at-advances section [] place x new.place (rw start at read.0)
 
 -- a valid list has a valid start
 pub start-valid : {X : Type 0} (section : List ℕ) (place : ℕ) (cause : Cause)

@@ -1,9 +1,8 @@
 -- Elements of a list while elements are appended.
 use Rattle.std.proofs.Common.{◌≡◌, ◌⊎◌, inl, inr, ℕ, zero, suc, List, [], ◌∷◌, ◌++◌, length, refl}
-use Rattle.std.proofs.Common.{ap, ◌∙◌, take, false, arith, Option, Some, None, is_some, slice_get}
-use Rattle.std.proofs.Common.{Result, Ok, Err, IfOk}
-use Rattle.std.proofs.Math.Seq.{take-append_seam}
-use Rattle.std.proofs.lemmas.Option.{same_Some}
+use Rattle.std.proofs.Common.{sym, length-append, arith, Some, slice_get, Result, Ok, Err, IfOk}
+use Rattle.std.proofs.lemmas.List.{get_or_push}
+use Rattle.std.proofs.lemmas.Option.{same_Some, slice_get_read}
 
 pub at-last : {X : Type 0} (xs : List X) (y z : X) (i : ℕ) → slice_get (xs ++ y ∷ []) i ≡ Some z
     → (slice_get xs i ≡ Some z) ⊎ ((i ≡ length xs) × (y ≡ z))
@@ -20,19 +19,8 @@ at-front (x ∷ xs) ys (suc i) z at = at-front xs ys i z at
 
 pub at-end : {X : Type 0} (xs : List X) (x : X) (n : ℕ) → n ≡ length xs
     → slice_get (xs ++ x ∷ []) n ≡ Some x
-at-end {X = X} xs x n is = ap (λ (m : ℕ). slice_get (xs ++ x ∷ []) m) is ∙ seam xs
-  where
-    seam : (ys : List X) → slice_get (ys ++ x ∷ []) (length ys) ≡ Some x
-    seam [] = refl
-    seam (y ∷ ys) = seam ys
-
--- the list before its last element was appended
-pub popped : {X : Type 0} (xs now after : List X) (x : X) (n : ℕ) → now ≡ xs ++ x ∷ []
-    → after ≡ take n now → n ≡ length xs → after ≡ xs
-popped xs now after x n more rest len = rw (rest, more, len) (take-append_seam xs (x ∷ []))
-
-pub none-from-false : {X : Type 0} (o : Option X) → is_some o ≡ false → o ≡ None
-none-from-false o h = grind arith
+at-end xs x n is = slice_get_read (xs ++ x ∷ []) _ n x refl
+    (omega (arith, length-append xs (x ∷ []))) (sym (get_or_push xs x x n (sym is)))
 
 -- weakens a property of a result
 pub if-ok : {X E : Type 0} (P Q : X → Type 0) (r : Result X E) → IfOk r P → ((x : X) → P x → Q x)

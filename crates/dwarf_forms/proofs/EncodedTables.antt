@@ -1,5 +1,5 @@
 -- Declarations and tables are read if and only if they are encoded and valid.
-use Rattle.std.proofs.Common.{◌≡◌, ℕ, suc, ◌+◌, ◌-◌, ◌≤◌, List, [], ◌∷◌, ◌++◌, length, refl, arith}
+use Rattle.std.proofs.Common.{◌≡◌, ℕ, suc, ◌-◌, ◌≤◌, List, [], ◌∷◌, ◌++◌, length, refl, arith}
 use Rattle.std.proofs.Common.{append_assoc, Ok, ◌==◌, if◌then◌else◌}
 use Rattle.std.proofs.lemmas.List.{length-map}
 use Rattle.dwarf_bytes.specs.Numbers.{IsEncodedAt, IsUleb, uleb_at}
@@ -13,7 +13,7 @@ use Rattle.dwarf_forms.specs.Tables.{attributes_at, codes_of, head_at, declarati
 use Rattle.dwarf_forms.proofs.AttributeEncodings.{uleb-read, uleb-reads, attributes-encoded}
 use Rattle.dwarf_forms.proofs.AttributeEncodings.{attributes-read}
 use Rattle.dwarf_forms.proofs.CodeMaps.{any-map}
-use Rattle.dwarf_forms.proofs.Encodings.{Both, both, again, joined, parted, one-encoding}
+use Rattle.dwarf_forms.proofs.Encodings.{Both, both, again, joined, parted}
 use Rattle.dwarf_forms.proofs.ListEncodings.{Ends, AreEncoded, IsDecoded, IsNew, FitsBudget}
 use Rattle.dwarf_forms.proofs.ListEncodings.{encoded-list, valid-list, read-list, all-new, new-each}
 use Rattle.dwarf_forms.proofs.ListEncodings.{all-fit, each-fits}

@@ -1,7 +1,6 @@
 pub mod Codes
 pub mod CodeLaws
 pub mod CodeMaps
-pub mod Names
 pub mod Loops
 pub mod Moves
 pub mod TableTurns

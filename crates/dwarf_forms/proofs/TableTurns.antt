@@ -1,7 +1,6 @@
 -- The iterations of the loop over the declarations of a table.
-use Rattle.std.proofs.Common.{◌≡◌, ℕ, ◌<◌, ◌≤◌, ◌⊎◌, ◌↔◌, List, [], ◌∷◌, length, Bool, true, false}
-use Rattle.std.proofs.Common.{refl, ap, arith, length-append, Result, Ok, Err, IsOk}
-use Rattle.std.specs.Result.{is_err}
+use Rattle.std.proofs.Common.{◌≡◌, ℕ, ◌<◌, ◌≤◌, ◌⊎◌, List, [], ◌∷◌, length, Bool, true, false, refl}
+use Rattle.std.proofs.Common.{ap, arith, length-append, Ok, Err}
 use Rattle.std.proofs.lemmas.List.{drop_all}
 use Rattle.dwarf_bytes.specs.declared.fault.ReadFault.TheVariants.{Short}
 use Rattle.dwarf_bytes.specs.declared.fault.Section.TheVariants as sections
@@ -78,8 +77,3 @@ outside budget bytes offset h =
     rw (so-far-fault (length bytes) (declaration_at budget bytes) (declaration_at-advances
     budget bytes) offset [] offset causes.Short (so-far-none (length bytes)
     (declaration_at budget bytes) offset) none) refl
-
--- a seek fails only past the end
-pub past_end : {A E : Type 0} (sought : Result A E) (failed : Bool) (place len : ℕ)
-    → failed ≡ is_err sought → failed ≡ true → (IsOk sought ↔ (place ≤ len)) → len < place
-past_end sought failed place len is bad within = grind (arith, is, bad, within.1)

@@ -1,6 +1,6 @@
 -- Values are read if and only if they are encoded, in both directions.
-use Rattle.std.proofs.Common.{◌≡◌, ℕ, ℤ, List, [], ◌++◌, length, refl, sym, ap, subst, arith}
-use Rattle.std.proofs.Common.{Option, Some, None, Result, Ok, Err}
+use Rattle.std.proofs.Common.{◌≡◌, ℕ, ℤ, List, [], length, refl, sym, ap, subst, arith, Option}
+use Rattle.std.proofs.Common.{Some, None, Result, Ok, Err}
 use Rattle.dwarf_bytes.specs.declared.format.Format.{Format}
 use Rattle.dwarf_bytes.specs.declared.form.Form.{Form as Shape}
 use Rattle.dwarf_bytes.specs.declared.form.Form.TheVariants.{Direct, ImplicitConst, Indirect}
@@ -14,9 +14,9 @@ use Rattle.dwarf_bytes.proofs.Contents.ContentLaws.{content-encoded}
 use Rattle.dwarf_bytes.proofs.Contents.ContentEncodings.{content-again}
 use Rattle.dwarf_forms.specs.declared.values.ValueFault.{ValueFault}
 use Rattle.dwarf_forms.specs.declared.values.ValueFault.TheVariants.{Form}
-use Rattle.dwarf_forms.specs.Values.{Value, SpellsDirectly, SpellsIndirectly, Spells, reading_value}
-use Rattle.dwarf_forms.specs.Values.{direct_at, value_at}
-use Rattle.dwarf_forms.proofs.Encodings.{both, nothing, again, joined, parted, one-encoding}
+use Rattle.dwarf_forms.specs.Values.{Value, SpellsDirectly, SpellsIndirectly, reading_value}
+use Rattle.dwarf_forms.specs.Values.{direct_at}
+use Rattle.dwarf_forms.proofs.Encodings.{both, nothing, again, joined, parted}
 
 abbrev Direct_read : Option Shape → ℕ → Format → List ℕ → ℕ → Result (Value × ℕ) ValueFault
 Direct_read f form format bytes at = elim f [

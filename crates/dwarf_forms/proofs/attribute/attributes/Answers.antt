@@ -1,9 +1,11 @@
-use Rattle.std.proofs.Common.{arith, inr, length, ap, ◌∙◌}
+use Rattle.std.proofs.Common.{arith, inr, length, ap, ◌∙◌, [], ◌∷◌}
 use Rattle.std.proofs.lemmas.Result.{err_from_is_err_and}
 use Rattle.dwarf_bytes.proofs.Items.Turns.{None-from-no-Some}
 use Rattle.dwarf_forms.proofs.Loops.{one-more, all-read, first-fault}
 use Rattle.dwarf_forms.proofs.Moves.{attribute_at-advances, attributes-ok, attributes-err}
-use Rattle.dwarf_forms.proofs.Names.{names-more}
+use Rattle.std.proofs.lemmas.Grind.{common_steps}
+use Rattle.std.proofs.lemmas.List.Folds.{list_any-append}
+use Rattle.dwarf_forms.proofs.SuffixLists.{named}
 use Rattle.dwarf_forms.proofs.attribute.attributes.Goals as goal
 
 pub returns-in_err-next : goal.returns-in_err-next
@@ -29,8 +31,13 @@ loop-names-preserved c =
     let inv = c.loop-names.invariant in
     let read = rw c.in-Some.is at (c.in_ok-next.ensures own inv.names) in
     rw c.in_ok-push.ensures.items (record {
-      names = names-more own c.in-Some.next c.loop-names.names c.insert.new.self
-          c.in_ok-insert.ensures.updates.0 inv.names;
+      names = λ name. grind (
+        arith,
+        common_steps,
+        c.in_ok-insert.ensures.updates.0 name,
+        inv.names name,
+        list_any-append (named name) own (c.in-Some.next ∷ []),
+      );
       read = (one-more (attribute_at-advances c.args.cursor.now.bytes) inv.read
           c.next_attribute.new.cursor c.in-Some.next read.0 read.1).0;
     })

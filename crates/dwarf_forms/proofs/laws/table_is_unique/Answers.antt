@@ -1,4 +1,4 @@
-use Rattle.std.proofs.Common.{ℕ, ◌+◌, ◌≤◌, length, arith}
+use Rattle.std.proofs.Common.{◌+◌, ◌≤◌, length, arith}
 use Rattle.dwarf_forms.specs.Declarations.{EncodesTable, AreValid}
 use Rattle.dwarf_forms.specs.Tables.{table_at}
 use Rattle.dwarf_forms.proofs.Encodings.{again, one-encoding}

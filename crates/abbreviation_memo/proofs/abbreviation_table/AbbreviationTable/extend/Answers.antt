@@ -1,15 +1,30 @@
-use Rattle.abbreviation_memo.proofs.SharedTableLaws.{extends-item, shared-push}
+use Rattle.std.proofs.Common.{◌≡◌, ℕ, List, [], ◌∷◌, map, refl, ap, ◌∙◌}
+use Rattle.std.proofs.lemmas.List.{map-append}
+use Rattle.std.proofs.lemmas.List.Elements.{All-push}
+use Rattle.dwarf_forms.specs.Tables.{codes_of}
+use Rattle.abbreviation_memo.specs.Declarations.{IsShared, SharedDeclaration, full_declaration}
+use Rattle.abbreviation_memo.specs.Declarations.{full_declarations}
 use Rattle.abbreviation_memo.proofs.abbreviation_table.AbbreviationTable.extend.Goals as goal
+
+codes-same : (section : List ℕ) (table : List SharedDeclaration)
+    → codes_of (full_declarations section table) ≡ map (λ declaration. declaration.code) table
+codes-same section [] = refl
+codes-same section (d ∷ ds) = ap (λ (cs : List ℕ). d.code ∷ cs) (codes-same section ds)
 
 pub returns-clause-table : goal.returns-clause-table
 returns-clause-table c =
+    let section = c.args.lists.now in
     let head = rw c.in-Some.is at c.in_ok-head.ensures.reads in
-    extends-item c.args.budget c.args.lists.now c.args.self.now
-    c.push.new.self c.new.result c.in-Some.head c.in_ok-list.list c.args.cursor.now
-    c.next_head.new.cursor c.shared_attributes.new.cursor head.0 head.1 c.in_ok-list.ensures.reads
-    c.in_ok-list.ensures.bytes c.new.ensures c.in_ok-push.ensures.ok
+    let read = rw head.1 at c.in_ok-list.ensures.reads in (
+      full_declaration section c.new.result,
+      rw (codes-same section c.args.self.now, head.0, read, c.new.ensures) refl,
+      rw c.in_ok-push.ensures.ok
+          (map-append (full_declaration section) c.args.self.now (c.new.result ∷ [])),
+      c.in_ok-list.ensures.bytes ∙ head.1,
+    )
 
 pub returns-clause-shared : goal.returns-clause-shared
 returns-clause-shared c =
-    shared-push c.args.lists.now c.args.self.now c.push.new.self c.new.result
-    c.requires.shared (rw c.new.ensures c.in_ok-list.ensures.list) c.in_ok-push.ensures.ok
+    rw c.in_ok-push.ensures.ok (All-push
+    (λ (d : SharedDeclaration). IsShared c.args.lists.now d.list) c.args.self.now c.new.result
+    c.requires.shared (rw c.new.ensures c.in_ok-list.ensures.list))

@@ -1,11 +1,12 @@
-use Rattle.std.proofs.Common.{ℕ, List, ap, ◌∙◌, map, position, ◌==◌}
+use Rattle.std.proofs.Common.{ℕ, refl, ◌==◌}
 use Rattle.dwarf_forms.proofs.CodeMaps.{position-map}
-use Rattle.abbreviation_memo.proofs.SharedTableLaws.{code_of}
+use Rattle.abbreviation_memo.specs.Declarations.{SharedDeclaration}
 use Rattle.abbreviation_memo.proofs.abbreviation_table.AbbreviationTable.position.Goals as goal
 
 pub returns : goal.returns
-returns c =
-    c.position.ensures
-    ∙ (ap (λ (codes : List ℕ). position (λ (other : ℕ). other == c.args.code) codes)
-    (c.self.invariant ∙ ap (map code_of) c.self.view_is)
-    ∙ position-map code_of (λ (other : ℕ). other == c.args.code) c.args.self.now)
+returns c = rw (
+  c.position.ensures,
+  c.self.invariant,
+  c.self.view_is,
+  position-map (λ (d : SharedDeclaration). d.code) (λ (other : ℕ). other == c.args.code) c.args.self.now,
+) refl
