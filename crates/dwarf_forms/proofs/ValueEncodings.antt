@@ -80,8 +80,8 @@ Value_read f form format constant bytes at = elim f [
       inner.1
 ]
 
-pub value-encoded : (f : Option Shape) (form : ℕ) (format : Format) (constant : Option ℤ) (bytes : List ℕ)
-    (at : ℕ) (value : Value) (next : ℕ) → Value_read f form format constant bytes at
+pub value-encoded : (f : Option Shape) (form : ℕ) (format : Format) (constant : Option ℤ)
+    (bytes : List ℕ) (at : ℕ) (value : Value) (next : ℕ) → Value_read f form format constant bytes at
     ≡ Ok (value, next) → IsEncodedAt (Spells_by f form format constant) bytes at value next
 value-encoded None form format constant bytes at value next h = cc
 value-encoded (Some (Direct layout)) form format constant bytes at value next h =
@@ -104,8 +104,8 @@ value-encoded (Some Indirect) form format constant bytes at value next h =
           both.rest_is;
     })
 
-pub value-reads : (f : Option Shape) (form : ℕ) (format : Format) (constant : Option ℤ) (bytes : List ℕ)
-    (at : ℕ) (value : Value) (next : ℕ)
+pub value-reads : (f : Option Shape) (form : ℕ) (format : Format) (constant : Option ℤ)
+    (bytes : List ℕ) (at : ℕ) (value : Value) (next : ℕ)
     → IsEncodedAt (Spells_by f form format constant) bytes at value next
     → Value_read f form format constant bytes at ≡ Ok (value, next)
 value-reads None form format constant bytes at value next s = absurd s.encoded

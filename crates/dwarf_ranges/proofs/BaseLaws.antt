@@ -1,7 +1,6 @@
 -- Table items beyond the end of the section, and the current base of a range list.
 use Rattle.std.proofs.Common.{◌≡◌, ℕ, ◌+◌, ◌*◌, ◌<◌, List, true, length, refl, arith, [], ◌∷◌, ◌++◌}
-use Rattle.std.proofs.Common.{map}
-use Rattle.std.specs.Prelude.{Option, Some, Err, nat_lt}
+use Rattle.std.proofs.Common.{map, Option, Some, Err, nat_lt}
 use Rattle.std.proofs.lemmas.Bool.{lt-ltb, lt-leb}
 use Rattle.dwarf_bytes.specs.declared.fault.ReadFault.TheVariants.{Short}
 use Rattle.dwarf_bytes.specs.declared.format.Format.{Format}

@@ -1,17 +1,15 @@
 -- The entries of range lists: each takes at least one byte, and its range, if any, is nonempty.
-use Rattle.std.proofs.Common.{◌≡◌, ℕ, ◌+◌, ◌^◌, ◌<◌, ◌≤◌, List, [], length, ap, arith}
-use Rattle.std.specs.Prelude.{Option, Some, None, Result, Ok, All, nat_le, option_to_list}
+use Rattle.std.proofs.Common.{◌≡◌, ℕ, ◌<◌, ◌≤◌, List, length, arith, Option, Some, None, Result, Ok}
+use Rattle.std.proofs.Common.{All, nat_le, option_to_list}
 use Rattle.std.proofs.lemmas.Bool.{leb-false}
-use Rattle.std.proofs.lemmas.List.Elements.{All-nil, All-cons}
+use Rattle.std.proofs.lemmas.List.Elements.{All-nil}
 use Rattle.dwarf_bytes.specs.declared.fault.Cause.{Cause}
 use Rattle.dwarf_bytes.specs.declared.fault.Cause.TheVariants as causes
-use Rattle.dwarf_bytes.specs.declared.tables.TableKind.TheVariants.{Addr}
 use Rattle.dwarf_bytes.specs.Bind.{◌>>=◌}
 use Rattle.dwarf_bytes.specs.Items.{Next, Item, End, Advances, reading, refuse_if}
-use Rattle.dwarf_bytes.specs.Numbers.{u8_at, u64_at, uleb_at}
-use Rattle.dwarf_bytes.proofs.Numbers.Advance.{reading-ok, MovesOn, bind_ok, refuse_if-ok}
-use Rattle.dwarf_bytes.proofs.Numbers.Moves.{same-ok, same-item, uleb-moves, u8-moves}
-use Rattle.dwarf_bytes.proofs.Numbers.Moves.{fixed_at-moves}
+use Rattle.dwarf_bytes.specs.Numbers.{u8_at}
+use Rattle.dwarf_bytes.proofs.Numbers.Advance.{MovesOn, bind_ok, refuse_if-ok}
+use Rattle.dwarf_bytes.proofs.Numbers.Moves.{same-item, uleb-moves, u8-moves, fixed_at-moves}
 use Rattle.dwarf_ranges.specs.declared.range.Range.{Range}
 use Rattle.dwarf_ranges.specs.declared.bases.Bases.{Bases}
 use Rattle.dwarf_ranges.specs.declared.range_entries.Operand.{Operand}
@@ -20,7 +18,6 @@ use Rattle.dwarf_ranges.specs.declared.range_entries.Operands.{Operands}
 use Rattle.dwarf_ranges.specs.declared.range_entries.RangeListEntry.{RangeListEntry}
 use Rattle.dwarf_ranges.specs.declared.range_entries.RangeListEntry.TheVariants.{Base, Covers}
 use Rattle.dwarf_walk.specs.Sections.{Sections}
-use Rattle.dwarf_ranges.specs.Bases.{item_at}
 use Rattle.dwarf_ranges.specs.Ranges.{live_range, ranges_in, base_after, operand_at, range_of}
 use Rattle.dwarf_ranges.specs.Ranges.{operands_of, entry_at, list_entry_of, list_entry_at}
 use Rattle.dwarf_ranges.specs.Ranges.{IsValidRange}
@@ -39,30 +36,19 @@ none-holds = All-nil IsValidRange
 
 pub live-holds : (bounds : ℕ × ℕ) (range : Option Range) → live_range bounds ≡ Ok range
     → MayHold range
-live-holds bounds None h = none-holds
-live-holds bounds (Some range) h =
-    let valid : (range.from < range.to) × (range.to < 2 ^ 64) = grind arith in
-    All-cons IsValidRange range [] valid none-holds
+live-holds bounds range h i d within = grind arith
 
 range_of-holds : (first second : Operand) (base : Option ℕ) (start value : ℕ)
     (range : Option Range) → range_of first second base start value ≡ Ok range → MayHold range
-range_of-holds first second base start value None h = none-holds
-range_of-holds first second base start value (Some range) h =
-    let valid : (range.from < range.to) × (range.to < 2 ^ 64) = grind arith in
-    All-cons IsValidRange range [] valid none-holds
+range_of-holds first second base start value range h i d within = grind arith
 
 -- ---- the entries of a list
 
 operand-moves : (sections : Sections) (bases : Bases) (operand : Operand) (lists : List ℕ) (at : ℕ)
     (x : ℕ × ℕ) → operand_at sections bases operand lists at ≡ Ok x → MovesOn lists at x.1
-operand-moves sections bases Index lists at x h =
-    let index = bind_ok (reading (uleb_at lists at)) _ x h in
-    let address = bind_ok (item_at Addr sections.debug_addr bases.addr index.0.0) _ x index.2 in
-    rw (← same-ok (address.0, index.0.1) x address.2) (uleb-moves lists at index.0 index.1)
+operand-moves sections bases Index lists at x h = grind (arith, uleb-moves lists at)
 operand-moves sections bases Address lists at x h =
-    let moved = fixed_at-moves 8 lists at x (reading-ok (u64_at lists at) x h) in
-    let place : x.1 ≡ at + 8 = ap (λ (r : ℕ × ℕ). r.1) moved.1 in
-    (omega (arith, place), omega (arith, moved.0, place))
+    grind (arith, fixed_at-moves 8 lists at)
 operand-moves sections bases Number lists at x h = uleb-moves lists at x h
 
 abbrev pub EntryHolds : RangeListEntry → Type 0
@@ -76,30 +62,24 @@ entry_at-facts : (sections : Sections) (bases : Bases) (base : Option ℕ) (oper
     → entry_at sections bases base operands lists at ≡ Ok x
     → MovesOn lists at x.1 × EntryHolds x.0
 unfolding entry_at
-entry_at-facts sections bases base operands lists at x h =
-    let first = bind_ok (operand_at sections bases operands.first lists at) _ x h in
-    by_second first.0 (operand-moves sections bases operands.first lists at first.0 first.1)
-    operands.second first.2
+entry_at-facts sections bases base operands lists at x h = by_second operands.second h
   where
-    by_second : (first : ℕ × ℕ) → MovesOn lists at first.1 → (second : Option Operand)
-        → (elim second as (λ _. Result (RangeListEntry × ℕ) Cause) [
+    by_second : (second : Option Operand)
+        → (operand_at sections bases operands.first lists at
+        >>= λ first. elim second as (λ _. Result (RangeListEntry × ℕ) Cause) [
           | None ↦ Ok (Base first.0, first.1)
           | Some operand ↦ (operand_at sections bases operand lists first.1
               >>= λ second. range_of operands.first operand base first.0 second.0
               >>= λ range. Ok (Covers range, second.1))
         ]) ≡ Ok x → MovesOn lists at x.1 × EntryHolds x.0
-    by_second first moved None last =
-        rw (← same-ok (Base first.0, first.1) x last) (moved, (none-holds, omega arith))
-    by_second first moved (Some operand) h =
-        let second = bind_ok (operand_at sections bases operand lists first.1) _ x h in
-        let range = bind_ok (range_of operands.first operand base first.0 second.0.0) _ x second.2
-        in
-        let further = operand-moves sections bases operand lists first.1 second.0 second.1 in
-        rw (← same-ok (Covers range.0, second.0.1) x range.2) (
-          (omega (arith, moved.0, further.0), further.1),
-          covers-holds range.0 (range_of-holds operands.first operand base first.0 second.0.0
-              range.0 range.1),
-        )
+    by_second second h = (
+      grind (
+        arith,
+        operand-moves sections bases operands.first lists at,
+        λ (o : Operand) (k : ℕ). operand-moves sections bases o lists k,
+      ),
+      ((λ i d within. grind (arith, range_of-holds operands.first)), grind arith),
+    )
 
 pub list_entry-facts : (budget : ℕ) (sections : Sections) (bases : Bases) (count : ℕ)
     (base : Option ℕ) (lists : List ℕ) (at : ℕ) (x : RangeListEntry) (after : ℕ)
@@ -123,11 +103,8 @@ list_entry-facts budget sections bases count base lists at x after h =
         let entry = bind_ok (entry_at sections bases base operands lists code.1) _ (Item x after)
         few.1 in
         let facts = entry_at-facts sections bases base operands lists code.1 entry.0 entry.1 in
-        let same = same-item entry.0.0 x entry.0.1 after entry.2 in (
-          (omega (arith, moved.0, facts.0.0, same.1), omega (arith, facts.0.1, same.1)),
-          rw (← same.0) facts.1,
-          leb-false budget count few.0,
-        )
+        let same = same-item entry.0.0 x entry.0.1 after entry.2 in
+        (omega arith, rw (← same.0) facts.1, leb-false budget count few.0)
 
 pub list_entry_at-advances : (budget : ℕ) (sections : Sections) (bases : Bases) (lists : List ℕ)
     → Advances (length lists) (list_entry_at budget sections bases lists)

@@ -1,7 +1,7 @@
 -- The ranges of an entry are nonempty, and the number of items that they are read from is within
 -- the budget.
 use Rattle.std.proofs.Common.{◌≡◌, ℕ, ◌+◌, ◌≤◌, List, [], ◌∷◌, ◌++◌, length, arith, length-append}
-use Rattle.std.specs.Prelude.{Option, Some, None, Result, Ok, ◌==◌, option_to_list, flat_map, ◌≢◌}
+use Rattle.std.proofs.Common.{Option, Some, None, Result, Ok, ◌==◌, option_to_list, flat_map}
 use Rattle.std.proofs.lemmas.List.Elements.{All-append}
 use Rattle.dwarf_bytes.specs.declared.constants.TheConstants.{DW_AT_HIGH_PC, DW_AT_LOW_PC}
 use Rattle.dwarf_bytes.specs.declared.constants.TheConstants.{DW_AT_RANGES}
@@ -74,20 +74,18 @@ pair-fits budget sections bases low high covering h =
     let range = bind_ok (pair_range sections bases low high) _ covering some.1 in
     let start = bind_ok (address_of sections bases.addr low) _ range.0 range.1 in
     let end = bind_ok (high_of sections bases start.0 high) _ range.0 start.2 in
-    let few : budget ≢ 0 = grind (arith, some.0) in
-    let one : (found : Option Range) → length (option_to_list found) ≤ 1 = λ found. grind arith in
     let same = same-ok (record { ranges = option_to_list range.0; items = 1 }) covering range.2 in
-    rw (← same) (record {
-      hold = live-holds (start.0, end.0) range.0 end.2;
-      counted = one range.0;
-      within = omega (arith, few);
-    })
+    record {
+      hold = rw (← same) (live-holds (start.0, end.0) range.0 end.2);
+      counted = grind arith;
+      within = grind arith;
+    }
 
 none-fits : (budget : ℕ) (covering : Covering)
     → (let f : Covering → Result Covering Cause = λ z. Ok z in f (record { ranges = []; items = 0 })
     ≡ f covering) → Fits budget covering
-none-fits budget covering h = rw (← same-ok (record { ranges = []; items = 0 }) covering h)
-    (record { hold = none-holds; counted = omega arith; within = omega arith })
+none-fits budget covering h =
+    record { hold = λ i d within. grind arith; counted = grind arith; within = grind arith }
 
 by-fits : (budget : ℕ) (sections : Sections) (bases : Bases)
     (low high ranges : Option AttributeValue)

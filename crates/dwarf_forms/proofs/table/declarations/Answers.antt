@@ -6,7 +6,8 @@ pub loop-table-smaller : goal.loop-table-smaller
 loop-table-smaller c =
     let turn = turn-item c.loop-table.invariant c.extend.new.self c.extend.new.cursor
     c.in-Ok-true.field-0 c.in-Ok-true.ensures c.in-Ok-true.field-0-test in
-    rw (turn.0.read.bytes_are, c.loop-table.invariant.read.bytes_are) (omega (arith, turn.1, turn.2))
+    rw (turn.0.read.bytes_are, c.loop-table.invariant.read.bytes_are)
+    (omega (arith, turn.1, turn.2))
 
 pub loop-table-preserved : goal.loop-table-preserved
 loop-table-preserved c = (turn-item c.loop-table.invariant c.extend.new.self c.extend.new.cursor

@@ -8,5 +8,6 @@ returns c = rw (
   c.position.ensures,
   c.self.invariant,
   c.self.view_is,
-  position-map (λ (d : SharedDeclaration). d.code) (λ (other : ℕ). other == c.args.code) c.args.self.now,
+  position-map (λ (d : SharedDeclaration). d.code) (λ (other : ℕ). other == c.args.code)
+      c.args.self.now,
 ) refl

@@ -11,4 +11,5 @@ returns-then-is_err-clause-decodes c =
       c.seek.ensures.within,
       c.new-cursor.ensures,
     ) in
-    inr (rw (outside c.args.left.now c.args.section.now c.args.offset within, c.at_item.ensures) refl)
+    inr (rw (outside c.args.left.now c.args.section.now c.args.offset within, c.at_item.ensures)
+    refl)
