@@ -1,9 +1,10 @@
 -- Attributes, and the attributes of a declaration, are read if and only if they are encoded and
 -- valid.
 use Rattle.std.proofs.Common.{◌≡◌, ◌≢◌, ℕ, ℤ, List, [], ◌++◌, length, refl, arith, eq-eqb, false}
-use Rattle.std.proofs.Common.{Option, Some, None, Ok, ◌==◌, All, AllPairs}
+use Rattle.std.proofs.Common.{Option, Some, None, Ok, ◌==◌, All, AllPairs, Bool, ◌∷◌, ap, ◌≤◌}
+use Rattle.std.proofs.Common.{if◌then◌else◌}
 use Rattle.dwarf_bytes.specs.declared.constants.TheConstants.{DW_FORM_IMPLICIT_CONST}
-use Rattle.dwarf_bytes.specs.Numbers.{IsEncodedAt, IsUleb, uleb_at, sleb_at}
+use Rattle.dwarf_bytes.specs.Numbers.{IsEncodedAt, IsUleb, uleb_at, sleb_at, u8_at, little_endian}
 use Rattle.dwarf_bytes.specs.Items.{Item, End, reading}
 use Rattle.dwarf_bytes.proofs.Items.ItemLaws.{items_from-Lists}
 use Rattle.dwarf_bytes.proofs.Numbers.Advance.{reading-ok}
@@ -17,8 +18,10 @@ use Rattle.dwarf_forms.proofs.ListEncodings.{Ends, IsDecoded, AreEncoded, IsNew,
 use Rattle.dwarf_forms.proofs.ListEncodings.{valid-list, read-list, all-new, new-each}
 use Rattle.dwarf_forms.proofs.Moves.{IsUsable, name_of, FieldsAt, EndAt, found, found-again}
 use Rattle.dwarf_forms.proofs.Moves.{attribute_at-advances, attributes_at-lists, attributes-ok}
+use Rattle.dwarf_bytes.proofs.Contents.ContentEncodings.{front-within}
+use Rattle.dwarf_bytes.proofs.Numbers.AtOffsets.{fixed-encoded, fixed-again}
 
--- ---- numbers and constants
+-- ---- numbers, constants and flags
 
 pub uleb-read : {section : List ℕ} {at value next : ℕ} → reading (uleb_at section at)
     ≡ Ok (value, next) → IsEncodedAt IsUleb section at value next
@@ -53,6 +56,36 @@ constant-reads form section at (Some c) next s =
       eq-eqb form DW_FORM_IMPLICIT_CONST s.encoded.0,
       sleb-again section at c next (again s (λ front is. is.1)),
     ) refl
+
+-- the byte that says whether there are children
+abbrev pub EncodesFlag : List ℕ → Bool → Type 0
+EncodesFlag bytes flag = bytes ≡ (if flag then 1 else 0) ∷ []
+
+one_byte : (block : List ℕ) (value : ℕ) → length block ≡ 1 → value ≡ little_endian block
+    → block ≡ value ∷ []
+one_byte [] value len is = absurd (omega (arith, len))
+one_byte (b ∷ []) value len is = let same : b ≡ value = omega (arith, is) in
+    ap (λ (k : ℕ). k ∷ []) same
+one_byte (b ∷ c ∷ bs) value len is = absurd (omega (arith, len))
+
+pub flag-encoded : (section : List ℕ) (at : ℕ) (flag : Bool) (next : ℕ) → reading (u8_at section at)
+    ≡ Ok (if flag then 1 else 0, next) → IsEncodedAt EncodesFlag section at flag next
+flag-encoded section at flag next h =
+    let byte : ℕ = if flag then 1 else 0 in
+    again (fixed-encoded 1 section at byte next (reading-ok (u8_at section at) (byte, next) h))
+    (λ front is. one_byte front byte is.0 is.1)
+
+pub flag-reads : (section : List ℕ) (at : ℕ) (flag : Bool) (next : ℕ)
+    → IsEncodedAt EncodesFlag section at flag next
+    → reading (u8_at section at) ≡ Ok (if flag then 1 else 0, next)
+flag-reads section at flag next s =
+    let within : at ≤ length section = front-within section at s.front s.rest s.parts
+    (omega (arith, ap length s.encoded)) in
+    rw (fixed-again 1 section at (if flag then 1 else 0) next within (again s (λ front is.
+    rw is (refl, byte flag)))) refl
+  where
+    byte : (b : Bool) → (if b then 1 else 0) ≡ little_endian ((if b then 1 else 0) ∷ [])
+    byte b = grind arith
 
 -- ---- attributes
 

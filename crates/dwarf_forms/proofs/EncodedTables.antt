@@ -11,15 +11,15 @@ use Rattle.dwarf_forms.specs.Declarations.{EndsAttributes, EncodesDeclaration, E
 use Rattle.dwarf_forms.specs.Declarations.{IsValid, AreValid}
 use Rattle.dwarf_forms.specs.Tables.{attributes_at, codes_of, head_at, declaration_at, table_at}
 use Rattle.dwarf_forms.proofs.AttributeEncodings.{uleb-read, uleb-reads, attributes-encoded}
-use Rattle.dwarf_forms.proofs.AttributeEncodings.{attributes-read}
-use Rattle.dwarf_forms.proofs.CodeMaps.{any-map}
+use Rattle.dwarf_forms.proofs.AttributeEncodings.{attributes-read, EncodesFlag, flag-encoded}
+use Rattle.dwarf_forms.proofs.AttributeEncodings.{flag-reads}
+use Rattle.dwarf_forms.proofs.Elements.{any-map}
 use Rattle.dwarf_forms.proofs.Encodings.{Both, both, again, joined, parted}
 use Rattle.dwarf_forms.proofs.ListEncodings.{Ends, AreEncoded, IsDecoded, IsNew, FitsBudget}
 use Rattle.dwarf_forms.proofs.ListEncodings.{encoded-list, valid-list, read-list, all-new, new-each}
 use Rattle.dwarf_forms.proofs.ListEncodings.{all-fit, each-fits}
-use Rattle.dwarf_forms.proofs.Moves.{declaration_at-advances}
-use Rattle.dwarf_forms.proofs.HeadReads.{EncodesFlag, HeadAt, flag-encoded, flag-reads, head-fits}
-use Rattle.dwarf_forms.proofs.HeadReads.{head-found, head-again}
+use Rattle.dwarf_forms.proofs.Moves.{declaration_at-advances, HeadAt, head-fits, head-found}
+use Rattle.dwarf_forms.proofs.Moves.{head-again}
 
 -- ---- declarations
 

@@ -1,6 +1,5 @@
 pub mod Codes
 pub mod CodeLaws
-pub mod CodeMaps
 pub mod Loops
 pub mod Moves
 pub mod TableTurns
@@ -9,6 +8,5 @@ pub mod ListEncodings
 pub mod AttributeEncodings
 pub mod SuffixLists
 pub mod Elements
-pub mod HeadReads
 pub mod EncodedTables
 pub mod ValueEncodings

@@ -37,55 +37,49 @@ abbrev pub ValidEach : {X : Type 0} → (List X → X → Type 0) → List X →
 ValidEach good before xs = (i : ℕ) (d : _) → i < length xs
     → good (before ++ take i xs) (get_or xs i d)
 
--- items that are listed are encoded and valid
-pub encoded-list : {X : Type 0} {encodes : List ℕ → X → Type 0} {ends : List ℕ → Type 0}
+module _ {X : Type 0} {encodes : List ℕ → X → Type 0} {ends : List ℕ → Type 0}
     {good : List X → X → Type 0} {bytes : List ℕ} {step : List X → ℕ → Result (Next X) Cause}
-    → IsDecoded encodes ends good bytes step
-    → (before : List X) (at : ℕ) (xs : List X) (next : ℕ) → Lists step before at xs next
-    → AreEncoded encodes ends bytes at xs next
-encoded-list {bytes = bytes} decoded before at [] next h =
-    (at, nothing bytes at refl, (decoded.end before at next).0 h)
-encoded-list decoded before at (x ∷ xs) next h =
-    let here = (decoded.item before at x h.0).0 h.1 in
-    let others = encoded-list decoded (before ++ x ∷ []) h.0 xs next h.2 in (
-      others.0,
-      again (joined here.0 others.1) (λ front both. (
-        both.front,
-        both.rest,
-        both.whole,
-        both.front_is,
-        both.rest_is,
-      )),
-      others.2,
-    )
+    (decoded : IsDecoded encodes ends good bytes step) where
+  -- items that are listed are encoded and valid
+  pub encoded-list : (before : List X) (at : ℕ) (xs : List X) (next : ℕ)
+      → Lists step before at xs next → AreEncoded encodes ends bytes at xs next
+  encoded-list before at [] next h =
+      (at, nothing bytes at refl, (decoded.end before at next).0 h)
+  encoded-list before at (x ∷ xs) next h =
+      let here = (decoded.item before at x h.0).0 h.1 in
+      let others = encoded-list (before ++ x ∷ []) h.0 xs next h.2 in (
+        others.0,
+        again (joined here.0 others.1) (λ front both. (
+          both.front,
+          both.rest,
+          both.whole,
+          both.front_is,
+          both.rest_is,
+        )),
+        others.2,
+      )
 
-pub valid-list : {X : Type 0} {encodes : List ℕ → X → Type 0} {ends : List ℕ → Type 0}
-    {good : List X → X → Type 0} {bytes : List ℕ} {step : List X → ℕ → Result (Next X) Cause}
-    → IsDecoded encodes ends good bytes step
-    → (before : List X) (at : ℕ) (xs : List X) (next : ℕ) → Lists step before at xs next
-    → ValidEach good before xs
-valid-list {good = good} {step = step} decoded before at xs next h =
-    Lists-each good step (λ b k x after is. ((decoded.item b k x after).0 is).1) before at xs next h
+  pub valid-list : (before : List X) (at : ℕ) (xs : List X) (next : ℕ)
+      → Lists step before at xs next → ValidEach good before xs
+  valid-list = Lists-each good step (λ b k x after is. ((decoded.item b k x after).0 is).1)
 
--- items that are encoded and valid are listed
-pub read-list : {X : Type 0} {encodes : List ℕ → X → Type 0} {ends : List ℕ → Type 0}
-    {good : List X → X → Type 0} {bytes : List ℕ} {step : List X → ℕ → Result (Next X) Cause}
-    → IsDecoded encodes ends good bytes step
-    → (before : List X) (at : ℕ) (xs : List X) (next : ℕ) → AreEncoded encodes ends bytes at xs next
-    → ValidEach good before xs → Lists step before at xs next
-read-list {ends = ends} {bytes = bytes} decoded before at [] next s valid =
-    let same : at ≡ s.0 = omega (arith, s.1.next_is, ap length s.1.encoded) in
-    (decoded.end before at next).1 (rw same s.2)
-read-list {X = X} {encodes = encodes} {good = good} decoded before at (x ∷ xs) next s valid =
-    let parts = parted {A = encodes} {B = EncodesEach encodes} {p = (x, xs)}
-    (again s.1 (λ front e. rw e.2 (both e.0 e.1 e.3 e.4))) in
-    let first : good before x = rw append-nil at (valid 0 x (omega arith)) in (
-      parts.0,
-      (decoded.item before at x parts.0).1 (parts.1, first),
-      read-list decoded (before ++ x ∷ []) parts.0 xs next (s.0, parts.2, s.2)
-          (λ i d within. rw (append_assoc before (x ∷ []) (take i xs))
-          (valid (suc i) d (omega arith))),
-    )
+  -- items that are encoded and valid are listed
+  pub read-list : (before : List X) (at : ℕ) (xs : List X) (next : ℕ)
+      → AreEncoded encodes ends bytes at xs next → ValidEach good before xs
+      → Lists step before at xs next
+  read-list before at [] next s valid =
+      let same : at ≡ s.0 = omega (arith, s.1.next_is, ap length s.1.encoded) in
+      (decoded.end before at next).1 (rw same s.2)
+  read-list before at (x ∷ xs) next s valid =
+      let parts = parted {A = encodes} {B = EncodesEach encodes} {p = (x, xs)}
+      (again s.1 (λ front e. rw e.2 (both e.0 e.1 e.3 e.4))) in
+      let first : good before x = rw append-nil at (valid 0 x (omega arith)) in (
+        parts.0,
+        (decoded.item before at x parts.0).1 (parts.1, first),
+        read-list (before ++ x ∷ []) parts.0 xs next (s.0, parts.2, s.2)
+            (λ i d within. rw (append_assoc before (x ∷ []) (take i xs))
+            (valid (suc i) d (omega arith))),
+      )
 
 -- ---- validity after the elements before, as a property of the whole list
 

@@ -1,9 +1,10 @@
 -- The reads of the parts of a declaration, and the number of bytes that each of them consumes.
 use Rattle.std.proofs.Common.{◌≡◌, ◌≢◌, ℕ, suc, ◌-◌, ◌≤◌, ℤ, List, [], length, false, true, arith}
-use Rattle.std.proofs.Common.{refl, Option, IsSome, is_none, Result, Ok, Err, ◌==◌, ◌&&◌, ◌||◌}
+use Rattle.std.proofs.Common.{refl, Option, IsSome, is_none, Result, Ok, Err, ◌==◌, ◌&&◌, ◌||◌, ◌<◌}
+use Rattle.std.proofs.Common.{if◌then◌else◌}
 use Rattle.std.specs.List.{list_any}
 use Rattle.dwarf_bytes.specs.declared.fault.Cause.TheVariants as causes
-use Rattle.dwarf_bytes.specs.Numbers.{uleb_at}
+use Rattle.dwarf_bytes.specs.Numbers.{uleb_at, u8_at}
 use Rattle.dwarf_bytes.specs.Forms.{form_of}
 use Rattle.dwarf_bytes.specs.Items.{At, Next, Item, End, Advances, Lists, reading, without_offset}
 use Rattle.dwarf_bytes.specs.Items.{items_from}
@@ -115,6 +116,37 @@ attribute_at-ends section before at after h =
     let name = uleb-moves section at (0, f.mid) f.name in
     let form = uleb-moves section f.mid (0, after) f.form in
     (omega arith, form.1)
+
+-- ---- the head of a declaration
+
+-- the conditions on a head that depend on the declarations before it
+pub record HeadFits (budget : ℕ) (codes : List ℕ) (code : ℕ) : Type 0 where
+  pub some : code ≢ 0
+  pub left : length codes < budget
+  pub new : list_any (λ other. other == code) codes ≡ false
+
+-- the fields of a head are read one after the other
+abbrev pub HeadAt : List ℕ → ℕ → Head → ℕ → Type 0
+HeadAt section at head next = (mid : ℕ) × (last : ℕ)
+    × (reading (uleb_at section at) ≡ Ok (head.code, mid))
+    × (reading (uleb_at section mid) ≡ Ok (head.tag, last))
+    × (reading (u8_at section last) ≡ Ok (if head.children then 1 else 0, next))
+
+pub head-fits : (budget : ℕ) (section : List ℕ) (codes : List ℕ) (at : ℕ) (head : Head) (next : ℕ)
+    → head_at budget section codes at ≡ Ok (Item head next) → HeadFits budget codes head.code
+head-fits budget section codes at head next h =
+    record { some = grind arith; left = grind arith; new = grind arith }
+
+pub head-found : (budget : ℕ) (section : List ℕ) (codes : List ℕ) (at : ℕ) (head : Head) (next : ℕ)
+    → head_at budget section codes at ≡ Ok (Item head next) → HeadAt section at head next
+head-found budget section codes at head next h = grind arith
+
+pub head-again : (budget : ℕ) (section : List ℕ) (codes : List ℕ) (at : ℕ) (head : Head) (next : ℕ)
+    → HeadFits budget codes head.code → HeadAt section at head next
+    → head_at budget section codes at ≡ Ok (Item head next)
+head-again budget section codes at head next fits s = grind arith
+
+-- ---- the attributes of a declaration
 
 untold-ok : {X : Type 0} (r : Result X At) (x : X) → without_offset r ≡ Ok x → r ≡ Ok x
 untold-ok r x h = grind arith

@@ -81,7 +81,8 @@ Value_read f form format constant bytes at = elim f [
 ]
 
 pub value-encoded : (f : Option Shape) (form : ℕ) (format : Format) (constant : Option ℤ)
-    (bytes : List ℕ) (at : ℕ) (value : Value) (next : ℕ) → Value_read f form format constant bytes at
+    (bytes : List ℕ) (at : ℕ) (value : Value) (next : ℕ)
+    → Value_read f form format constant bytes at
     ≡ Ok (value, next) → IsEncodedAt (Spells_by f form format constant) bytes at value next
 value-encoded None form format constant bytes at value next h = cc
 value-encoded (Some (Direct layout)) form format constant bytes at value next h =

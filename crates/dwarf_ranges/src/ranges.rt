@@ -2,8 +2,7 @@
 
 ghost use Rattle.std.specs.Prelude.{◌≡◌, ◌≤◌, ◌++◌, IfOk, length};
 ghost use Rattle.dwarf_ranges.specs.Ranges.{list_place, list_at, list_of, high_of, pair_range};
-ghost use Rattle.dwarf_ranges.specs.Ranges.{pair_at, covers_by, next_base, ranges_in};
-ghost use Rattle.dwarf_ranges.specs.Ranges.{AddsRanges};
+ghost use Rattle.dwarf_ranges.specs.Ranges.{pair_at, covers_by, next_base, ranges_in, AddsRanges};
 ghost use Rattle.dwarf_walk.specs.Sections.{sections_of};
 
 use crate::bases::{Bases, address_of, item_at};

@@ -1,5 +1,5 @@
 use Rattle.std.proofs.Common.{ℕ, refl, ◌==◌}
-use Rattle.dwarf_forms.proofs.CodeMaps.{position-map}
+use Rattle.dwarf_forms.proofs.Elements.{position-map}
 use Rattle.abbreviation_memo.specs.Declarations.{SharedDeclaration}
 use Rattle.abbreviation_memo.proofs.abbreviation_table.AbbreviationTable.position.Goals as goal
 

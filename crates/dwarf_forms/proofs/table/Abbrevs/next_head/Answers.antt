@@ -1,4 +1,4 @@
-use Rattle.dwarf_forms.proofs.CodeMaps.{any-map}
+use Rattle.dwarf_forms.proofs.Elements.{any-map}
 use Rattle.dwarf_forms.proofs.table.Abbrevs.next_head.Goals as goal
 
 pub returns-clause-fresh : goal.returns-clause-fresh

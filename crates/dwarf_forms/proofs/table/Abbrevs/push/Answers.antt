@@ -1,4 +1,4 @@
-use Rattle.dwarf_forms.proofs.CodeMaps.{any-map}
+use Rattle.dwarf_forms.proofs.Elements.{any-map}
 use Rattle.dwarf_forms.proofs.table.Abbrevs.push.Goals as goal
 
 pub push-requires-2 : goal.push-requires-2
