@@ -10,14 +10,12 @@ use Rattle.dwarf_bytes.specs.Position.{Position}
 use Rattle.dwarf_bytes.specs.Refusals.{ReadsNext}
 use Rattle.dwarf_bytes.proofs.Items.ItemLaws.{first_step, put_front, items_from-step}
 use Rattle.dwarf_bytes.proofs.Items.ItemLaws.{items_from-Lists}
-use Rattle.dwarf_bytes.proofs.Items.Turns.{SoFar}
 use Rattle.dwarf_bytes.proofs.Numbers.Moves.{same-item}
 use Rattle.dwarf_forms.specs.declared.attribute.AttributeSpecification.{AttributeSpecification}
-use Rattle.dwarf_forms.specs.Tables.{attribute_at, attributes_at, shares_name}
+use Rattle.dwarf_forms.specs.Tables.{attribute_at, attributes_at}
 use Rattle.dwarf_forms.proofs.Moves.{attribute_at-advances, attribute_at-ends, attributes_at-lists}
-use Rattle.dwarf_forms.proofs.Moves.{attributes_at-moves, attributes-ok}
-use Rattle.dwarf_forms.proofs.SuffixLists.{attribute-again, attribute-new, end-again, named}
-use Rattle.dwarf_forms.proofs.SuffixLists.{append-ok, so-far-append}
+use Rattle.dwarf_forms.proofs.Moves.{attributes_at-moves, attributes-ok, found}
+use Rattle.dwarf_forms.proofs.SuffixLists.{attribute-again, end-again, named, attributes_append}
 use Rattle.abbreviation_memo.specs.Lists.{IsListAt, first_of, list_at, list_from, listed}
 
 pub list-read : (section : List ℕ) (at : ℕ) (xs : List AttributeSpecification) (after : ℕ)
@@ -32,16 +30,6 @@ unfolding attributes_at
 attributes-step section at = ap without_offset (items_from-step (length section)
     (attribute_at section) (attribute_at-advances section) [] at)
 
--- a list without the names of the attributes before it continues them
-pub list-continues : (section : List ℕ) (first : ℕ) (own : List AttributeSpecification) (at : ℕ)
-    (rest : List AttributeSpecification) (after : ℕ)
-    → SoFar (length section) (attribute_at section) first own at
-    → attributes_at section at ≡ Ok (rest, after) → shares_name own rest ≡ false
-    → attributes_at section first ≡ Ok (own ++ rest, after)
-list-continues section first own at rest after so_far read apart =
-    so-far-append section first own at rest after so_far
-    (append-ok section own at rest after read apart)
-
 pub attribute-before : (section : List ℕ) (place at after : ℕ) (x : AttributeSpecification)
     (rest : List AttributeSpecification) → attribute_at section [] place ≡ Ok (Item x at)
     → attributes_at section at ≡ Ok (rest, after)
@@ -49,8 +37,8 @@ pub attribute-before : (section : List ℕ) (place at after : ℕ) (x : Attribut
     → attributes_at section place ≡ Ok (x ∷ rest, after)
 attribute-before section place at after x rest first read new =
     rw (attributes-step section place, first) (put (items_from (length section)
-    (attribute_at section) (x ∷ []) at) (append-ok section (x ∷ []) at rest after read
-    (rw new refl)))
+    (attribute_at section) (x ∷ []) at) (rw new at
+    (attributes_append section (x ∷ []) at rest after read)))
   where
     put : (r : Result (List AttributeSpecification × ℕ) At) → without_offset r ≡ Ok (rest, after)
         → without_offset (put_front x r) ≡ Ok (x ∷ rest, after)
@@ -73,7 +61,7 @@ lists-alone section own before at (x ∷ xs) next listed =
     let new : list_any (named x.name) before ≡ false = grind (
       arith,
       list_any-append (named x.name) own before,
-      attribute-new section (own ++ before) at x listed.0 listed.1,
+      (found section (own ++ before) at (Item x listed.0) listed.1).1.1,
     ) in (
       listed.0,
       attribute-again section (own ++ before) before at x listed.0 listed.1 new,

@@ -14,7 +14,7 @@ use Rattle.dwarf_bytes.proofs.Numbers.Advance.{after-bind, after-test, chosen, M
 use Rattle.dwarf_bytes.proofs.Numbers.Moves.{same-ok, uleb-moves, sleb-moves, u8-moves}
 use Rattle.dwarf_forms.specs.declared.attribute.AttributeSpecification.{AttributeSpecification}
 use Rattle.dwarf_forms.specs.declared.declaration.Head.{Head}
-use Rattle.dwarf_forms.specs.Tables.{constant_at, attribute_at, attributes_at, codes_of, head_at}
+use Rattle.dwarf_forms.specs.Tables.{constant_at, attribute_at, attributes_at, head_at}
 use Rattle.dwarf_forms.specs.Tables.{declaration_at}
 use Rattle.dwarf_forms.proofs.ListEncodings.{IsNew}
 
@@ -164,16 +164,10 @@ attributes_at-moves section at read h =
     Lists-moves (length section) (attribute_at section) (attribute_at-advances section)
     (attribute_at-ends section) [] at read.0 read.1 (attributes_at-lists section at read h)
 
-pub head_at-moves : (budget : ℕ) (section : List ℕ) (codes : List ℕ) (at : ℕ)
-    (head : Head)
-    (after : ℕ) → head_at budget section codes at ≡ Ok (Item head after) → MovesOn section at after
-head_at-moves budget section codes at head after h =
-    grind (arith, uleb-moves section, u8-moves section)
-
 pub declaration_at-advances : (budget : ℕ) (section : List ℕ)
     → Advances (length section) (declaration_at budget section)
 declaration_at-advances budget section before at x after h =
-    grind (arith, head_at-moves budget section (codes_of before) at, attributes_at-moves section)
+    grind (arith, uleb-moves section, u8-moves section, attributes_at-moves section)
 
 -- the attributes that are read, from the list that is read
 pub attributes-ok : (section : List ℕ) (at : ℕ) (read : List AttributeSpecification × ℕ)
@@ -181,9 +175,3 @@ pub attributes-ok : (section : List ℕ) (at : ℕ) (read : List AttributeSpecif
     → attributes_at section at ≡ Ok read
 unfolding attributes_at
 attributes-ok section at read h = rw h refl
-
-pub attributes-err : (section : List ℕ) (at : ℕ) (e : At)
-    → items_from (length section) (attribute_at section) [] at ≡ Err e
-    → attributes_at section at ≡ Err e.0
-unfolding attributes_at
-attributes-err section at e h = rw h refl

@@ -24,21 +24,12 @@ attribute-again section before other at x next read new =
     let f = found section before at (Item x next) read in
     found-again section other at (Item x next) (f.0, (f.1.0, new))
 
--- .. and no attribute before it has its name
-pub attribute-new : (section : List ℕ) (before : List AttributeSpecification) (at : ℕ)
-    (x : AttributeSpecification) (next : ℕ) → attribute_at section before at ≡ Ok (Item x next)
-    → list_any (named x.name) before ≡ false
-attribute-new section before at x next read = (found section before at (Item x next) read).1.1
-
 pub end-again : (section : List ℕ) (before other : List AttributeSpecification) (at next : ℕ)
     → attribute_at section before at ≡ Ok (End next) → attribute_at section other at ≡ Ok (End next)
 end-again section before other at next read =
     found-again section other at (End next) (found section before at (End next) read)
 
 -- ---- names that two lists share, by the attributes of the second list
-
-pub either : (a b : Bool) → (a || b) ≡ false → (a ≡ false) × (b ≡ false)
-either a b h = grind arith
 
 pub shares-cons : (own rest : List AttributeSpecification) (x : AttributeSpecification)
     → shares_name own (x ∷ rest) ≡ (list_any (named x.name) own || shares_name own rest)
@@ -109,19 +100,12 @@ attributes_append section own at rest next read =
     rw append-nil at (lists-again section own [] at rest next
     (attributes_at-lists section at (rest, next) read))
 
-pub append-ok : (section : List ℕ) (own : List AttributeSpecification) (at : ℕ)
-    (rest : List AttributeSpecification) (next : ℕ) → attributes_at section at ≡ Ok (rest, next)
-    → shares_name own rest ≡ false
-    → without_offset (items_from (length section) (attribute_at section) own at) ≡ Ok (rest, next)
-append-ok section own at rest next read apart =
-    attributes_append section own at rest next read ∙ rw apart refl
-
--- ---- the list from its first offset on, if its rest after the attributes read so far is memoized
-
-pub so-far-append : (section : List ℕ) (first : ℕ) (own : List AttributeSpecification) (at : ℕ)
-    (rest : List AttributeSpecification) (next : ℕ)
+-- a list without the names of the attributes before it continues them
+pub list-continues : (section : List ℕ) (first : ℕ) (own : List AttributeSpecification) (at : ℕ)
+    (rest : List AttributeSpecification) (after : ℕ)
     → SoFar (length section) (attribute_at section) first own at
-    → without_offset (items_from (length section) (attribute_at section) own at) ≡ Ok (rest, next)
-    → attributes_at section first ≡ Ok (own ++ rest, next)
-so-far-append section first own at rest next so_far both-parts =
-    attributes-ok section first (own ++ rest, next) (grind (arith, so_far, both-parts))
+    → attributes_at section at ≡ Ok (rest, after) → shares_name own rest ≡ false
+    → attributes_at section first ≡ Ok (own ++ rest, after)
+list-continues section first own at rest after so_far read apart =
+    let whole = rw apart at (attributes_append section own at rest after read) in
+    attributes-ok section first (own ++ rest, after) (grind (arith, so_far, whole))

@@ -18,18 +18,14 @@ use Rattle.dwarf_forms.specs.Values.{Value, SpellsDirectly, SpellsIndirectly, re
 use Rattle.dwarf_forms.specs.Values.{direct_at}
 use Rattle.dwarf_forms.proofs.Encodings.{both, nothing, again, joined, parted}
 
-abbrev Direct_read : Option Shape → ℕ → Format → List ℕ → ℕ → Result (Value × ℕ) ValueFault
-Direct_read f form format bytes at = elim f [
-  | None ↦ Err Form
-  | Some (Direct layout) ↦ reading_value (content_at layout format bytes at)
-      >>= λ read. Ok (record { form = form; content = read.0 }, read.1)
-  | Some ImplicitConst ↦ Err Form
-  | Some Indirect ↦ Err Form
-]
-
 direct-parts : (f : Option Shape) (form : ℕ) (format : Format) (bytes : List ℕ) (at : ℕ)
-    (value : Value) (next : ℕ) → Direct_read f form format bytes at ≡ Ok (value, next)
-    → (layout : ValueLayout) × (f ≡ Some (Direct layout))
+    (value : Value) (next : ℕ) → (elim f as (λ _. Result (Value × ℕ) ValueFault) [
+      | None ↦ Err Form
+      | Some (Direct layout) ↦ reading_value (content_at layout format bytes at)
+          >>= λ read. Ok (record { form = form; content = read.0 }, read.1)
+      | Some ImplicitConst ↦ Err Form
+      | Some Indirect ↦ Err Form
+    ]) ≡ Ok (value, next) → (layout : ValueLayout) × (f ≡ Some (Direct layout))
     × (content_at layout format bytes at ≡ Ok (value.content, next)) × (value.form ≡ form)
 direct-parts f form format bytes at value next h = grind arith
 

@@ -3,8 +3,7 @@ use Rattle.std.specs.List.{list_any}
 use Rattle.dwarf_bytes.proofs.Items.Turns.{None-from-no-Some}
 use Rattle.dwarf_forms.proofs.Loops.{one-more, all-read}
 use Rattle.dwarf_forms.proofs.Moves.{attribute_at-advances, attributes-ok}
-use Rattle.dwarf_forms.proofs.SuffixLists.{attribute-again, end-again, named}
-use Rattle.abbreviation_memo.proofs.ListLaws.{list-continues}
+use Rattle.dwarf_forms.proofs.SuffixLists.{attribute-again, end-again, named, list-continues}
 use Rattle.abbreviation_memo.proofs.shared.first_attributes.Goals as goal
 
 pub returns-in_default-clause-starts : goal.returns-in_default-clause-starts

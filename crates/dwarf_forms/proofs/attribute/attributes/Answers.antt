@@ -1,20 +1,22 @@
 use Rattle.std.proofs.Common.{arith, inr, length, ap, ◌∙◌, [], ◌∷◌}
 use Rattle.std.proofs.lemmas.Result.{err_from_is_err_and}
 use Rattle.dwarf_bytes.proofs.Items.Turns.{None-from-no-Some}
+use Rattle.dwarf_bytes.specs.Items.{without_offset}
+use Rattle.dwarf_forms.specs.Tables.{attributes_at}
 use Rattle.dwarf_forms.proofs.Loops.{one-more, all-read, first-fault}
-use Rattle.dwarf_forms.proofs.Moves.{attribute_at-advances, attributes-ok, attributes-err}
+use Rattle.dwarf_forms.proofs.Moves.{attribute_at-advances, attributes-ok}
 use Rattle.std.proofs.lemmas.Grind.{common_steps}
 use Rattle.std.proofs.lemmas.List.Folds.{list_any-append}
 use Rattle.dwarf_forms.proofs.SuffixLists.{named}
 use Rattle.dwarf_forms.proofs.attribute.attributes.Goals as goal
 
 pub returns-in_err-next : goal.returns-in_err-next
+unfolding attributes_at
 returns-in_err-next c =
-    let bytes = c.args.cursor.now.bytes in
     let inv = c.loop-names.invariant in
     let p = err_from_is_err_and c.from_residual.result c.from_residual.ensures.1 in
-    rw (p.1, p.2) (inr (attributes-err bytes c.args.cursor.now.place _
-    (first-fault (attribute_at-advances bytes) inv.read c.in_err-next.field-0.0
+    rw (p.1, p.2) (inr (ap without_offset
+    (first-fault (attribute_at-advances c.args.cursor.now.bytes) inv.read c.in_err-next.field-0.0
     (c.in_err-next.ensures c.loop-names.all.items inv.names))))
 
 pub loop-names-smaller : goal.loop-names-smaller
