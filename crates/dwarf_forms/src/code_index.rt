@@ -2,6 +2,8 @@
 
 ghost use Rattle.std.specs.Prelude.{◌≡◌, ◌==◌, ◌∷◌, ◌++◌, [], false, length, position, OnOk, OnErr};
 ghost use Rattle.std.specs.List.{list_any};
+ghost use Rattle.std.specs.Ordering.{nat_cmp};
+ghost use Rattle.std.specs.BTreeMap.{get};
 ghost use Rattle.dwarf_forms.specs.Private.Codes.{is_code_at};
 
 use std::alloc::{AllocError, Global};
@@ -53,8 +55,7 @@ impl CodeIndex {
         if is_code_at(&self.codes, own, code) {
             return Some(own);
         }
-        let moved = *self.moved.get(&code)?;
-        Some(moved)
+        moved_index(&self.moved, code)
     }
 
     /// Whether the table has the code.
@@ -81,6 +82,16 @@ impl CodeIndex {
         }
         Ok(())
     }
+}
+
+/// Returns the index of a code that is not at its own place.
+// Not inlined: compilers number codes from 1, and its code would slow down the caller.
+#[cold]
+#[inline(never)]
+fn moved_index(moved: &BTreeMap<u64, usize>, code: u64) -> Option<usize>
+    ensures { result ≡ get nat_cmp moved.now code }
+{
+    moved.get(&code).copied()
 }
 
 /// Whether `code` is at index `place`.

@@ -192,6 +192,7 @@ fn skip(layout: ValueLayout, format: Format, cursor: &mut Cursor) -> Result<(), 
 
 /// Reads the attribute at the cursor. Adds it to `found` if it is used and `keep` is set.
 // Not inlined: it is rare. Its callers pass a copy of the cursor, which need not be in memory.
+#[cold]
 #[inline(never)]
 pub(crate) fn read_one(
     keep: bool,

@@ -112,6 +112,7 @@ impl<'a> LinkedLists<'a> {
     }
 
     // Not inlined: compilers write no list that is long enough to be shared.
+    #[cold]
     #[inline(never)]
     fn read_list(
         &self,

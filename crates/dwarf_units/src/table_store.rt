@@ -81,6 +81,7 @@ impl<'a> TableStore<'a> {
 
     /// Returns the index of the table of a unit, if it is cached.
     // Not inlined: it is rare, and its code would slow down the caller.
+    #[cold]
     #[inline(never)]
     fn find(&self, unit: &UnitHeader) -> Option<usize>
         ensures none { IfNone result (AreElsewhere unit.now.format unit.now.abbreviations

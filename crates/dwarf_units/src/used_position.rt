@@ -135,6 +135,7 @@ fn read_number(format: Format, layout: ValueLayout, cursor: &mut Cursor) -> Resu
 
 /// Reads a value at the cursor as a number, for the less common layouts.
 // Not inlined: it is rare, and its code would slow down the caller.
+#[cold]
 #[inline(never)]
 fn read_content(format: Format, layout: ValueLayout, cursor: &mut Cursor) -> Result<u64, Cause>
     ensures { ReadsField (λ n. n) result (number_at format layout) cursor.old cursor.new }

@@ -90,6 +90,7 @@ impl<'a> EntryReader<'a> {
 
     /// Reads the entry at an offset in the unit of `header` into `found`, and returns its tag.
     // Not inlined: it is rare, and its code would slow down the caller.
+    #[cold]
     #[inline(never)]
     fn entry(&mut self, header: &UnitHeader, offset: usize) -> Result<u64, Cause>
         ensures entry { (table : List Declaration) → declarations_of declarations_limit

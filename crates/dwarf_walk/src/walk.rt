@@ -81,6 +81,7 @@ impl Walk {
     /// Reads the entry or null entry at an offset of a unit with a cursor and returns the offset
     /// after it. Sets the bit of an entry in `bitmap`. `found` is a buffer for its used attributes.
     // Not inlined: it is rare, and its code would slow down the caller.
+    #[cold]
     #[inline(never)]
     pub(crate) fn step(
         &mut self,

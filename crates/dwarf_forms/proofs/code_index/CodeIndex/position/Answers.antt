@@ -12,17 +12,6 @@ returns-then-is_code_at c = rw (← c.self.view_is) (grind (
   c.if-is_code_at.true,
 ))
 
-pub returns-in_err-moved : goal.returns-in_err-moved
-returns-in_err-moved c = rw (← c.self.view_is) (grind (
-  arith,
-  code-position c.self.inside.codes.items c.self.inside.moved c.args.code c.self.invariant,
-  c.is_code_at.ensures,
-  c.deref.ensures.value,
-  c.saturating_sub-own.ensures,
-  c.from_residual.ensures,
-  c.in_err-moved.ensures.value,
-))
-
 pub returns : goal.returns
 returns c = rw (← c.self.view_is) (grind (
   arith,
@@ -30,5 +19,6 @@ returns c = rw (← c.self.view_is) (grind (
   c.is_code_at.ensures,
   c.deref.ensures.value,
   c.saturating_sub-own.ensures,
-  c.in_ok-moved.ensures.value,
+  c.moved_index.ensures,
+  c.if-is_code_at.false,
 ))
