@@ -1,22 +1,14 @@
 -- Each node of a unit ends after its offset and within the unit.
-use Rattle.std.proofs.Common.{◌≡◌, ℕ, ◌≤◌, List, [], ◌∷◌, Bool, length, arith}
-use Rattle.std.specs.Prelude.{Result, Ok, not}
-use Rattle.std.specs.List.{list_any}
-use Rattle.dwarf_bytes.specs.declared.fault.Cause.TheVariants as causes
-use Rattle.dwarf_bytes.specs.declared.format.Format.{Format}
-use Rattle.dwarf_bytes.specs.Items.{Advances}
-use Rattle.dwarf_bytes.proofs.Numbers.Advance.{after-bind, after-test, MovesOn}
-use Rattle.dwarf_bytes.proofs.Numbers.Moves.{uleb-moves}
-use Rattle.dwarf_forms.specs.declared.values.ValueFault.{ValueFault}
-use Rattle.dwarf_forms.specs.declared.attribute.AttributeSpecification.{AttributeSpecification}
-use Rattle.dwarf_forms.specs.Declarations.{Declaration}
-use Rattle.dwarf_forms.specs.Values.{value_at}
-use Rattle.dwarf_units.specs.declared.attributes.Attribute.{Attribute}
-use Rattle.dwarf_units.specs.Attributes.{accepts, is_negative_count}
-use Rattle.dwarf_units.specs.Entries.{Node, depth_after, is_root}
-use Rattle.dwarf_units.specs.Entries.{reading_value, form_at, attribute_at}
-use Rattle.dwarf_units.specs.Entries.{attributes_at, node_at_depth, node_at}
+use Rattle.dwarf_units.proofs.Common
+use Common.{◌≡◌, ℕ, ◌≤◌, List, [], ◌∷◌, Bool, length, arith, Result, Ok, list_any, Format, Advances}
+use Common.{after-bind, MovesOn, ValueFault, AttributeSpecification, Declaration, value_at}
+use Common.{Attribute, accepts, is_negative_count, Node, depth_after, is_root, reading_value}
+use Common.{attribute_at, attributes_at, node_at}
+use Rattle.std.proofs.Common.{not}
+use Rattle.dwarf_bytes.proofs.{Numbers.Advance.after-test, Numbers.Moves.uleb-moves}
+use Rattle.dwarf_units.specs.Entries.{form_at, node_at_depth}
 use Rattle.dwarf_units.proofs.EntryMoves.{StaysWithin, value-stays}
+use Rattle.dwarf_bytes.specs.declared.fault.Cause.TheVariants as causes
 
 reading_value-ok : {A : Type 0} (r : Result A ValueFault) (x : A) → reading_value r ≡ Ok x
     → r ≡ Ok x

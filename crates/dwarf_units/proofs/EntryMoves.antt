@@ -1,22 +1,15 @@
 -- A node of a unit takes at least one byte and does not extend beyond the end of the unit.
-use Rattle.std.proofs.Common.{◌≡◌, ℕ, ◌≤◌, ℤ, List, length, drop, arith}
-use Rattle.std.proofs.Common.{length-take, length-drop}
-use Rattle.std.specs.Prelude.{Option, Some, None, Result, Ok, Err, ◌==◌}
-use Rattle.std.proofs.lemmas.List.Quantifiers.{position-Some}
-use Rattle.dwarf_bytes.specs.declared.format.Format.{Format}
-use Rattle.dwarf_bytes.specs.declared.form.Form.{Form}
-use Rattle.dwarf_bytes.specs.declared.form.Form.TheVariants.{Direct, ImplicitConst, Indirect}
-use Rattle.dwarf_bytes.specs.declared.form.ValueLayout.{ValueLayout}
-use Rattle.dwarf_bytes.specs.Bind.{◌>>=◌}
-use Rattle.dwarf_bytes.specs.Forms.{form_of}
-use Rattle.dwarf_bytes.specs.Contents.{Content, Signed, content_at}
-use Rattle.dwarf_bytes.specs.Numbers.{block_at, fixed_at, uleb_at, sleb_at, cstr_at, text_front}
-use Rattle.dwarf_bytes.specs.Numbers.{offset_at}
+use Rattle.dwarf_units.proofs.Common
+use Common.{◌≡◌, ℕ, ◌≤◌, ℤ, List, length, drop, arith, length-take, Option, Some, None, Result, Ok}
+use Common.{Err, ◌==◌, Format, Form, Direct, ImplicitConst, Indirect, ValueLayout, ◌>>=◌, form_of}
+use Common.{Content, Signed, content_at, block_at, fixed_at, uleb_at, ValueFault, Value, direct_at}
+use Common.{value_at}
+use Rattle.std.proofs.{Common.length-drop, lemmas.List.Quantifiers.position-Some}
+use Rattle.dwarf_bytes.specs.Numbers.{sleb_at, cstr_at, text_front, offset_at}
 use Rattle.dwarf_bytes.proofs.Numbers.Advance.{uleb_at-moves, sleb_at-moves}
 use Rattle.dwarf_bytes.proofs.Numbers.Moves.{block_at-moves, fixed_at-moves}
-use Rattle.dwarf_forms.specs.declared.values.ValueFault.{ValueFault}
+use Rattle.dwarf_forms.specs.Values.{reading_value as of_value}
 use Rattle.dwarf_forms.specs.declared.values.ValueFault.TheVariants as values
-use Rattle.dwarf_forms.specs.Values.{Value, reading_value as of_value, direct_at, value_at}
 
 -- A read of zero or more bytes does not move the offset back or beyond the end.
 abbrev pub StaysWithin : List ℕ → ℕ → ℕ → Type 0

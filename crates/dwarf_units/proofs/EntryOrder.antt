@@ -1,18 +1,12 @@
 -- The offsets of the entries of a unit are increasing, up to its end.
-use Rattle.std.proofs.Common.{◌≡◌, ℕ, zero, suc, ◌+◌, ◌≤◌, List, [], ◌∷◌, ◌++◌, length, take}
-use Rattle.std.proofs.Common.{map, arith, length-take, add-one}
-use Rattle.std.specs.Prelude.{Ok}
-use Rattle.std.specs.List.{filter_map}
+use Rattle.dwarf_units.proofs.Common
+use Common.{◌≡◌, ℕ, zero, suc, ◌+◌, ◌≤◌, List, [], ◌∷◌, ◌++◌, length, take, map, arith, length-take}
+use Common.{add-one, Ok, filter_map, Format, Lists, after-bind, Declaration, UnitHeader}
+use Common.{LocatedNode, Die, depth_after, node_at, die_of, entries_of}
 use Rattle.std.specs.List.Sorted.{IsStrictlyIncreasing}
-use Rattle.dwarf_bytes.specs.declared.format.Format.{Format}
-use Rattle.dwarf_bytes.specs.Items.{Lists, items_from}
-use Rattle.dwarf_bytes.proofs.Numbers.Advance.{after-bind}
+use Rattle.dwarf_bytes.specs.Items.{items_from}
 use Rattle.dwarf_bytes.proofs.Items.ItemLaws.{Lists-within, Lists-each}
-use Rattle.dwarf_forms.specs.Declarations.{Declaration}
-use Rattle.dwarf_units.specs.declared.unit_headers.UnitHeader.{UnitHeader}
-use Rattle.dwarf_units.specs.Entries.{LocatedNode, Die, AreDepths, depth_after}
-use Rattle.dwarf_units.specs.Entries.{node_at, die_of, entries_of}
-use Rattle.dwarf_units.specs.Private.Rising.{RiseWithin}
+use Rattle.dwarf_units.specs.{Entries.AreDepths, Private.Rising.RiseWithin}
 use Rattle.dwarf_units.proofs.NodeLaws.{node_at-facts}
 
 -- ---- the entries of a unit

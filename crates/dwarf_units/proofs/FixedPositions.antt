@@ -1,24 +1,13 @@
 -- The value of an attribute of a fixed size is at its position.
-use Rattle.std.proofs.Common.{◌≡◌, ℕ, ◌+◌, ◌<◌, ◌≤◌, List, false, length, arith, ℤ, Bool, true}
-use Rattle.std.proofs.Common.{cond, refl, sym, ◌∙◌}
-use Rattle.std.specs.Prelude.{Some, Result, Ok, Err, Option, None, take, drop}
-use Rattle.dwarf_bytes.specs.declared.format.Format.{Format}
-use Rattle.dwarf_bytes.specs.declared.form.ValueLayout.{ValueLayout}
-use Rattle.dwarf_bytes.specs.Contents.{content_at, Content, Signed}
-use Rattle.dwarf_bytes.specs.Numbers.{block_at, fixed_at}
-use Rattle.dwarf_units.specs.Attributes.{is_negative, accepts, is_negative_count, number_of}
-use Rattle.dwarf_units.specs.Private.FixedSizes.{layout_len, number_in, used_value, fixed_len}
-use Rattle.std.proofs.lemmas.Option.{same_Some}
-use Rattle.std.proofs.lemmas.Bool.{le-ltb}
-use Rattle.std.specs.Option.{option_map_or}
-use Rattle.dwarf_bytes.specs.declared.fault.ReadFault.{ReadFault}
-use Rattle.dwarf_bytes.specs.declared.form.Form.{Form}
-use Rattle.dwarf_bytes.specs.declared.form.Form.TheVariants.{Direct, ImplicitConst, Indirect}
-use Rattle.dwarf_bytes.specs.Forms.{form_of}
-use Rattle.dwarf_forms.specs.declared.attribute.AttributeSpecification.{AttributeSpecification}
+use Rattle.dwarf_units.proofs.Common
+use Common.{◌≡◌, ℕ, ◌+◌, ◌<◌, ◌≤◌, List, false, length, arith, ℤ, Bool, true, cond, refl, sym, ◌∙◌}
+use Common.{Some, Result, Ok, Err, Option, None, take, drop, Format, ValueLayout, content_at}
+use Common.{Content, Signed, block_at, fixed_at, is_negative, accepts, is_negative_count, number_of}
+use Common.{layout_len, number_in, used_value, fixed_len, same_Some, le-ltb, option_map_or}
+use Common.{ReadFault, Form, Direct, ImplicitConst, Indirect, form_of, AttributeSpecification}
+use Common.{attribute_at}
 use Rattle.dwarf_units.specs.declared.used_position.UsedValue.{UsedValue}
 use Rattle.dwarf_units.specs.declared.used_position.UsedValue.TheVariants.{Constant, At}
-use Rattle.dwarf_units.specs.Entries.{attribute_at}
 use Rattle.dwarf_units.proofs.FixedValues.{IsFine, constant-there, in-layout, never-count}
 use Rattle.dwarf_bytes.specs.declared.fault.ReadFault.TheVariants as faults
 use Rattle.dwarf_bytes.specs.declared.fault.Cause.TheVariants as causes

@@ -1,21 +1,11 @@
 -- The used attributes of an entry whose attributes all have a fixed size.
-use Rattle.std.proofs.Common.{◌≡◌, ℕ, ◌≤◌, List, [], ◌∷◌, ◌++◌, length, Bool, true, false, cond}
-use Rattle.std.proofs.Common.{append-nil, arith, refl, ◌∙◌, ap}
-use Rattle.std.specs.Prelude.{◌==◌, Option, Some, Ok, option_map, slice_get, find}
+use Rattle.dwarf_units.proofs.Common
+use Common.{◌≡◌, ℕ, ◌≤◌, List, [], ◌∷◌, ◌++◌, length, Bool, true, false, cond, append-nil, arith}
+use Common.{refl, ◌∙◌, ap, ◌==◌, Option, Some, Ok, option_map, slice_get, find, Format}
+use Common.{AttributeSpecification, Attribute, AttributeValue, UsedName, UsedPosition, value_of}
+use Common.{used_among, value_named, attribute_in, attributes_in, name_of, Runs, all_at, runs_of}
+use Common.{index_in, slot_of, used_attributes_at}
 use Rattle.std.proofs.lemmas.List.Folds.{find_at}
-use Rattle.dwarf_bytes.specs.declared.format.Format.{Format}
-use Rattle.dwarf_forms.specs.declared.attribute.AttributeSpecification.{AttributeSpecification}
-use Rattle.dwarf_units.specs.declared.attributes.Attribute.{Attribute}
-use Rattle.dwarf_units.specs.declared.attributes.AttributeValue.{AttributeValue}
-use Rattle.dwarf_units.specs.declared.used_name.UsedName.{UsedName}
-use Rattle.dwarf_units.specs.declared.used_position.UsedPosition.{UsedPosition}
-use Rattle.dwarf_units.specs.Entries.{value_of}
-use Rattle.dwarf_units.specs.Used.{used_among, value_named}
-use Rattle.dwarf_units.specs.Private.FixedSizes.{attribute_in, attributes_in}
-use Rattle.dwarf_units.specs.Private.Names.{name_of}
-use Rattle.dwarf_units.specs.Private.Runs.{Runs, all_at, runs_of}
-use Rattle.dwarf_units.specs.Private.Slots.{index_in, slot_of}
-use Rattle.dwarf_units.specs.Private.Used.{used_attributes_at}
 use Rattle.dwarf_units.proofs.RunReads.{runs-read}
 
 same-slot : (m n : UsedName) → (slot_of m == slot_of n) ≡ (name_of m == name_of n)

@@ -1,28 +1,16 @@
 -- An attribute with a fixed form is read as its value in the layout of the form, or as the
 -- constant of its declaration.
-use Rattle.std.proofs.lemmas.Bool.{ne_eqb}
-use Rattle.std.proofs.lemmas.Option.{same_Some}
-use Rattle.std.proofs.Common.{arith, ◌≡◌, ℕ, ℤ, List, true, false, refl, ap, sym, ◌∙◌, Bool, cond}
-use Rattle.std.specs.Prelude.{Option, Some, Result, Ok, Err, ◌==◌, None, ◌&&◌}
-use Rattle.dwarf_bytes.specs.declared.constants.TheConstants.{DW_FORM_INDIRECT}
-use Rattle.dwarf_bytes.specs.declared.fault.ReadFault.{ReadFault}
-use Rattle.dwarf_bytes.specs.declared.fault.Cause.{Cause}
-use Rattle.dwarf_bytes.specs.declared.format.Format.{Format}
-use Rattle.dwarf_bytes.specs.declared.form.Form.{Form}
-use Rattle.dwarf_bytes.specs.declared.form.Form.TheVariants.{Direct, ImplicitConst, Indirect}
-use Rattle.dwarf_bytes.specs.declared.form.ValueLayout.{ValueLayout}
-use Rattle.dwarf_bytes.specs.Bind.{◌>>=◌}
-use Rattle.dwarf_bytes.specs.Forms.{form_of}
-use Rattle.dwarf_bytes.specs.Contents.{Content, Signed, content_at}
-use Rattle.dwarf_bytes.specs.Items.{refuse_if, reading}
-use Rattle.dwarf_forms.specs.declared.values.ValueFault.{ValueFault}
-use Rattle.dwarf_forms.specs.Values.{Value, reading_value as of_value, direct_at, value_at}
-use Rattle.dwarf_units.specs.Attributes.{is_negative, is_negative_count, accepts, number_of}
-use Rattle.dwarf_units.specs.Attributes.{is_used}
-use Rattle.dwarf_forms.specs.declared.attribute.AttributeSpecification.{AttributeSpecification}
-use Rattle.dwarf_units.specs.declared.attributes.Attribute.{Attribute}
-use Rattle.dwarf_units.specs.Entries.{reading_value, attribute_at}
-use Rattle.dwarf_units.specs.Private.Runs.{is_signed, unchecked_layout, valid_layout}
+use Rattle.dwarf_units.proofs.Common
+use Common.{ne_eqb, same_Some, arith, ◌≡◌, ℕ, ℤ, List, true, false, refl, ap, sym, ◌∙◌, Bool, cond}
+use Common.{Option, Some, Result, Ok, Err, ◌==◌, None, ReadFault, Cause, Format, Form, Direct}
+use Common.{ImplicitConst, Indirect, ValueLayout, ◌>>=◌, form_of, Content, Signed, content_at}
+use Common.{reading, ValueFault, Value, direct_at, value_at, is_negative, is_negative_count}
+use Common.{accepts, number_of, is_used, AttributeSpecification, Attribute, reading_value}
+use Common.{attribute_at, unchecked_layout}
+use Rattle.std.proofs.Common.{◌&&◌}
+use Rattle.dwarf_bytes.specs.{declared.constants.TheConstants.DW_FORM_INDIRECT, Items.refuse_if}
+use Rattle.dwarf_forms.specs.Values.{reading_value as of_value}
+use Rattle.dwarf_units.specs.Private.Runs.{is_signed, valid_layout}
 use Rattle.dwarf_bytes.specs.declared.fault.Cause.TheVariants as causes
 
 pub never-count : (name : ℕ) (c : Content) → is_negative c ≡ false

@@ -1,31 +1,17 @@
 -- Finding the table of a unit in the cache, and keeping it there as tables are added.
-use Rattle.std.proofs.Common.{◌≡◌, ◌⊎◌, inl, inr, ℕ, ◌+◌, ◌<◌, ◌≤◌, List, length, take}
-use Rattle.std.proofs.Common.{length-take-le, sym, arith, take_all, Bool, get_or, []}
-use Rattle.std.proofs.Common.{◌∷◌, ◌++◌, true, false, refl, append-nil}
-use Rattle.std.specs.Prelude.{Some, Ok, slice_get, sum_by, nat_le, if◌then◌else◌}
-use Rattle.std.proofs.lemmas.Bool.{cases_lt}
-use Rattle.std.proofs.lemmas.List.{get_or-take, take_more}
-use Rattle.std.proofs.lemmas.Option.{get_or_from_slice_get, slice_get-get_or}
-use Rattle.std.proofs.lemmas.Option.{slice_get_within}
-use Rattle.dwarf_bytes.specs.declared.format.Format.{Format}
-use Rattle.dwarf_forms.specs.Declarations.{Declaration}
-use Rattle.dwarf_units.specs.declared.numbers.Numbers.{Numbers}
-use Rattle.dwarf_units.specs.declared.unit_headers.UnitHeader.{UnitHeader}
-use Rattle.dwarf_units.specs.Units.{declarations_limit}
-use Rattle.dwarf_units.specs.Private.AbbreviationTables.{Table, table_size}
-use Rattle.dwarf_units.specs.Private.Numbers.{number_at}
-use Rattle.dwarf_units.specs.Private.Tables.{AreCached, CachedTables}
-use Rattle.dwarf_units.specs.Private.Tables.{IsCachedOrTooLarge, IsIndexOf, IsTableAt}
-use Rattle.dwarf_units.specs.Private.Tables.{size_limit, table_read, IsAdded, IsParsedFrom, IsAt}
-use Rattle.dwarf_units.specs.Private.Tables.{StaysCached, with_table}
-use Rattle.dwarf_units.proofs.StoredLaws.{cached}
-use Rattle.dwarf_units.proofs.TableLaws.{cached-parsed, parsed-again, parsed-too-long}
-use Rattle.dwarf_units.proofs.TableLaws.{parsed-at, last-at}
-use Rattle.std.specs.List.{All}
-use Rattle.std.proofs.Math.Seq.{take-append_seam, take-length}
-use Rattle.std.proofs.lemmas.Grind.{common_steps}
-use Rattle.std.proofs.lemmas.List.Elements.{All-push}
-use Rattle.std.proofs.lemmas.List.Sums.{sum_by_push, sum_by-append}
+use Rattle.dwarf_units.proofs.Common
+use Common.{◌≡◌, ◌⊎◌, inl, inr, ℕ, ◌+◌, ◌<◌, ◌≤◌, List, length, take, length-take-le, sym, arith}
+use Common.{take_all, Bool, get_or, [], ◌∷◌, ◌++◌, true, false, refl, append-nil, Some, Ok}
+use Common.{slice_get, sum_by, nat_le, cases_lt, get_or-take, get_or_from_slice_get}
+use Common.{slice_get-get_or, slice_get_within, Format, Declaration, Numbers, UnitHeader}
+use Common.{declarations_limit, Table, table_size, number_at, AreCached, CachedTables}
+use Common.{IsCachedOrTooLarge, IsParsedFrom, with_table, All, take-append_seam, take-length}
+use Common.{common_steps, All-push, sum_by_push, sum_by-append}
+use Rattle.std.proofs.{Common.if◌then◌else◌, lemmas.List.take_more}
+use Rattle.dwarf_units.specs.Private.Tables.{IsIndexOf, IsTableAt, size_limit, table_read, IsAdded}
+use Rattle.dwarf_units.specs.Private.Tables.{IsAt, StaysCached}
+use Rattle.dwarf_units.proofs.{StoredLaws.cached, TableLaws.{cached-parsed, parsed-again}}
+use Rattle.dwarf_units.proofs.TableLaws.{parsed-too-long, parsed-at, last-at}
 use Rattle.dwarf_forms.proofs.Elements.{at-front}
 
 -- The map has the index of a table.

@@ -1,3 +1,6 @@
+-- The proof of a function finds all names that it cites here: those of Common, which are from
+-- elsewhere, and the lemmas of this crate.
+pub mod Common
 pub mod UnitLaws
 pub mod TableLaws
 pub mod StoredLaws
@@ -18,3 +21,24 @@ pub mod LinkLaws
 pub mod SharedTableLaws
 pub mod IndexLaws
 pub mod SlotLaws
+unfoldable pub use Common.*
+pub use UnitLaws.*
+pub use TableLaws.*
+pub use StoredLaws.*
+pub use EntryMoves.*
+pub use EntryAdvances.*
+pub use NodeLaws.*
+pub use EntryOrder.*
+pub use RereadLaws.*
+pub use FixedValues.*
+pub use FixedPositions.*
+pub use FixedSizeLaws.*
+pub use RunParts.*
+pub use RunReads.*
+pub use RunTurns.*
+pub use StoredReads.*
+pub use NodeShapes.*
+pub use LinkLaws.*
+pub use SharedTableLaws.*
+pub use IndexLaws.*
+pub use SlotLaws.*

@@ -1,31 +1,16 @@
 -- Links of shared lists: attributes that are unused and have no bytes change nothing.
-use Rattle.std.proofs.Common.{cond}
-use Rattle.std.proofs.Common.{◌≡◌, ℕ, ◌+◌, ◌-◌, ◌<◌, ◌≤◌, List, [], ◌∷◌, Bool, true, false, length}
-use Rattle.std.proofs.Common.{refl, sym, ◌∙◌, arith}
-use Rattle.std.specs.Prelude.{Option, Some, None, Result, Ok, IfSome}
-use Rattle.std.specs.Option.{option_map_or}
-use Rattle.dwarf_bytes.specs.declared.fault.Cause.{Cause}
-use Rattle.dwarf_bytes.specs.declared.format.Format.{Format}
+use Rattle.dwarf_units.proofs.Common
+use Common.{cond, ◌≡◌, ℕ, ◌+◌, ◌-◌, ◌<◌, ◌≤◌, List, [], ◌∷◌, Bool, true, false, length, refl, sym}
+use Common.{◌∙◌, arith, Option, Some, None, Result, Ok, IfSome, option_map_or, Cause, Format, Form}
+use Common.{Direct, ImplicitConst, Indirect, ◌>>=◌, form_of, Item, AttributeSpecification, IsListAt}
+use Common.{list_at, Attribute, accepts, is_used, attributes_at, fixed_len, layout_len, IsLink}
+use Common.{stored_attributes_at}
 use Rattle.dwarf_bytes.specs.declared.format.Format.TheVariants.{Dwarf32, Dwarf64}
-use Rattle.dwarf_bytes.specs.declared.form.Form.{Form}
-use Rattle.dwarf_bytes.specs.declared.form.Form.TheVariants.{Direct, ImplicitConst, Indirect}
-use Rattle.dwarf_bytes.specs.Bind.{◌>>=◌}
-use Rattle.dwarf_bytes.specs.Forms.{form_of}
-use Rattle.dwarf_bytes.specs.Items.{Item}
-use Rattle.dwarf_forms.specs.declared.attribute.AttributeSpecification.{AttributeSpecification}
 use Rattle.dwarf_forms.specs.Tables.{attribute_at as specification_at}
-use Rattle.abbreviation_memo.specs.declared.list_start.ListStart.{ListStart}
-use Rattle.abbreviation_memo.specs.Lists.{IsListAt, first_of, list_at}
+use Rattle.abbreviation_memo.specs.{declared.list_start.ListStart.ListStart, Lists.first_of}
 use Rattle.abbreviation_memo.proofs.ListLaws.{list-within, starts-at}
-use Rattle.dwarf_units.specs.declared.attributes.Attribute.{Attribute}
-use Rattle.dwarf_units.specs.Attributes.{accepts, is_used}
-use Rattle.dwarf_units.specs.Entries.{attributes_at}
-use Rattle.dwarf_units.specs.Private.FixedSizes.{constant_len}
-use Rattle.dwarf_units.specs.Private.FixedSizes.{fixed_len, layout_len}
-use Rattle.dwarf_units.specs.Private.Links.{IsLink, is_empty_unused}
-use Rattle.dwarf_units.specs.Private.StoredAttributes.{stored_attributes_at}
-use Rattle.dwarf_units.proofs.FixedPositions.{fixed-at}
-use Rattle.dwarf_units.proofs.StoredReads.{stored_all, with_first}
+use Rattle.dwarf_units.specs.{Private.FixedSizes.constant_len, Private.Links.is_empty_unused}
+use Rattle.dwarf_units.proofs.{FixedPositions.fixed-at, StoredReads.{stored_all, with_first}}
 
 -- ---- attributes that are skipped
 

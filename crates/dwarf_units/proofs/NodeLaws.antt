@@ -1,16 +1,10 @@
 -- The offset, depth and end of a node of a unit.
-use Rattle.std.proofs.Common.{arith}
-use Rattle.std.proofs.Common.{◌≡◌, ℕ, List, ap, sym, subst}
-use Rattle.std.specs.Prelude.{Result, Ok}
-use Rattle.std.specs.List.{list_any}
-use Rattle.dwarf_bytes.specs.declared.fault.Cause.{Cause}
-use Rattle.dwarf_bytes.specs.declared.format.Format.{Format}
-use Rattle.dwarf_bytes.specs.Items.{Next, Item}
-use Rattle.dwarf_bytes.proofs.Numbers.Advance.{MovesOn}
-use Rattle.dwarf_forms.specs.Declarations.{Declaration}
+use Rattle.dwarf_units.proofs.Common
+use Common.{arith, ◌≡◌, ℕ, List, ap, sym, Result, Ok, list_any, Cause, Format, Item, MovesOn}
+use Common.{Declaration, Node, LocatedNode, depth_after, is_root, node_at}
+use Rattle.std.proofs.Common.{subst}
+use Rattle.dwarf_bytes.specs.Items.{Next}
 use Rattle.dwarf_bytes.proofs.Numbers.Moves.{same-item}
-use Rattle.dwarf_units.specs.Entries.{Node, LocatedNode, depth_after, is_root}
-use Rattle.dwarf_units.specs.Entries.{node_at}
 use Rattle.dwarf_units.proofs.EntryAdvances.{node_at_depth-moves}
 
 -- A node that is read at an offset has this offset, the depth after the nodes before it, and at

@@ -1,33 +1,18 @@
 -- The precomputed shapes of nodes, and the nodes that have them.
-use Rattle.std.proofs.lemmas.Grind.{common_steps}
-use Rattle.std.proofs.Common.{◌≡◌, ℕ, ◌+◌, ◌<◌, ◌≤◌, List, [], ◌∷◌, ◌++◌, Bool, true}
-use Rattle.std.proofs.Common.{false, cond, length, length-append, refl, ap, ◌∙◌, arith}
-use Rattle.std.specs.Prelude.{Option, Some, None, Result, Ok, Err, ◌==◌}
-use Rattle.dwarf_bytes.specs.declared.fault.Cause.{Cause}
-use Rattle.std.specs.Prelude.{drop, option_and_then, slice_get}
-use Rattle.std.proofs.lemmas.Bool.{le-ltb, ne_eqb}
-use Rattle.std.proofs.lemmas.List.{drop_more}
-use Rattle.std.proofs.lemmas.Option.{get_or_from_slice_get, option_and_then_some, same_Some}
-use Rattle.std.proofs.lemmas.Option.{slice_get_within}
-use Rattle.dwarf_bytes.specs.declared.format.Format.{Format}
-use Rattle.dwarf_bytes.specs.Bind.{◌>>=◌}
-use Rattle.dwarf_bytes.specs.Numbers.{uleb_at}
+use Rattle.dwarf_units.proofs.Common
+use Common.{common_steps, ◌≡◌, ℕ, ◌+◌, ◌<◌, ◌≤◌, List, [], ◌∷◌, ◌++◌, Bool, true, false, cond}
+use Common.{length, length-append, refl, ap, ◌∙◌, arith, Option, Some, None, Result, Ok, Err, ◌==◌}
+use Common.{Cause, drop, slice_get, le-ltb, ne_eqb, drop_more, get_or_from_slice_get}
+use Common.{option_and_then_some, same_Some, slice_get_within, Format, ◌>>=◌, uleb_at, Declaration}
+use Common.{AttributeSpecification, Attribute, at-last, Entry, Null, attributes_at, AreShapes}
+use Common.{shape_at, Run, Stretch, runs_at, runs_of, Table}
+use Rattle.std.proofs.Common.{option_and_then}
 use Rattle.dwarf_bytes.proofs.Numbers.LebEncodings.{uleb-again}
-use Rattle.dwarf_forms.specs.Declarations.{Declaration}
-use Rattle.dwarf_forms.specs.declared.attribute.AttributeSpecification.{AttributeSpecification}
-use Rattle.dwarf_units.specs.declared.attributes.Attribute.{Attribute}
-use Rattle.dwarf_forms.proofs.Elements.{at-last}
-use Rattle.dwarf_units.specs.declared.node_shape.NodeShape.{NodeShape}
-use Rattle.dwarf_units.specs.Entries.{Entry, Null, attributes_at, declaration_of}
-use Rattle.dwarf_units.specs.Entries.{depth_limit}
-use Rattle.dwarf_units.specs.Private.NodeShapes.{AreShapes, IsFixedSizeNode, code_limit}
-use Rattle.dwarf_units.specs.NodeShapes.{null_shape}
-use Rattle.dwarf_units.specs.Private.NodeShapes.{shape_at}
-use Rattle.dwarf_units.specs.Private.NodeShapes.{shape_of, shape_of_code}
-use Rattle.dwarf_units.specs.Private.Runs.{Run, Stretch, fixed_size, runs_at, runs_of}
-use Rattle.dwarf_units.specs.Private.AbbreviationTables.{Table}
-use Rattle.dwarf_units.proofs.FixedPositions.{block-there}
-use Rattle.dwarf_units.proofs.RunReads.{runs-read}
+use Rattle.dwarf_units.specs.{declared.node_shape.NodeShape.NodeShape, Entries.declaration_of}
+use Rattle.dwarf_units.specs.{Entries.depth_limit, Private.NodeShapes.{IsFixedSizeNode, code_limit}}
+use Rattle.dwarf_units.specs.{Private.NodeShapes.{shape_of, shape_of_code}, NodeShapes.null_shape}
+use Rattle.dwarf_units.specs.Private.Runs.{fixed_size}
+use Rattle.dwarf_units.proofs.{FixedPositions.block-there, RunReads.runs-read}
 use Rattle.dwarf_units.proofs.StoredReads.{stored_all}
 
 -- ---- the shapes by code

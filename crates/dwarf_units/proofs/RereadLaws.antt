@@ -1,17 +1,9 @@
 -- An entry can be re-read at its offset.
-use Rattle.std.proofs.Common.{arith}
-use Rattle.std.proofs.Common.{◌≡◌, ℕ, zero, suc, List, [], ◌∷◌, ◌++◌, Bool, refl}
-use Rattle.std.proofs.Common.{take}
-use Rattle.std.specs.Prelude.{Some, Ok, slice_get}
-use Rattle.std.specs.List.{filter_map}
-use Rattle.std.proofs.lemmas.Option.{same_Some}
-use Rattle.dwarf_bytes.specs.declared.format.Format.{Format}
-use Rattle.dwarf_bytes.specs.Items.{Item, Lists}
-use Rattle.dwarf_forms.specs.Declarations.{Declaration}
-use Rattle.dwarf_units.specs.declared.attributes.Attribute.{Attribute}
-use Rattle.dwarf_units.specs.declared.unit_headers.UnitHeader.{UnitHeader}
-use Rattle.dwarf_units.specs.Entries.{Node, Entry, Null, LocatedNode, Die}
-use Rattle.dwarf_units.specs.Entries.{node_at, entry_at, die_of, entries_of}
+use Rattle.dwarf_units.proofs.Common
+use Common.{arith, ◌≡◌, ℕ, zero, suc, List, [], ◌∷◌, ◌++◌, Bool, refl, take, Some, Ok, slice_get}
+use Common.{filter_map, same_Some, Format, Item, Lists, Declaration, Attribute, UnitHeader, Node}
+use Common.{Entry, Null, LocatedNode, Die, node_at, die_of, entries_of}
+use Rattle.dwarf_units.specs.Entries.{entry_at}
 use Rattle.dwarf_units.proofs.EntryOrder.{list-in}
 
 -- Reading the entry at an offset returns this tag and these attributes.

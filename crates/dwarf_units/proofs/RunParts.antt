@@ -1,40 +1,19 @@
 -- Reading the attributes of one run.
-use Rattle.std.proofs.Common.{◌≡◌, ℕ, ◌+◌, ◌<◌, ◌≤◌, List, [], ◌∷◌, ◌++◌, Bool, true}
-use Rattle.std.proofs.Common.{false, cond, length, refl, ap, sym, ◌∙◌, arith, append_assoc}
-use Rattle.std.proofs.Common.{append-nil}
-use Rattle.std.specs.Prelude.{Option, Some, None, Result, Ok, Err, option_map}
-use Rattle.std.specs.Option.{option_to_list}
+use Rattle.dwarf_units.proofs.Common
+use Common.{◌≡◌, ℕ, ◌+◌, ◌<◌, ◌≤◌, List, [], ◌∷◌, ◌++◌, Bool, true, false, cond, length, refl, ap}
+use Common.{sym, ◌∙◌, arith, append_assoc, append-nil, Option, Some, None, Result, Ok, Err}
+use Common.{option_map, option_to_list, ReadFault, Cause, Format, ValueLayout, ◌>>=◌, Content}
+use Common.{content_at, reading, block_at, AttributeSpecification, Unchecked, Checked, Attribute}
+use Common.{UsedName, UsedPosition, number_of, attribute_at, attributes_at, attribute_in}
+use Common.{attributes_in, number_in, used_position, used_value, used_name, Run, run_at}
+use Common.{unchecked_layout, stored_attributes, stored_attributes_at}
 use Rattle.std.proofs.lemmas.List.{map-append}
-use Rattle.dwarf_bytes.specs.declared.fault.ReadFault.{ReadFault}
-use Rattle.dwarf_bytes.specs.declared.fault.ReadFault.TheVariants as faults
-use Rattle.dwarf_bytes.specs.declared.fault.Cause.{Cause}
-use Rattle.dwarf_bytes.specs.declared.format.Format.{Format}
-use Rattle.dwarf_bytes.specs.declared.form.ValueLayout.{ValueLayout}
-use Rattle.dwarf_bytes.specs.Bind.{◌>>=◌}
-use Rattle.dwarf_bytes.specs.Contents.{Content, content_at}
-use Rattle.dwarf_bytes.specs.Items.{reading}
-use Rattle.dwarf_bytes.specs.Numbers.{block_at}
 use Rattle.dwarf_bytes.specs.Words.{cause_of}
-use Rattle.dwarf_forms.specs.declared.attribute.AttributeSpecification.{AttributeSpecification}
-use Rattle.dwarf_units.specs.declared.attribute_run.LastAttribute.TheVariants.{Unchecked}
-use Rattle.dwarf_units.specs.declared.attribute_run.LastAttribute.TheVariants.{Checked}
-use Rattle.dwarf_units.specs.declared.attributes.Attribute.{Attribute}
-use Rattle.dwarf_units.specs.declared.used_name.UsedName.{UsedName}
-use Rattle.dwarf_units.specs.declared.used_position.UsedPosition.{UsedPosition}
-use Rattle.dwarf_units.specs.Attributes.{number_of}
-use Rattle.dwarf_units.specs.Entries.{attribute_at, attributes_at}
-use Rattle.dwarf_units.specs.Private.FixedSizes.{attribute_in, attributes_in}
-use Rattle.dwarf_units.specs.Private.FixedSizes.{number_in, used_position, used_value}
-use Rattle.dwarf_units.specs.Private.Names.{used_name}
-use Rattle.dwarf_units.specs.Private.Runs.{Run, run_at}
-use Rattle.dwarf_units.specs.Private.Runs.{unchecked_layout}
-use Rattle.dwarf_units.specs.Private.StoredAttributes.{stored_attributes, stored_attributes_at}
-use Rattle.dwarf_units.proofs.EntryAdvances.{attributes-stay}
-use Rattle.dwarf_units.proofs.FixedPositions.{block-there, direct-value}
-use Rattle.dwarf_units.proofs.FixedValues.{IsInLayout, unchecked-read}
-use Rattle.dwarf_units.proofs.SlotLaws.{found-number, used-none, used-some}
-use Rattle.dwarf_units.proofs.StoredReads.{fault-first}
-use Rattle.dwarf_units.proofs.StoredReads.{with_front}
+use Rattle.dwarf_units.proofs.{EntryAdvances.attributes-stay, FixedPositions.block-there}
+use Rattle.dwarf_units.proofs.{FixedPositions.direct-value, FixedValues.IsInLayout}
+use Rattle.dwarf_units.proofs.{FixedValues.unchecked-read, SlotLaws.{found-number, used-none}}
+use Rattle.dwarf_units.proofs.{SlotLaws.used-some, StoredReads.{fault-first, with_front}}
+use Rattle.dwarf_bytes.specs.declared.fault.ReadFault.TheVariants as faults
 
 -- The attributes at these positions if they are stored, otherwise none.
 abbrev pub kept_in : Bool → Format → List ℕ → ℕ → List UsedPosition → List Attribute

@@ -1,36 +1,17 @@
 -- Reading attributes in runs is reading them one by one.
-use Rattle.std.proofs.Common.{◌≡◌, ℕ, ◌+◌, ◌<◌, ◌≤◌, ◌⊎◌, inl, inr, List, [], ◌∷◌, ◌++◌, Bool}
-use Rattle.std.proofs.Common.{cond, length, refl, arith, append_assoc}
-use Rattle.std.proofs.Common.{append-nil}
-use Rattle.std.specs.Prelude.{Option, Some, None, Result, Ok, Err, nat_le}
-use Rattle.std.specs.Option.{option_map_or, option_to_list}
-use Rattle.std.proofs.lemmas.Bool.{cases_lt}
-use Rattle.std.proofs.lemmas.Option.{option_and_then_some}
-use Rattle.dwarf_bytes.specs.declared.fault.Cause.{Cause}
-use Rattle.dwarf_bytes.specs.declared.fault.Cause.TheVariants as causes
-use Rattle.dwarf_bytes.specs.declared.format.Format.{Format}
-use Rattle.dwarf_bytes.specs.declared.form.ValueLayout.{ValueLayout}
-use Rattle.dwarf_bytes.specs.Bind.{◌>>=◌}
-use Rattle.dwarf_forms.specs.declared.attribute.AttributeSpecification.{AttributeSpecification}
-use Rattle.dwarf_units.specs.declared.attribute_run.LastAttribute.TheVariants.{Unchecked}
-use Rattle.dwarf_units.specs.declared.attribute_run.LastAttribute.TheVariants.{Checked}
-use Rattle.dwarf_units.specs.declared.attributes.Attribute.{Attribute}
-use Rattle.dwarf_units.specs.declared.used_position.UsedPosition.{UsedPosition}
-use Rattle.dwarf_units.specs.Entries.{attributes_at}
-use Rattle.dwarf_units.specs.Private.FixedSizes.{used_value}
-use Rattle.dwarf_units.specs.Private.FixedSizes.{end_of, fixed_len}
-use Rattle.dwarf_units.specs.Private.FixedSizes.{used_position}
-use Rattle.dwarf_units.specs.Private.Runs.{Run, Runs, all_at, run_before, runs_from, runs_of}
-use Rattle.dwarf_units.specs.Private.Runs.{then_read, unchecked_layout}
-use Rattle.dwarf_units.specs.Used.{used_among}
-use Rattle.dwarf_units.specs.Private.Used.{used_after, used_attributes_at}
-use Rattle.dwarf_units.proofs.SlotLaws.{among-append}
-use Rattle.dwarf_units.specs.Private.StoredAttributes.{stored_attributes, stored_attributes_at}
-use Rattle.dwarf_units.proofs.FixedPositions.{IsAt, block-there, fixed-at}
-use Rattle.dwarf_units.proofs.StoredReads.{fault-first, stored-append}
-use Rattle.dwarf_units.proofs.StoredReads.{used_all, with_front}
+use Rattle.dwarf_units.proofs.Common
+use Common.{◌≡◌, ℕ, ◌+◌, ◌<◌, ◌≤◌, ◌⊎◌, inl, inr, List, [], ◌∷◌, ◌++◌, Bool, cond, length, refl}
+use Common.{arith, append_assoc, append-nil, Option, Some, None, Result, Ok, Err, nat_le}
+use Common.{option_map_or, option_to_list, cases_lt, option_and_then_some, Cause, Format}
+use Common.{ValueLayout, ◌>>=◌, AttributeSpecification, Unchecked, Checked, Attribute, UsedPosition}
+use Common.{attributes_at, used_value, end_of, fixed_len, used_position, Run, Runs, all_at}
+use Common.{run_before, runs_from, runs_of, then_read, unchecked_layout, used_among, used_after}
+use Common.{used_attributes_at, stored_attributes, stored_attributes_at}
+use Rattle.dwarf_units.proofs.{SlotLaws.among-append, FixedPositions.{IsAt, block-there, fixed-at}}
+use Rattle.dwarf_units.proofs.StoredReads.{fault-first, stored-append, used_all, with_front}
 use Rattle.dwarf_units.proofs.RunParts.{ReadsLast, block-short, checked-one, front-more, kept_in}
 use Rattle.dwarf_units.proofs.RunParts.{stored-one, stored-within, unchecked-one}
+use Rattle.dwarf_bytes.specs.declared.fault.Cause.TheVariants as causes
 
 -- The runs of attributes that start n bytes after the start of the first run read these attributes.
 -- `used` has the positions in the first n bytes, which the first run contains.

@@ -1,23 +1,12 @@
 -- Computing runs attribute by attribute, and adding the used attributes of a run.
-use Rattle.std.proofs.Common.{◌≡◌, ℕ, List, [], ◌∷◌, ◌++◌, append_assoc, append-nil, refl, sym}
-use Rattle.std.proofs.Common.{◌∙◌, Bool, inr}
-use Rattle.std.specs.Prelude.{Some, None, Result, Ok, Err}
-use Rattle.std.specs.Option.{option_to_list}
-use Rattle.dwarf_bytes.specs.declared.fault.Cause.{Cause}
-use Rattle.dwarf_bytes.specs.declared.format.Format.{Format}
-use Rattle.dwarf_bytes.specs.Position.{Position}
+use Rattle.dwarf_units.proofs.Common
+use Common.{◌≡◌, ℕ, List, [], ◌∷◌, ◌++◌, append_assoc, append-nil, refl, sym, ◌∙◌, Bool, inr, Some}
+use Common.{None, Result, Ok, Err, option_to_list, Cause, Format, Position, ValueLayout}
+use Common.{AttributeSpecification, Unchecked, UsedPosition, attribute_in, attributes_in, end_of}
+use Common.{used_position, Run, Runs, Stretch, last_at, run_at, run_before, runs_at, runs_from}
+use Common.{then_read, Fills, Used, used_after, with_used}
 use Rattle.dwarf_bytes.specs.Refusals.{ReadsPlace}
-use Rattle.dwarf_bytes.specs.declared.form.ValueLayout.{ValueLayout}
-use Rattle.dwarf_forms.specs.declared.attribute.AttributeSpecification.{AttributeSpecification}
-use Rattle.dwarf_units.specs.declared.attribute_run.LastAttribute.TheVariants.{Unchecked}
-use Rattle.dwarf_units.specs.declared.used_position.UsedPosition.{UsedPosition}
-use Rattle.dwarf_units.specs.Private.FixedSizes.{attribute_in, attributes_in, end_of}
-use Rattle.dwarf_units.specs.Private.FixedSizes.{used_position}
-use Rattle.dwarf_units.specs.Private.Runs.{Run, Runs, Stretch, end_in, last_at, run_at}
-use Rattle.dwarf_units.specs.Private.Runs.{run_before, runs_at, runs_from, then_read}
-use Rattle.dwarf_units.specs.Private.StoredAttributes.{Fills}
-use Rattle.dwarf_units.specs.Used.{Used}
-use Rattle.dwarf_units.specs.Private.Used.{used_after, with_used}
+use Rattle.dwarf_units.specs.Private.Runs.{end_in}
 use Rattle.dwarf_units.proofs.SlotLaws.{nothing-used, with-none, with-twice}
 
 -- ---- computing the runs

@@ -1,21 +1,15 @@
 -- Tables whose declarations share attributes, compared with tables whose declarations have all
 -- attributes.
-use Rattle.std.proofs.Common.{◌≡◌, ℕ, suc, ◌+◌, ◌*◌, List, [], ◌∷◌, length, take, refl, ap}
-use Rattle.std.proofs.Common.{sym, ◌∙◌, arith, append-nil}
-use Rattle.std.specs.Prelude.{Bool, ◌==◌, Option, Some, map, find}
-use Rattle.std.specs.Prelude.{option_map, slice_get, sum_by}
-use Rattle.std.specs.List.{All}
-use Rattle.std.proofs.Math.Seq.{take-append_seam}
-use Rattle.std.proofs.lemmas.List.{take_all}
-use Rattle.std.proofs.lemmas.List.Folds.{fold-map}
+use Rattle.dwarf_units.proofs.Common
+use Common.{◌≡◌, ℕ, suc, ◌+◌, ◌*◌, List, [], ◌∷◌, length, take, refl, ap, sym, ◌∙◌, arith}
+use Common.{append-nil, Bool, ◌==◌, Option, Some, map, find, option_map, slice_get, sum_by, All}
+use Common.{take-append_seam, AttributeSpecification, Declaration, AreShared, IsShared}
+use Common.{SharedDeclaration, full_declarations, Table, table_size}
+use Rattle.std.proofs.{lemmas.List.take_all, lemmas.List.Folds.fold-map}
 use Rattle.std.proofs.lemmas.Option.{slice_get-map}
-use Rattle.dwarf_forms.specs.declared.attribute.AttributeSpecification.{AttributeSpecification}
-use Rattle.dwarf_forms.specs.Declarations.{Declaration}
 use Rattle.abbreviation_memo.specs.declared.shared.TheConstants.{UNSHARED}
-use Rattle.abbreviation_memo.specs.Declarations.{AreShared, IsShared, SharedAttributes}
-use Rattle.abbreviation_memo.specs.Declarations.{SharedDeclaration, all_of, full_declaration}
-use Rattle.abbreviation_memo.specs.Declarations.{full_declarations}
-use Rattle.dwarf_units.specs.Private.AbbreviationTables.{Table, own_attributes, table_size}
+use Rattle.abbreviation_memo.specs.Declarations.{SharedAttributes, all_of, full_declaration}
+use Rattle.dwarf_units.specs.Private.AbbreviationTables.{own_attributes}
 
 -- An element of a list that is parallel to the declarations.
 pub at-place : {D Y : Type 0} (f : D → Y) (table : List D) (ys : List Y) (place : ℕ)

@@ -1,27 +1,20 @@
 -- The used attributes of an entry: their names, and adding attributes one by one.
-use Rattle.std.proofs.Common.{arith, ◌≡◌, ℕ, List, [], ◌∷◌, Bool, true, false, refl, ap, sym, ◌∙◌}
-use Rattle.std.proofs.Common.{◌++◌, ◌<◌, length, get_or}
-use Rattle.std.specs.Prelude.{Some, None, ◌==◌, find, Option, Result, Ok}
-use Rattle.std.proofs.lemmas.Bool.{ne_eqb, eqb-true}
-use Rattle.dwarf_units.specs.declared.used_name.UsedName.{UsedName}
+use Rattle.dwarf_units.proofs.Common
+use Common.{arith, ◌≡◌, ℕ, List, [], ◌∷◌, Bool, true, false, refl, ap, sym, ◌∙◌, ◌++◌, ◌<◌, length}
+use Common.{get_or, Some, None, ◌==◌, find, Option, Result, Ok, ne_eqb, UsedName, is_used, name_of}
+use Common.{used_name, Cause, Attribute, AttributeValue, value_of, Used, used_among, value_named}
+use Common.{with_used, used_after, slot_of}
+use Rattle.std.proofs.{lemmas.Bool.eqb-true, Math.ListN.set, lemmas.List.get_or-set_same}
+use Rattle.std.proofs.lemmas.List.{get_or-set_other}
 use Rattle.dwarf_units.specs.declared.used_name.UsedName.TheVariants.{Name, LinkageName}
 use Rattle.dwarf_units.specs.declared.used_name.UsedName.TheVariants.{AbstractOrigin, Specification}
 use Rattle.dwarf_units.specs.declared.used_name.UsedName.TheVariants.{LowPc, HighPc, Ranges}
 use Rattle.dwarf_units.specs.declared.used_name.UsedName.TheVariants.{CallFile, CallLine, StmtList}
 use Rattle.dwarf_units.specs.declared.used_name.UsedName.TheVariants.{StrOffsetsBase, AddrBase}
 use Rattle.dwarf_units.specs.declared.used_name.UsedName.TheVariants.{RnglistsBase}
-use Rattle.dwarf_units.specs.Attributes.{is_used}
-use Rattle.dwarf_units.specs.Private.Names.{name_of, used_names, used_name}
+use Rattle.dwarf_units.specs.{Private.Names.used_names, Private.Used.used_by, Private.Slots.in_slot}
+use Rattle.dwarf_units.specs.Private.Slots.{in_slots}
 use Rattle.std.specs.Option.{option_or}
-use Rattle.dwarf_bytes.specs.declared.fault.Cause.{Cause}
-use Rattle.dwarf_units.specs.declared.attributes.Attribute.{Attribute}
-use Rattle.dwarf_units.specs.declared.attributes.AttributeValue.{AttributeValue}
-use Rattle.dwarf_units.specs.Entries.{value_of}
-use Rattle.dwarf_units.specs.Used.{Used, used_among, value_named}
-use Rattle.dwarf_units.specs.Private.Used.{used_by, with_used, used_after}
-use Rattle.std.proofs.Math.ListN.{set}
-use Rattle.std.proofs.lemmas.List.{get_or-set_same, get_or-set_other}
-use Rattle.dwarf_units.specs.Private.Slots.{slot_of, in_slot, in_slots}
 
 pub named : (name : UsedName) → used_name (name_of name) ≡ Some name
 named name = grind arith

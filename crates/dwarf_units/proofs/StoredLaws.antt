@@ -1,21 +1,12 @@
 -- The cached tables after one more table is added to the permanent ones.
-use Rattle.std.proofs.Common.{take_all, ◌≡◌, ℕ, ◌≤◌, List, [], ◌∷◌, ◌++◌, length, take}
-use Rattle.std.proofs.Common.{length-take-le, refl, arith, ◌⊎◌, ◌+◌, ◌-◌, ◌<◌, length-append}
-use Rattle.std.proofs.Common.{sym}
-use Rattle.std.specs.Prelude.{Some, slice_get}
-use Rattle.std.proofs.lemmas.Grind.{common_steps}
-use Rattle.std.proofs.lemmas.List.{get_or-take}
-use Rattle.std.proofs.lemmas.Option.{slice_get-get_or, slice_get_within, get_or_from_slice_get}
-use Rattle.dwarf_bytes.specs.declared.format.Format.{Format}
-use Rattle.dwarf_forms.proofs.Elements.{at-last}
-use Rattle.dwarf_units.specs.declared.numbers.Numbers.{Numbers}
-use Rattle.dwarf_units.specs.Private.Numbers.{number_at, with_number}
-use Rattle.dwarf_units.specs.Private.AbbreviationTables.{Table, table_size}
-use Rattle.dwarf_units.specs.Private.Tables.{AreElsewhere, AreCached, CachedTables, IsParsedFrom}
-use Rattle.dwarf_units.specs.Private.Tables.{with_table}
+use Rattle.dwarf_units.proofs.Common
+use Common.{take_all, ◌≡◌, ℕ, ◌≤◌, List, [], ◌∷◌, ◌++◌, length, take, length-take-le, refl, arith}
+use Common.{◌⊎◌, ◌+◌, ◌-◌, ◌<◌, length-append, sym, Some, slice_get, common_steps, get_or-take}
+use Common.{slice_get-get_or, slice_get_within, get_or_from_slice_get, Format, at-last, Numbers}
+use Common.{number_at, Table, table_size, AreCached, CachedTables, IsParsedFrom, with_table}
+use Common.{take-append_seam, take-length, sum_by_push}
+use Rattle.dwarf_units.specs.{Private.Numbers.with_number, Private.Tables.AreElsewhere}
 use Rattle.dwarf_units.proofs.TableLaws.{parsed-before, last-at, parsed-after}
-use Rattle.std.proofs.Math.Seq.{take-append_seam, take-length}
-use Rattle.std.proofs.lemmas.List.Sums.{sum_by_push}
 
 -- One index is set.
 abbrev pub Sets : Numbers → Numbers → Format → ℕ → ℕ → Type 0

@@ -1,27 +1,12 @@
 -- Reading the attributes of an entry one by one, and storing the used ones.
-use Rattle.std.proofs.Common.{arith}
-use Rattle.std.proofs.Common.{◌≡◌, ℕ, List, [], ◌∷◌, ◌++◌, Bool, true, false, refl, sym, ◌∙◌}
-use Rattle.std.proofs.Common.{◌⊎◌}
-use Rattle.std.specs.Prelude.{Some, None, Result, Ok, Err}
+use Rattle.dwarf_units.proofs.Common
+use Common.{arith, ◌≡◌, ℕ, List, [], ◌∷◌, ◌++◌, Bool, true, false, refl, sym, ◌∙◌, ◌⊎◌, Some, None}
+use Common.{Result, Ok, Err, Cause, Format, ◌>>=◌, Position, AttributeSpecification, Attribute}
+use Common.{UsedName, is_used, attribute_at, attributes_at, named_attribute, used_name, then_read}
+use Common.{Fills, stored_attributes, stored_attributes_at, Used, used_among, used_after, with_used}
 use Rattle.std.proofs.lemmas.List.Elements.{filter-append}
-use Rattle.dwarf_bytes.specs.declared.fault.Cause.{Cause}
-use Rattle.dwarf_bytes.specs.declared.format.Format.{Format}
-use Rattle.dwarf_bytes.specs.Bind.{◌>>=◌}
 use Rattle.dwarf_bytes.specs.Refusals.{Fails}
-use Rattle.dwarf_bytes.specs.Position.{Position}
-use Rattle.dwarf_forms.specs.declared.attribute.AttributeSpecification.{AttributeSpecification}
-use Rattle.dwarf_units.specs.declared.attributes.Attribute.{Attribute}
-use Rattle.dwarf_units.specs.declared.used_name.UsedName.{UsedName}
-use Rattle.dwarf_units.specs.Attributes.{is_used}
-use Rattle.dwarf_units.specs.Entries.{attribute_at, attributes_at}
-use Rattle.dwarf_units.specs.Private.Names.{named_attribute, used_name}
-use Rattle.dwarf_units.specs.Private.Runs.{then_read}
-use Rattle.dwarf_units.specs.Private.StoredAttributes.{Fills, stored_attributes}
-use Rattle.dwarf_units.specs.Private.StoredAttributes.{stored_attributes_at}
-use Rattle.dwarf_units.specs.Used.{Used, used_among}
-use Rattle.dwarf_units.specs.Private.Used.{used_after, with_used}
-use Rattle.dwarf_units.proofs.SlotLaws.{found-number, used-none, used-some}
-use Rattle.dwarf_units.proofs.SlotLaws.{with-none, with-twice}
+use Rattle.dwarf_units.proofs.SlotLaws.{found-number, used-none, used-some, with-none, with-twice}
 
 -- ---- two lists of attributes
 

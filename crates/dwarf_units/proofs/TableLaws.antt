@@ -1,28 +1,18 @@
 -- The iterations of the loop over the tables of the units.
-use Rattle.std.proofs.Common.{◌≡◌, ℕ, ◌+◌, ◌-◌, ◌<◌, ◌≤◌, ◌⊎◌, inl, inr, List, [], ◌∷◌, ◌++◌}
-use Rattle.std.proofs.Common.{length, take, drop, get_or, refl, sym, ◌∙◌}
-use Rattle.std.proofs.Common.{arith, drop-cons, add-one}
-use Rattle.std.specs.Prelude.{Some, Result, Ok, Err, slice_get, sum_by}
-use Rattle.std.specs.List.{All}
-use Rattle.std.proofs.lemmas.List.Elements.{All-push, All-take}
-use Rattle.std.proofs.lemmas.Option.{slice_get_within, get_or_from_slice_get}
-use Rattle.std.proofs.lemmas.List.Sums.{sum_by-append}
-use Rattle.std.proofs.lemmas.List.{drop_all}
-use Rattle.dwarf_bytes.specs.declared.fault.Section.{Section}
-use Rattle.dwarf_bytes.specs.declared.fault.Section.TheVariants as sections
-use Rattle.dwarf_bytes.specs.declared.fault.LoadFault.{LoadFault}
-use Rattle.dwarf_bytes.specs.Items.{At, each_from}
-use Rattle.dwarf_bytes.specs.Refusals.{memory_fault, in_section}
+use Rattle.dwarf_units.proofs.Common
+use Common.{◌≡◌, ℕ, ◌+◌, ◌-◌, ◌<◌, ◌≤◌, ◌⊎◌, inl, inr, List, [], ◌∷◌, ◌++◌, length, take, drop}
+use Common.{get_or, refl, sym, ◌∙◌, arith, add-one, Some, Result, Ok, Err, slice_get, sum_by, All}
+use Common.{All-push, slice_get_within, get_or_from_slice_get, sum_by-append, drop_all, LoadFault}
+use Common.{memory_fault, in_section, Declaration, UnitHeader, Table, IsParsedFrom}
+use Common.{declarations_limit}
+use Rattle.std.proofs.{Common.drop-cons, lemmas.List.Elements.All-take}
+use Rattle.dwarf_bytes.specs.{declared.fault.Section.Section, Items.{At, each_from}}
 use Rattle.dwarf_bytes.proofs.Items.EachLaws.{made_front, each-next, each-fault, each-end}
 use Rattle.dwarf_bytes.proofs.Items.EachPlaces.{each-place}
-use Rattle.dwarf_forms.specs.Declarations.{Declaration}
 use Rattle.dwarf_forms.specs.Tables.{table_at, declarations_of}
-use Rattle.dwarf_forms.proofs.Elements.{at-end}
-use Rattle.dwarf_forms.proofs.EncodedTables.{table-encoded, table_read}
-use Rattle.dwarf_units.specs.declared.unit_headers.UnitHeader.{UnitHeader}
-use Rattle.dwarf_units.specs.Private.AbbreviationTables.{Table}
-use Rattle.dwarf_units.specs.Private.Tables.{IsParsedFrom}
-use Rattle.dwarf_units.specs.Units.{declarations_limit, tables_of}
+use Rattle.dwarf_forms.proofs.{Elements.at-end, EncodedTables.{table-encoded, table_read}}
+use Rattle.dwarf_units.specs.Units.{tables_of}
+use Rattle.dwarf_bytes.specs.declared.fault.Section.TheVariants as sections
 
 abbrev pub table_for : List ℕ → List (List Declaration) → UnitHeader → Result (List Declaration) At
 table_for section before header = declarations_of (declarations_limit - sum_by length before)
@@ -30,7 +20,8 @@ table_for section before header = declarations_of (declarations_limit - sum_by l
 
 -- The tables of the units before the index are parsed, and `left` declarations remain in the
 -- budget.
-pub record Checked (section : List ℕ) (units : List UnitHeader) (index left : ℕ) : Type 0 where
+pub record AreParsedSoFar (section : List ℕ) (units : List UnitHeader) (index left : ℕ)
+    : Type 0 where
   pub made : List (List Declaration)
   pub counted : left + sum_by length made ≡ declarations_limit
   pub read : made_front made (each_from (table_for section) made (drop index units))
@@ -41,11 +32,11 @@ pub in_section-ok : {X : Type 0} (section : Section) (r : Result X At) (x : X)
 in_section-ok section r x h = grind arith
 
 pub checked-next : (section : List ℕ) (units : List UnitHeader) (index left after : ℕ)
-    (d : UnitHeader) (table : List Declaration) → Checked section units index left
+    (d : UnitHeader) (table : List Declaration) → AreParsedSoFar section units index left
     → index < length units
     → in_section sections.DebugAbbrev (declarations_of left section
     (get_or units index d).abbreviations) ≡ Ok table → after + length table ≡ left
-    → Checked section units (index + 1) after
+    → AreParsedSoFar section units (index + 1) after
 checked-next section units index left after d table so_far within found counted =
     let unit = get_or units index d in
     let budget : declarations_limit - sum_by length so_far.made ≡ left =
@@ -66,7 +57,8 @@ checked-next section units index left after d table so_far within found counted 
     }
 
 pub checked-end : (section : List ℕ) (units : List UnitHeader) (index left : ℕ)
-    → Checked section units index left → length units ≤ index → (tables : List (List Declaration))
+    → AreParsedSoFar section units index left → length units ≤ index
+    → (tables : List (List Declaration))
     × (in_section sections.DebugAbbrev (tables_of section units) ≡ Ok tables)
 unfolding tables_of
 checked-end section units index left so_far past =
@@ -75,7 +67,7 @@ checked-end section units index left so_far past =
     (so_far.made, rw all refl)
 
 pub checked-fault : (section : List ℕ) (units : List UnitHeader) (index left : ℕ) (d : UnitHeader)
-    (fault : LoadFault) → Checked section units index left → index < length units
+    (fault : LoadFault) → AreParsedSoFar section units index left → index < length units
     → (fault ≡ memory_fault) ⊎ (in_section sections.DebugAbbrev
     (declarations_of left section (get_or units index d).abbreviations) ≡ Err fault)
     → (fault ≡ memory_fault) ⊎ (in_section sections.DebugAbbrev (tables_of section units)

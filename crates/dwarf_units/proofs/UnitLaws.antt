@@ -1,19 +1,14 @@
 -- Each unit takes at least one byte, and none extends beyond the end of the section.
-use Rattle.std.proofs.Common.{◌≡◌, ℕ, ◌<◌, ◌≤◌, ◌⊎◌, inl, inr, List, [], ◌∷◌, length}
-use Rattle.std.proofs.Common.{refl, arith, length-take, ◌++◌}
-use Rattle.std.specs.Prelude.{Ok, Err, filter}
-use Rattle.dwarf_bytes.specs.declared.fault.Cause.{Cause}
+use Rattle.dwarf_units.proofs.Common
+use Common.{◌≡◌, ℕ, ◌<◌, ◌≤◌, ◌⊎◌, inl, inr, List, [], ◌∷◌, length, refl, arith, length-take, ◌++◌}
+use Common.{Ok, Err, filter, Cause, LoadFault, Format, Advances, memory_fault, in_section, SoFar}
+use Common.{UnitHeader, is_read, header_at}
+use Rattle.dwarf_bytes.specs.Refusals.{at_item}
+use Rattle.dwarf_bytes.proofs.{Numbers.LengthLaws.initial_length_at-moves, Items.Turns.so-far-item}
+use Rattle.dwarf_bytes.proofs.Items.Turns.{so-far-end, so-far-fault}
+use Rattle.dwarf_units.specs.Units.{header_in, unit_at, headers_of, units_of}
 use Rattle.dwarf_bytes.specs.declared.fault.Cause.TheVariants as causes
 use Rattle.dwarf_bytes.specs.declared.fault.Section.TheVariants as sections
-use Rattle.dwarf_bytes.specs.declared.fault.LoadFault.{LoadFault}
-use Rattle.dwarf_bytes.specs.declared.format.Format.{Format}
-use Rattle.dwarf_bytes.specs.Items.{Advances}
-use Rattle.dwarf_bytes.specs.Refusals.{memory_fault, at_item, in_section}
-use Rattle.dwarf_bytes.proofs.Numbers.LengthLaws.{initial_length_at-moves}
-use Rattle.dwarf_bytes.proofs.Items.Turns.{SoFar, so-far-item, so-far-end, so-far-fault}
-use Rattle.dwarf_units.specs.declared.unit_headers.UnitHeader.{UnitHeader}
-use Rattle.dwarf_units.specs.Units.{is_read, header_in, unit_at}
-use Rattle.dwarf_units.specs.Units.{header_at, headers_of, units_of}
 
 -- A header contains the start of its unit, and the unit ends where the bytes end.
 pub header_in-places : (start : ℕ) (format : Format) (unit : List ℕ) (at : ℕ) (header : UnitHeader)

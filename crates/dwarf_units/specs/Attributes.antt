@@ -1,7 +1,6 @@
 -- The used attributes, and the forms that each may have (DWARF 5, 2.2 and 7.5.4 to 7.5.6).
 use Rattle.std.specs.Prelude.{ℕ, ◌-◌, pos, negsuc, List, [], ◌∷◌, ◌++◌, length, Bool, true, false}
-use Rattle.std.specs.Prelude.{Option, is_some, find, option_map, ◌==◌, ◌&&◌}
-use Rattle.std.specs.Option.{option_map_or}
+use Rattle.std.specs.{Prelude.{Option, is_some, find, option_map, ◌==◌, ◌&&◌}, Option.option_map_or}
 use Rattle.std.specs.List.{list_any}
 use Rattle.dwarf_bytes.specs.declared.constants.TheConstants.{DW_AT_ABSTRACT_ORIGIN}
 use Rattle.dwarf_bytes.specs.declared.constants.TheConstants.{DW_AT_ADDR_BASE, DW_AT_CALL_FILE}
@@ -25,8 +24,8 @@ use Rattle.dwarf_bytes.specs.declared.constants.TheConstants.{DW_FORM_SEC_OFFSET
 use Rattle.dwarf_bytes.specs.declared.constants.TheConstants.{DW_FORM_STRP, DW_FORM_STRX}
 use Rattle.dwarf_bytes.specs.declared.constants.TheConstants.{DW_FORM_STRX1, DW_FORM_STRX2}
 use Rattle.dwarf_bytes.specs.declared.constants.TheConstants.{DW_FORM_STRX3, DW_FORM_STRX4}
-use Rattle.dwarf_bytes.specs.declared.constants.TheConstants.{DW_FORM_UDATA}
-use Rattle.dwarf_bytes.specs.Contents.{Content, Number, Signed, Bytes}
+use Rattle.dwarf_bytes.specs.{declared.constants.TheConstants.DW_FORM_UDATA, Contents.Content}
+use Rattle.dwarf_bytes.specs.Contents.{Number, Signed, Bytes}
 
 -- Forms of class string.
 abbrev pub string_forms : List ℕ

@@ -3,29 +3,22 @@
 use Rattle.std.specs.Prelude.{◌≡◌, ℕ, ◌-◌, ◌<◌, ◌≤◌, List, [], ◌∷◌, length, take, Bool, true, false}
 use Rattle.std.specs.Prelude.{Option, Some, None, Result, Ok, Err, nat_lt, nat_le, ◌==◌, not, ◌&&◌}
 use Rattle.std.specs.Prelude.{if◌then◌else◌, find, count_by, take_while, ok_or, option_map}
-use Rattle.std.specs.Prelude.{slice_index_or}
-use Rattle.std.specs.List.{list_any, filter_map}
+use Rattle.std.specs.{Prelude.slice_index_or, List.{list_any, filter_map}}
 use Rattle.dwarf_bytes.specs.declared.constants.TheConstants.{DW_FORM_INDIRECT}
-use Rattle.dwarf_bytes.specs.declared.fault.Cause.{Cause}
-use Rattle.dwarf_bytes.specs.declared.fault.Cause.TheVariants as causes
-use Rattle.dwarf_bytes.specs.declared.format.Format.{Format}
-use Rattle.dwarf_bytes.specs.declared.form.Form.{Form}
-use Rattle.dwarf_bytes.specs.declared.form.Form.TheVariants.{Direct, ImplicitConst, Indirect}
-use Rattle.dwarf_bytes.specs.Bind.{◌>>=◌}
-use Rattle.dwarf_bytes.specs.Forms.{form_of}
-use Rattle.dwarf_bytes.specs.Items.{Next, Item, End, At, reading, refuse_if, with_offset}
-use Rattle.dwarf_bytes.specs.Items.{items_from}
-use Rattle.dwarf_bytes.specs.Numbers.{uleb_at}
-use Rattle.dwarf_bytes.specs.Words.{cause_of}
+use Rattle.dwarf_bytes.specs.{declared.fault.Cause.Cause, declared.format.Format.Format}
+use Rattle.dwarf_bytes.specs.{declared.form.Form.Form, declared.form.Form.TheVariants.Direct}
+use Rattle.dwarf_bytes.specs.{declared.form.Form.TheVariants.{ImplicitConst, Indirect}, Bind.◌>>=◌}
+use Rattle.dwarf_bytes.specs.{Forms.form_of, Items.{Next, Item, End, At, reading, refuse_if}}
+use Rattle.dwarf_bytes.specs.{Items.{with_offset, items_from}, Numbers.uleb_at, Words.cause_of}
 use Rattle.dwarf_forms.specs.declared.values.ValueFault.{ValueFault}
-use Rattle.dwarf_forms.specs.declared.values.ValueFault.TheVariants as values
 use Rattle.dwarf_forms.specs.declared.attribute.AttributeSpecification.{AttributeSpecification}
-use Rattle.dwarf_forms.specs.Declarations.{Declaration}
-use Rattle.dwarf_forms.specs.Values.{value_at}
+use Rattle.dwarf_forms.specs.{Declarations.Declaration, Values.value_at}
 use Rattle.dwarf_units.specs.declared.unit_headers.UnitHeader.{UnitHeader}
 use Rattle.dwarf_units.specs.declared.attributes.AttributeValue.{AttributeValue}
-use Rattle.dwarf_units.specs.declared.attributes.Attribute.{Attribute}
-use Rattle.dwarf_units.specs.Attributes.{accepts, is_negative_count, number_of}
+use Rattle.dwarf_units.specs.{declared.attributes.Attribute.Attribute, Attributes.accepts}
+use Rattle.dwarf_units.specs.Attributes.{is_negative_count, number_of}
+use Rattle.dwarf_bytes.specs.declared.fault.Cause.TheVariants as causes
+use Rattle.dwarf_forms.specs.declared.values.ValueFault.TheVariants as values
 
 -- An entry (its tag, whether it has children, its attributes) or a null entry. The children of an
 -- entry follow it, up to a null entry.

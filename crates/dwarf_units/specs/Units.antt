@@ -4,17 +4,14 @@ use Rattle.std.specs.Prelude.{None, Result, Ok, nat_lt, nat_le, ◌==◌, not, i
 use Rattle.std.specs.Prelude.{sum_by, ok_or}
 use Rattle.dwarf_bytes.specs.declared.constants.TheConstants.{DW_UT_COMPILE, DW_UT_TYPE}
 use Rattle.dwarf_bytes.specs.declared.constants.TheConstants.{DW_UT_PARTIAL}
-use Rattle.dwarf_bytes.specs.declared.fault.Cause.{Cause}
-use Rattle.dwarf_bytes.specs.declared.fault.Cause.TheVariants as causes
-use Rattle.dwarf_bytes.specs.declared.format.Format.{Format}
-use Rattle.dwarf_bytes.specs.Bind.{◌>>=◌}
+use Rattle.dwarf_bytes.specs.{declared.fault.Cause.Cause, declared.format.Format.Format, Bind.◌>>=◌}
 use Rattle.dwarf_bytes.specs.Items.{Next, Item, End, At, reading, refuse_if, items_from, each}
 use Rattle.dwarf_bytes.specs.Numbers.{u8_at, u16_at, initial_length_at, offset_at}
-use Rattle.dwarf_forms.specs.Declarations.{Declaration}
-use Rattle.dwarf_forms.specs.Tables.{declarations_of}
+use Rattle.dwarf_forms.specs.{Declarations.Declaration, Tables.declarations_of}
 use Rattle.dwarf_units.specs.declared.unit_headers.UnitType.{UnitType}
-use Rattle.dwarf_units.specs.declared.unit_headers.UnitType.TheVariants as types
 use Rattle.dwarf_units.specs.declared.unit_headers.UnitHeader.{UnitHeader}
+use Rattle.dwarf_bytes.specs.declared.fault.Cause.TheVariants as causes
+use Rattle.dwarf_units.specs.declared.unit_headers.UnitType.TheVariants as types
 
 -- The supported unit types (7.5.1, table 7.2). Other units are refused.
 abbrev pub unit_type_of : ℕ → Option UnitType

@@ -1,21 +1,14 @@
 -- The used attributes of an entry by name (DWARF 5, 2.2). If an attribute occurs twice, the first
 -- value counts.
 use Rattle.std.specs.Prelude.{List, Option}
-use Rattle.dwarf_bytes.specs.declared.constants.TheConstants.{
-  DW_AT_ABSTRACT_ORIGIN,
-  DW_AT_ADDR_BASE,
-  DW_AT_CALL_FILE,
-  DW_AT_CALL_LINE,
-  DW_AT_HIGH_PC,
-  DW_AT_LINKAGE_NAME,
-  DW_AT_LOW_PC,
-  DW_AT_NAME,
-  DW_AT_RANGES,
-  DW_AT_RNGLISTS_BASE,
-  DW_AT_SPECIFICATION,
-  DW_AT_STMT_LIST,
-  DW_AT_STR_OFFSETS_BASE,
-}
+use Rattle.dwarf_bytes.specs.declared.constants.TheConstants.{DW_AT_ABSTRACT_ORIGIN}
+use Rattle.dwarf_bytes.specs.declared.constants.TheConstants.{DW_AT_ADDR_BASE, DW_AT_CALL_FILE}
+use Rattle.dwarf_bytes.specs.declared.constants.TheConstants.{DW_AT_CALL_LINE, DW_AT_HIGH_PC}
+use Rattle.dwarf_bytes.specs.declared.constants.TheConstants.{DW_AT_LINKAGE_NAME, DW_AT_LOW_PC}
+use Rattle.dwarf_bytes.specs.declared.constants.TheConstants.{DW_AT_NAME, DW_AT_RANGES}
+use Rattle.dwarf_bytes.specs.declared.constants.TheConstants.{DW_AT_RNGLISTS_BASE}
+use Rattle.dwarf_bytes.specs.declared.constants.TheConstants.{DW_AT_SPECIFICATION, DW_AT_STMT_LIST}
+use Rattle.dwarf_bytes.specs.declared.constants.TheConstants.{DW_AT_STR_OFFSETS_BASE}
 use Rattle.dwarf_units.specs.declared.attributes.Attribute.{Attribute}
 use Rattle.dwarf_units.specs.declared.attributes.AttributeValue.{AttributeValue}
 use Rattle.dwarf_units.specs.declared.used_name.UsedName.{UsedName}

@@ -1,10 +1,9 @@
 //! A run of attributes: attributes of a fixed size, and the attribute after them (DWARF 5, 7.5.3).
 
-ghost use Rattle.std.specs.Prelude.{◌≡◌, ◌++◌, ◌∷◌, [], IfOk, OnOk};
-ghost use Rattle.std.specs.Option.{option_to_list};
+ghost use Rattle.std.specs.{Prelude.{◌≡◌, ◌++◌, ◌∷◌, [], IfOk, OnOk}, Option.option_to_list};
 ghost use Rattle.dwarf_bytes.specs.Refusals.{ReadsPlace};
-ghost use Rattle.dwarf_units.specs.Private.FixedSizes.{attributes_in};
-ghost use Rattle.dwarf_units.specs.Private.Runs.{end_in, last_at, run_at, run_before, stretch_at};
+ghost use Rattle.dwarf_units.specs.{Private.FixedSizes.attributes_in, Private.Runs.end_in};
+ghost use Rattle.dwarf_units.specs.Private.Runs.{last_at, run_at, run_before, stretch_at};
 ghost use Rattle.dwarf_units.specs.Private.StoredAttributes.{Fills, stored_attributes_at};
 ghost use Rattle.dwarf_units.specs.Private.Used.{used_after, with_used};
 

@@ -1,11 +1,9 @@
 //! The attributes of a declaration in runs (DWARF 5, 7.5.3).
 
 ghost use Rattle.std.specs.Prelude.{◌≡◌, IfOk, IfSome, Ok, true};
-ghost use Rattle.dwarf_units.specs.Used.{used_among};
-ghost use Rattle.dwarf_units.specs.Private.FixedSizes.{attributes_in};
+ghost use Rattle.dwarf_units.specs.{Used.used_among, Private.FixedSizes.attributes_in};
 ghost use Rattle.dwarf_units.specs.Private.Runs.{all_at, fixed_size, own_runs, runs_of};
-ghost use Rattle.dwarf_units.specs.Private.StoredAttributes.{Fills};
-ghost use Rattle.dwarf_units.specs.Private.Used.{used_after};
+ghost use Rattle.dwarf_units.specs.{Private.StoredAttributes.Fills, Private.Used.used_after};
 
 use crate::attribute_run::{AttributeRun, Stretch, push_position};
 use crate::fixed_size_values::{FixedSizeValues, indices_of};
@@ -31,8 +29,7 @@ pub(crate) struct AttributeRuns {
 
 impl Model for AttributeRuns {
     ghost use Rattle.std.specs.Prelude.{IfSome};
-    ghost use Rattle.dwarf_units.specs.Private.Runs.{Runs};
-    ghost use Rattle.dwarf_units.specs.Private.Slots.{AreIndices};
+    ghost use Rattle.dwarf_units.specs.{Private.Runs.Runs, Private.Slots.AreIndices};
 
     ghost Value = { Runs };
 

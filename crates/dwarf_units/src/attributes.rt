@@ -2,14 +2,12 @@
 //! 5, 2.2 and 7.5.3 to 7.5.6).
 
 ghost use Rattle.std.specs.Prelude.{◌≡◌};
-ghost use Rattle.dwarf_bytes.specs.Contents.{content_of};
-ghost use Rattle.dwarf_bytes.specs.Refusals.{ReadsField};
-ghost use Rattle.dwarf_bytes.specs.Forms.{form_of};
+ghost use Rattle.dwarf_bytes.specs.{Contents.content_of, Refusals.ReadsField, Forms.form_of};
 ghost use Rattle.dwarf_units.specs.Attributes.{is_used, accepts, is_negative_count, number_of};
 ghost use Rattle.dwarf_units.specs.Attributes.{is_among, string_forms, address_forms, count_forms};
-ghost use Rattle.dwarf_units.specs.Attributes.{reference_forms};
+ghost use Rattle.dwarf_units.specs.{Attributes.reference_forms, Entries.{is_direct, form_at}};
+ghost use Rattle.dwarf_units.specs.Entries.{reading_value, attribute_at};
 ghost use Rattle.dwarf_forms.specs.Values.{value_of as form_value, value_at};
-ghost use Rattle.dwarf_units.specs.Entries.{is_direct, form_at, reading_value, attribute_at};
 
 use dwarf_bytes::constants::*;
 use dwarf_bytes::{Cause, Content, Cursor, Form, Format};

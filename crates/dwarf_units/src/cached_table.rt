@@ -1,17 +1,14 @@
 //! A cached abbreviation table (DWARF 5, 7.5.3).
 
-ghost use Rattle.std.specs.Prelude.{◌≡◌, ℕ, ◌≤◌, ◌+◌, ◌-◌, ◌*◌, ◌^◌, None, length, List};
-ghost use Rattle.std.specs.Prelude.{sum_by, IsTrue, ◌↔◌, IfOk, IfNone, IfSome};
-ghost use Rattle.dwarf_bytes.specs.declared.fault.Section.TheVariants as sections;
-ghost use Rattle.dwarf_bytes.specs.declared.format.Format.{Format};
-ghost use Rattle.dwarf_bytes.specs.Refusals.{Decodes, in_section};
+ghost use Rattle.std.specs.Prelude.{◌≡◌, ℕ, ◌≤◌, ◌+◌, ◌-◌, ◌*◌, ◌^◌, None, length, List, sum_by};
+ghost use Rattle.std.specs.Prelude.{IsTrue, ◌↔◌, IfOk, IfNone, IfSome};
+ghost use Rattle.dwarf_bytes.specs.{declared.format.Format.Format, Refusals.{Decodes, in_section}};
 ghost use Rattle.dwarf_forms.specs.Tables.{declarations_of};
 ghost use Rattle.abbreviation_memo.specs.Declarations.{AreShared, full_declarations};
-ghost use Rattle.dwarf_units.specs.Entries.{declaration_of};
-ghost use Rattle.dwarf_units.specs.Private.AbbreviationTables.{table_size};
+ghost use Rattle.dwarf_units.specs.{Entries.declaration_of, Private.AbbreviationTables.table_size};
 ghost use Rattle.dwarf_units.specs.Private.Runs.{IsDeclaration, own_runs};
-ghost use Rattle.dwarf_units.specs.Private.NodeShapes.{shape_at};
-ghost use Rattle.dwarf_units.specs.Private.Tables.{IsAt};
+ghost use Rattle.dwarf_units.specs.{Private.NodeShapes.shape_at, Private.Tables.IsAt};
+ghost use Rattle.dwarf_bytes.specs.declared.fault.Section.TheVariants as sections;
 
 use crate::attribute_runs::{AttributeRuns, own_runs};
 use crate::linked_lists::LinkedLists;
@@ -39,8 +36,7 @@ pub(crate) struct CachedTable<'a> {
 impl<'a> Model for CachedTable<'a> {
     ghost use Rattle.std.specs.Prelude.{◌≡◌};
     ghost use Rattle.abbreviation_memo.specs.Declarations.{AreShared, full_declarations};
-    ghost use Rattle.dwarf_units.specs.Private.AbbreviationTables.{Table};
-    ghost use Rattle.dwarf_units.specs.Private.Runs.{own_runs};
+    ghost use Rattle.dwarf_units.specs.{Private.AbbreviationTables.Table, Private.Runs.own_runs};
     ghost use Rattle.dwarf_units.specs.Private.NodeShapes.{AreShapes, shape_count};
 
     ghost Value = { Table };

@@ -1,10 +1,9 @@
 //! Reading entries and null entries of a unit (DWARF 5, 2.3, 7.5.2 and 7.5.3).
 
-ghost use Rattle.std.specs.Prelude.{◌≡◌, ◌≤◌, IsSome, IfOk, IfSome, Ok, true, length};
-ghost use Rattle.std.specs.Prelude.{option_map};
+ghost use Rattle.std.specs.Prelude.{◌≡◌, ◌≤◌, IsSome, IfOk, IfSome, Ok, true, length, option_map};
 ghost use Rattle.dwarf_bytes.specs.Refusals.{ReadsField};
-ghost use Rattle.dwarf_units.specs.Entries.{declaration_of, depth_limit};
-ghost use Rattle.dwarf_units.specs.Private.Heads.{head_at, head_in, used_entry_at, ReturnsAndFills};
+ghost use Rattle.dwarf_units.specs.{Entries.{declaration_of, depth_limit}, Private.Heads.head_at};
+ghost use Rattle.dwarf_units.specs.Private.Heads.{head_in, used_entry_at, ReturnsAndFills};
 ghost use Rattle.dwarf_units.specs.Private.StoredAttributes.{Fills};
 ghost use Rattle.dwarf_units.specs.Private.Used.{used_attributes_at};
 
@@ -41,10 +40,8 @@ pub struct EntryHead<'a> {
 
 impl<'a> Model for EntryHead<'a> {
     ghost use Rattle.std.specs.Prelude.{◌≡◌, IfSome};
-    ghost use Rattle.abbreviation_memo.specs.Declarations.{full_declaration};
-    ghost use Rattle.abbreviation_memo.specs.Lists.{IsListAt};
-    ghost use Rattle.dwarf_units.specs.Private.Heads.{Head};
-    ghost use Rattle.dwarf_units.specs.Private.Runs.{runs_of};
+    ghost use Rattle.abbreviation_memo.specs.{Declarations.full_declaration, Lists.IsListAt};
+    ghost use Rattle.dwarf_units.specs.{Private.Heads.Head, Private.Runs.runs_of};
 
     ghost Value = { Head };
 

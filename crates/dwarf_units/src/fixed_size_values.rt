@@ -1,8 +1,7 @@
 //! The used attributes of an entry whose attributes all have a fixed size (DWARF 5, 7.5.3).
 
 ghost use Rattle.std.specs.Prelude.{◌≡◌, IfSome};
-ghost use Rattle.dwarf_units.specs.Used.{used_among};
-ghost use Rattle.dwarf_units.specs.Private.FixedSizes.{attributes_in};
+ghost use Rattle.dwarf_units.specs.{Used.used_among, Private.FixedSizes.attributes_in};
 ghost use Rattle.dwarf_units.specs.Private.Slots.{AreIndices, index_in};
 
 use crate::attributes::AttributeValue;
@@ -24,13 +23,13 @@ pub struct FixedSizeValues<'a> {
 }
 
 impl<'a> Model for FixedSizeValues<'a> {
-    ghost use Rattle.dwarf_units.specs.Used.{Used, used_among};
-    ghost use Rattle.dwarf_units.specs.Private.FixedSizes.{attributes_in};
+    ghost use Rattle.dwarf_units.specs.{Used.{Used, used_among}, Private.FixedSizes.attributes_in};
     ghost use Rattle.dwarf_units.specs.Private.Slots.{AreIndices};
 
     ghost Value = { Used };
 
-    ghost view = { λ v. used_among (attributes_in v.format v.first.bytes v.first.place v.used.now) };
+    ghost view = { λ v. used_among (attributes_in v.format v.first.bytes v.first.place
+        v.used.now) };
 
     ghost invariant = { λ v. AreIndices v.used.now v.indices.now };
 }

@@ -2,8 +2,7 @@
 
 ghost use Rattle.std.specs.Prelude.{◌≡◌, ℕ, List, [], Some, Ok, map, slice_get, take};
 ghost use Rattle.std.specs.List.Sorted.{IsStrictlyIncreasing};
-ghost use Rattle.dwarf_bytes.specs.declared.format.Format.{Format};
-ghost use Rattle.dwarf_bytes.specs.Items.{items_from};
+ghost use Rattle.dwarf_bytes.specs.{declared.format.Format.Format, Items.items_from};
 ghost use Rattle.dwarf_forms.specs.Declarations.{Declaration};
 ghost use Rattle.dwarf_units.specs.declared.unit_headers.UnitHeader.{UnitHeader};
 ghost use Rattle.dwarf_units.specs.Entries.{LocatedNode, Die, AreDepths, node_at, entry_at};

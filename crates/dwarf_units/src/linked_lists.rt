@@ -1,7 +1,6 @@
 //! The attribute lists that declarations share, with links that skip attributes of no bytes.
 
 ghost use Rattle.std.specs.Prelude.{◌≡◌, ◌+◌, IfOk, IfSome, IsOk, length};
-ghost use Rattle.dwarf_bytes.specs.declared.fault.Section.TheVariants as sections;
 ghost use Rattle.dwarf_bytes.specs.Refusals.{Decodes, in_section};
 ghost use Rattle.dwarf_forms.specs.Tables.{declarations_of};
 ghost use Rattle.abbreviation_memo.specs.Lists.{IsListAt, list_at, rest_attributes};
@@ -9,6 +8,7 @@ ghost use Rattle.abbreviation_memo.specs.Declarations.{AreShared, full_declarati
 ghost use Rattle.dwarf_units.specs.Private.Links.{AreLinks, IsLink, is_empty_unused};
 ghost use Rattle.dwarf_units.specs.Private.StoredAttributes.{Fills, stored_attributes_at};
 ghost use Rattle.dwarf_units.specs.Private.Used.{used_after};
+ghost use Rattle.dwarf_bytes.specs.declared.fault.Section.TheVariants as sections;
 
 use crate::attribute_run::read_one;
 use crate::attributes::is_used;

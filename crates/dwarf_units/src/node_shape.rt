@@ -2,12 +2,10 @@
 //! 5, 7.5.2 and 7.5.3).
 
 ghost use Rattle.std.specs.Prelude.{◌≡◌, ℕ, List, IfOk};
-ghost use Rattle.abbreviation_memo.specs.Declarations.{IsShared};
-ghost use Rattle.abbreviation_memo.specs.Declarations.{AreShared, full_declaration};
+ghost use Rattle.abbreviation_memo.specs.Declarations.{IsShared, AreShared, full_declaration};
 ghost use Rattle.abbreviation_memo.specs.Declarations.{full_declarations};
 ghost use Rattle.dwarf_bytes.specs.declared.format.Format.{Format};
-ghost use Rattle.dwarf_units.specs.Private.Runs.{own_runs, runs_of};
-ghost use Rattle.dwarf_units.specs.Private.NodeShapes.{AreShapes};
+ghost use Rattle.dwarf_units.specs.{Private.Runs.{own_runs, runs_of}, Private.NodeShapes.AreShapes};
 ghost use Rattle.dwarf_units.specs.Private.NodeShapes.{shape_of, shape_of_code, shape_count};
 
 use crate::attribute_runs::AttributeRuns;

@@ -1,10 +1,10 @@
 //! The cache of abbreviation tables, indexed by number.
 
-ghost use Rattle.std.specs.Prelude.{◌≡◌, ◌++◌, ◌∷◌, ◌<◌, [], Some, take, length, nat_lt};
-ghost use Rattle.std.specs.Prelude.{slice_get, IsTrue, IfOk, IfNone, IfSome, OnErr, ◌↔◌};
+ghost use Rattle.std.specs.Prelude.{◌≡◌, ◌++◌, ◌∷◌, ◌<◌, [], Some, take, length, nat_lt, slice_get};
+ghost use Rattle.std.specs.Prelude.{IsTrue, IfOk, IfNone, IfSome, OnErr, ◌↔◌};
 ghost use Rattle.dwarf_units.specs.Private.Tables.{AreElsewhere, IsCachedOrTooLarge, IsIndexOf};
-ghost use Rattle.dwarf_units.specs.Private.Tables.{IsTableAt};
-ghost use Rattle.dwarf_units.specs.Private.Tables.{IsParsedFrom, IsWithinLimit, with_table};
+ghost use Rattle.dwarf_units.specs.Private.Tables.{IsTableAt, IsParsedFrom, IsWithinLimit};
+ghost use Rattle.dwarf_units.specs.Private.Tables.{with_table};
 
 use crate::cached_table::CachedTable;
 use crate::numbers::Numbers;

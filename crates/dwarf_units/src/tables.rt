@@ -1,16 +1,15 @@
 //! A cache of the abbreviation tables of all units (DWARF 5, 7.5.3).
 
-ghost use Rattle.std.specs.Prelude.{◌≡◌, ℕ, ◌+◌, ◌<◌, ◌≤◌, List, Some, Ok, length};
-ghost use Rattle.std.specs.Prelude.{nat_lt, slice_get, IfOk, OnOk, IfSome, IfNone, IsTrue};
-ghost use Rattle.std.specs.List.{All};
-ghost use Rattle.dwarf_bytes.specs.declared.fault.Section.TheVariants as sections;
+ghost use Rattle.std.specs.Prelude.{◌≡◌, ℕ, ◌+◌, ◌<◌, ◌≤◌, List, Some, Ok, length, nat_lt};
+ghost use Rattle.std.specs.{Prelude.{slice_get, IfOk, OnOk, IfSome, IfNone, IsTrue}, List.All};
 ghost use Rattle.dwarf_bytes.specs.Refusals.{in_section};
 ghost use Rattle.dwarf_forms.specs.Declarations.{Declaration};
 ghost use Rattle.dwarf_units.specs.Units.{declarations_limit, tables_of};
-ghost use Rattle.dwarf_units.specs.Private.AbbreviationTables.{Table};
-ghost use Rattle.dwarf_units.specs.Private.Tables.{AreElsewhere, IsAdded, IsAt, IsNumberOf};
-ghost use Rattle.dwarf_units.specs.Private.Tables.{IsWithinLimit, Refuses, IsCachedOrTooLarge};
-ghost use Rattle.dwarf_units.specs.Private.Tables.{StaysCached, table_read, with_table};
+ghost use Rattle.dwarf_units.specs.{Private.AbbreviationTables.Table, Private.Tables.AreElsewhere};
+ghost use Rattle.dwarf_units.specs.Private.Tables.{IsAdded, IsAt, IsNumberOf, IsWithinLimit};
+ghost use Rattle.dwarf_units.specs.Private.Tables.{Refuses, IsCachedOrTooLarge, StaysCached};
+ghost use Rattle.dwarf_units.specs.Private.Tables.{table_read, with_table};
+ghost use Rattle.dwarf_bytes.specs.declared.fault.Section.TheVariants as sections;
 
 use crate::cached_table::CachedTable;
 use crate::linked_lists::LinkedLists;

@@ -1,10 +1,10 @@
 //! Unit headers (DWARF 5, 7.5.1).
 
 ghost use Rattle.std.specs.Prelude.{◌≡◌, ◌≤◌, ◌+◌, [], length, nat_lt};
-ghost use Rattle.dwarf_bytes.specs.declared.fault.Section.TheVariants as sections;
 ghost use Rattle.dwarf_bytes.specs.Refusals.{Decodes, in_section};
 ghost use Rattle.dwarf_units.specs.Units.{unit_type_of, is_read_type, is_read, header_in, unit_at};
 ghost use Rattle.dwarf_units.specs.Units.{headers_of, units_of};
+ghost use Rattle.dwarf_bytes.specs.declared.fault.Section.TheVariants as sections;
 
 use dwarf_bytes::constants::{DW_UT_COMPILE, DW_UT_PARTIAL, DW_UT_TYPE};
 use dwarf_bytes::{Cause, Cursor, Format, LoadFault, Section};

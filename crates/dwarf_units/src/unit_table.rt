@@ -1,8 +1,8 @@
 //! The abbreviation table of one unit (DWARF 5, 7.5.3).
 
 ghost use Rattle.std.specs.Prelude.{◌≡◌, ◌<◌, ◌≤◌, IfSome};
-ghost use Rattle.dwarf_units.specs.Entries.{depth_limit};
-ghost use Rattle.dwarf_units.specs.Private.NodeShapes.{IsFixedSizeNode, fixed_size_node_at};
+ghost use Rattle.dwarf_units.specs.{Entries.depth_limit, Private.NodeShapes.IsFixedSizeNode};
+ghost use Rattle.dwarf_units.specs.Private.NodeShapes.{fixed_size_node_at};
 
 use crate::cached_table::CachedTable;
 use crate::entry_head::DEPTH_LIMIT;

@@ -1,8 +1,7 @@
 //! The used attributes of an entry, by name (DWARF 5, 2.2).
 
 ghost use Rattle.std.specs.Prelude.{◌≡◌, ◌∷◌, []};
-ghost use Rattle.dwarf_units.specs.Private.Names.{named_attribute};
-ghost use Rattle.dwarf_units.specs.Used.{used_among};
+ghost use Rattle.dwarf_units.specs.{Private.Names.named_attribute, Used.used_among};
 ghost use Rattle.dwarf_units.specs.Private.Used.{with_used};
 
 use crate::attributes::AttributeValue;
@@ -21,8 +20,7 @@ pub struct UsedAttributes {
 }
 
 impl Model for UsedAttributes {
-    ghost use Rattle.dwarf_units.specs.Private.Slots.{in_slots};
-    ghost use Rattle.dwarf_units.specs.Used.{Used};
+    ghost use Rattle.dwarf_units.specs.{Private.Slots.in_slots, Used.Used};
 
     ghost Value = { Used };
 

@@ -5,8 +5,7 @@ ghost use Rattle.std.specs.Prelude.{◌≡◌};
 ghost use Rattle.dwarf_bytes.specs.Refusals.{ReadsField};
 ghost use Rattle.dwarf_units.specs.Private.FixedSizes.{attribute_in, constant_number, number_after};
 ghost use Rattle.dwarf_units.specs.Private.FixedSizes.{number_at, number_in, used_position};
-ghost use Rattle.dwarf_units.specs.Private.FixedSizes.{used_value};
-ghost use Rattle.dwarf_units.specs.Private.Names.{named_attribute};
+ghost use Rattle.dwarf_units.specs.{Private.FixedSizes.used_value, Private.Names.named_attribute};
 
 use crate::attributes::{AttributeValue, number_of};
 use crate::used_name::UsedName;

@@ -1,19 +1,14 @@
 -- The entry at an offset of a unit, either without its attributes or with the used ones only.
 use Rattle.std.specs.Prelude.{◌≡◌, ℕ, List, Bool, true, Option, Some, None, Result, Ok, Err, nat_lt}
 use Rattle.std.specs.Prelude.{◌==◌, ◌&&◌, if◌then◌else◌, ok_or}
-use Rattle.dwarf_bytes.specs.declared.fault.Cause.{Cause}
-use Rattle.dwarf_bytes.specs.declared.fault.Cause.TheVariants as causes
-use Rattle.dwarf_bytes.specs.declared.format.Format.{Format}
-use Rattle.dwarf_bytes.specs.Bind.{◌>>=◌}
-use Rattle.dwarf_bytes.specs.Items.{reading, refuse_if}
-use Rattle.dwarf_bytes.specs.Numbers.{uleb_at}
-use Rattle.dwarf_forms.specs.Declarations.{Declaration}
-use Rattle.dwarf_bytes.specs.Position.{Position}
+use Rattle.dwarf_bytes.specs.{declared.fault.Cause.Cause, declared.format.Format.Format, Bind.◌>>=◌}
+use Rattle.dwarf_bytes.specs.{Items.{reading, refuse_if}, Numbers.uleb_at, Position.Position}
 use Rattle.dwarf_bytes.specs.Refusals.{Fails}
+use Rattle.dwarf_forms.specs.Declarations.{Declaration}
 use Rattle.dwarf_units.specs.Entries.{depth_limit, declaration_of, entry_at}
 use Rattle.dwarf_units.specs.Private.AbbreviationTables.{Table}
-use Rattle.dwarf_units.specs.Private.StoredAttributes.{stored_attributes}
-use Rattle.dwarf_units.specs.Used.{Used, used_among}
+use Rattle.dwarf_units.specs.{Private.StoredAttributes.stored_attributes, Used.{Used, used_among}}
+use Rattle.dwarf_bytes.specs.declared.fault.Cause.TheVariants as causes
 
 -- The declaration of an entry in a unit of a format.
 pub record Head : Type 0 where

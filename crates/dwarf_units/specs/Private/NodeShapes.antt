@@ -1,14 +1,13 @@
 -- Nodes of a fixed size: null entries, and entries whose attributes all have a fixed size.
-use Rattle.std.specs.Prelude.{◌≡◌, ℕ, ◌+◌, min, List, length, true, false, ◌==◌}
-use Rattle.std.specs.Prelude.{◌||◌, nat_lt, Option, Some, None, Ok, if◌then◌else◌}
-use Rattle.std.specs.Prelude.{option_and_then, option_map, slice_get}
+use Rattle.std.specs.Prelude.{◌≡◌, ℕ, ◌+◌, min, List, length, true, false, ◌==◌, ◌||◌, nat_lt}
+use Rattle.std.specs.Prelude.{Option, Some, None, Ok, if◌then◌else◌, option_and_then, option_map}
+use Rattle.std.specs.Prelude.{slice_get}
 use Rattle.dwarf_bytes.specs.declared.format.Format.{Format}
 use Rattle.abbreviation_memo.specs.declared.shared.TheConstants.{UNSHARED}
 use Rattle.dwarf_forms.specs.Declarations.{Declaration}
-use Rattle.dwarf_units.specs.declared.node_shape.NodeShape.{NodeShape}
-use Rattle.dwarf_units.specs.Entries.{Node, declaration_of, depth_limit, node_at_depth}
-use Rattle.dwarf_units.specs.NodeShapes.{HasShape, null_shape}
-use Rattle.dwarf_units.specs.Private.Runs.{fixed_size, runs_of}
+use Rattle.dwarf_units.specs.{declared.node_shape.NodeShape.NodeShape, Entries.Node}
+use Rattle.dwarf_units.specs.Entries.{declaration_of, depth_limit, node_at_depth}
+use Rattle.dwarf_units.specs.{NodeShapes.{HasShape, null_shape}, Private.Runs.{fixed_size, runs_of}}
 use Rattle.dwarf_units.specs.Private.AbbreviationTables.{Table}
 
 -- The shape of the entries of a declaration, if their size is fixed. A declaration with UNSHARED

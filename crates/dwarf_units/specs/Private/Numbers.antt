@@ -1,7 +1,6 @@
 -- The index of each cached table, as a map from a format and an offset.
 use Rattle.std.specs.Prelude.{ℕ, Bool, true, false, Option, Some, ◌==◌, ◌&&◌, if◌then◌else◌}
-use Rattle.std.specs.BTreeMap.{get}
-use Rattle.std.specs.Ordering.{nat_cmp}
+use Rattle.std.specs.{BTreeMap.get, Ordering.nat_cmp}
 use Rattle.dwarf_bytes.specs.declared.format.Format.{Format}
 use Rattle.dwarf_bytes.specs.declared.format.Format.TheVariants.{Dwarf32, Dwarf64}
 use Rattle.dwarf_units.specs.declared.numbers.Numbers.{Numbers}

@@ -1,8 +1,6 @@
 -- The used attributes of an entry in slots, one for each name.
-use Rattle.std.specs.Prelude.{◌≡◌, ℕ, ◌<◌, List, Bool, false, Option, ◌==◌, length}
-use Rattle.std.specs.Prelude.{slice_index_or}
-use Rattle.std.specs.List.{position_or_len}
-use Rattle.std.specs.Bool.{then_some}
+use Rattle.std.specs.Prelude.{◌≡◌, ℕ, ◌<◌, List, Bool, false, Option, ◌==◌, length, slice_index_or}
+use Rattle.std.specs.{List.position_or_len, Bool.then_some}
 use Rattle.dwarf_units.specs.declared.attributes.AttributeValue.{AttributeValue}
 use Rattle.dwarf_units.specs.declared.used_name.UsedName.{UsedName}
 use Rattle.dwarf_units.specs.declared.used_position.UsedPosition.{UsedPosition}
@@ -11,8 +9,7 @@ use Rattle.dwarf_units.specs.declared.used_name.UsedName.TheVariants.{AbstractOr
 use Rattle.dwarf_units.specs.declared.used_name.UsedName.TheVariants.{Specification, Ranges}
 use Rattle.dwarf_units.specs.declared.used_name.UsedName.TheVariants.{CallFile, CallLine, StmtList}
 use Rattle.dwarf_units.specs.declared.used_name.UsedName.TheVariants.{StrOffsetsBase, AddrBase}
-use Rattle.dwarf_units.specs.declared.used_name.UsedName.TheVariants.{RnglistsBase}
-use Rattle.dwarf_units.specs.Used.{Used}
+use Rattle.dwarf_units.specs.{declared.used_name.UsedName.TheVariants.RnglistsBase, Used.Used}
 use Rattle.dwarf_units.specs.Private.Used.{used_by}
 
 -- The slot of a name.

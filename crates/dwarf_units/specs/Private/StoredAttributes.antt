@@ -1,13 +1,9 @@
 -- The attributes of an entry that are stored when it is read: the used ones, or none.
 use Rattle.std.specs.Prelude.{◌≡◌, ℕ, List, [], Bool, Result, Ok, Err, filter, if◌then◌else◌}
-use Rattle.dwarf_bytes.specs.declared.fault.Cause.{Cause}
-use Rattle.dwarf_bytes.specs.declared.format.Format.{Format}
-use Rattle.dwarf_bytes.specs.Bind.{◌>>=◌}
-use Rattle.dwarf_bytes.specs.Position.{Position}
-use Rattle.dwarf_bytes.specs.Refusals.{Fails}
+use Rattle.dwarf_bytes.specs.{declared.fault.Cause.Cause, declared.format.Format.Format, Bind.◌>>=◌}
+use Rattle.dwarf_bytes.specs.{Position.Position, Refusals.Fails}
 use Rattle.dwarf_forms.specs.declared.attribute.AttributeSpecification.{AttributeSpecification}
-use Rattle.dwarf_units.specs.declared.attributes.Attribute.{Attribute}
-use Rattle.dwarf_units.specs.Attributes.{is_used}
+use Rattle.dwarf_units.specs.{declared.attributes.Attribute.Attribute, Attributes.is_used}
 use Rattle.dwarf_units.specs.Entries.{attributes_at}
 
 abbrev pub stored_attributes : Bool → List Attribute → List Attribute

@@ -1,19 +1,15 @@
 -- The cached tables of units, for the contracts of the functions that decode by them.
 use Rattle.std.specs.Prelude.{◌≡◌, ℕ, ◌⊎◌, ◌+◌, ◌*◌, ◌<◌, ◌≤◌, List, [], ◌∷◌, ◌++◌, length, take}
 use Rattle.std.specs.Prelude.{Some, Result, Ok, Err, IfErr, nat_le, if◌then◌else◌, slice_get}
-use Rattle.std.specs.Prelude.{sum_by}
-use Rattle.std.specs.List.{All}
-use Rattle.dwarf_bytes.specs.declared.format.Format.{Format}
-use Rattle.dwarf_bytes.specs.declared.fault.Section.TheVariants as sections
-use Rattle.dwarf_bytes.specs.declared.fault.LoadFault.{LoadFault}
+use Rattle.std.specs.{Prelude.sum_by, List.All}
+use Rattle.dwarf_bytes.specs.{declared.format.Format.Format, declared.fault.LoadFault.LoadFault}
 use Rattle.dwarf_bytes.specs.Refusals.{in_section, memory_fault}
-use Rattle.dwarf_forms.specs.Declarations.{Declaration}
-use Rattle.dwarf_forms.specs.Tables.{declarations_of}
+use Rattle.dwarf_forms.specs.{Declarations.Declaration, Tables.declarations_of}
 use Rattle.dwarf_units.specs.declared.unit_headers.UnitHeader.{UnitHeader}
-use Rattle.dwarf_units.specs.declared.numbers.Numbers.{Numbers}
-use Rattle.dwarf_units.specs.Units.{declarations_limit}
-use Rattle.dwarf_units.specs.Private.Numbers.{number_at}
-use Rattle.dwarf_units.specs.Private.AbbreviationTables.{Table, table_size}
+use Rattle.dwarf_units.specs.{declared.numbers.Numbers.Numbers, Units.declarations_limit}
+use Rattle.dwarf_units.specs.{Private.Numbers.number_at, Private.AbbreviationTables.Table}
+use Rattle.dwarf_units.specs.Private.AbbreviationTables.{table_size}
+use Rattle.dwarf_bytes.specs.declared.fault.Section.TheVariants as sections
 
 -- The tables of a section by index, and the number of those that are cached permanently. A table
 -- after them is the last one that was parsed.

@@ -1,9 +1,6 @@
 -- The used attributes of an entry as they are added one by one.
-use Rattle.std.specs.Prelude.{ℕ, List, Bool, Option, Result, Ok, Err}
-use Rattle.std.specs.Option.{option_or}
-use Rattle.dwarf_bytes.specs.declared.fault.Cause.{Cause}
-use Rattle.dwarf_bytes.specs.declared.format.Format.{Format}
-use Rattle.dwarf_bytes.specs.Bind.{◌>>=◌}
+use Rattle.std.specs.{Prelude.{ℕ, List, Bool, Option, Result, Ok, Err}, Option.option_or}
+use Rattle.dwarf_bytes.specs.{declared.fault.Cause.Cause, declared.format.Format.Format, Bind.◌>>=◌}
 use Rattle.dwarf_forms.specs.declared.attribute.AttributeSpecification.{AttributeSpecification}
 use Rattle.dwarf_units.specs.declared.attributes.Attribute.{Attribute}
 use Rattle.dwarf_units.specs.declared.attributes.AttributeValue.{AttributeValue}
@@ -14,10 +11,8 @@ use Rattle.dwarf_units.specs.declared.used_name.UsedName.TheVariants.{Specificat
 use Rattle.dwarf_units.specs.declared.used_name.UsedName.TheVariants.{CallFile, CallLine, StmtList}
 use Rattle.dwarf_units.specs.declared.used_name.UsedName.TheVariants.{StrOffsetsBase, AddrBase}
 use Rattle.dwarf_units.specs.declared.used_name.UsedName.TheVariants.{RnglistsBase}
-use Rattle.dwarf_units.specs.Entries.{value_of}
-use Rattle.dwarf_units.specs.Used.{Used, used_among, value_named}
-use Rattle.dwarf_units.specs.Private.Names.{name_of}
-use Rattle.dwarf_units.specs.Private.StoredAttributes.{stored_attributes_at}
+use Rattle.dwarf_units.specs.{Entries.value_of, Used.{Used, used_among, value_named}}
+use Rattle.dwarf_units.specs.{Private.Names.name_of, Private.StoredAttributes.stored_attributes_at}
 
 -- The used attributes, built from a function of the name.
 abbrev pub used_by : (UsedName → Option AttributeValue) → Used

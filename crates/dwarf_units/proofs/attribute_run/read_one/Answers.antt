@@ -1,7 +1,5 @@
-use Rattle.std.proofs.Common.{sym, ◌∙◌, inl, inr}
-use Rattle.std.proofs.lemmas.Result.{err_from_is_err_and}
-use Rattle.dwarf_bytes.proofs.Items.Turns.{None-from-no-Some}
-use Rattle.dwarf_units.proofs.StoredReads.{one-fault, one-left, one-stored}
+use Rattle.dwarf_units.proofs.{sym, ◌∙◌, inl, inr, err_from_is_err_and, None-from-no-Some}
+use Rattle.dwarf_units.proofs.{one-fault, one-left, one-stored}
 use Rattle.dwarf_units.proofs.attribute_run.read_one.Goals as goal
 
 pub returns-in_err-attribute : goal.returns-in_err-attribute

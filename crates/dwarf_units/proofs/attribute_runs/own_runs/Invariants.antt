@@ -1,5 +1,4 @@
-use Rattle.std.proofs.Common.{◌≡◌, take}
-use Rattle.dwarf_units.specs.Private.Runs.{own_runs}
+use Rattle.dwarf_units.proofs.{◌≡◌, take, own_runs}
 use Rattle.dwarf_units.proofs.attribute_runs.own_runs.Given as goal
 
 abbrev pub invariant-loop-declaration : goal.invariant-loop-declaration

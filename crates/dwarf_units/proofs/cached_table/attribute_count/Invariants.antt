@@ -1,4 +1,5 @@
-use Rattle.std.specs.Prelude.{◌≡◌, ◌≤◌, ◌*◌, ◌-◌, ◌^◌, length, take, sum_by}
+use Rattle.dwarf_units.proofs.{◌≡◌, ◌≤◌, ◌*◌, ◌-◌, length, take, sum_by}
+use Rattle.std.proofs.Common.{◌^◌}
 use Rattle.dwarf_units.proofs.cached_table.attribute_count.Given as goal
 
 abbrev pub invariant-loop-declaration : goal.invariant-loop-declaration

@@ -1,9 +1,7 @@
-use Rattle.std.proofs.Common.{◌≡◌, List, ap, sym, ◌∙◌}
-use Rattle.std.specs.Prelude.{Some, None, find, slice_get, option_copied, ◌==◌}
-use Rattle.abbreviation_memo.specs.Declarations.{IsShared, SharedDeclaration}
-use Rattle.dwarf_forms.proofs.Codes.{find-place, got}
-use Rattle.dwarf_units.specs.Private.Runs.{runs_of}
-use Rattle.dwarf_units.proofs.SharedTableLaws.{all-found, at-place, found-full}
+use Rattle.dwarf_units.proofs
+use proofs.{◌≡◌, List, ap, sym, ◌∙◌, Some, None, find, slice_get, option_copied, ◌==◌, IsShared}
+use proofs.{SharedDeclaration, got, runs_of, all-found, at-place, found-full}
+use Rattle.dwarf_forms.proofs.Codes.{find-place}
 use Rattle.dwarf_units.proofs.cached_table.declaration_and_runs.Goals as goal
 
 pub returns-in_err-place-clause-none : goal.returns-in_err-place-clause-none

@@ -1,5 +1,4 @@
-use Rattle.std.proofs.Common.{◌≡◌, ◌+◌, ◌-◌, length, drop}
-use Rattle.dwarf_units.specs.Private.Slots.{index_in}
+use Rattle.dwarf_units.proofs.{◌≡◌, ◌+◌, ◌-◌, length, drop, index_in}
 use Rattle.dwarf_units.proofs.fixed_size_values.index_in.Given as goal
 
 abbrev pub invariant-loop-index : goal.invariant-loop-index

@@ -1,6 +1,5 @@
-use Rattle.std.proofs.Common.{◌≡◌, ℕ, ◌<◌, length}
-use Rattle.std.specs.Prelude.{slice_index_or}
-use Rattle.dwarf_units.specs.Private.Slots.{index_in}
+use Rattle.dwarf_units.proofs.{◌≡◌, ℕ, ◌<◌, length, index_in}
+use Rattle.std.proofs.Common.{slice_index_or}
 use Rattle.dwarf_units.proofs.fixed_size_values.indices_of.Given as goal
 
 abbrev pub invariant-loop-slot : goal.invariant-loop-slot

@@ -1,5 +1,5 @@
+use Rattle.dwarf_units.proofs.{IsLink}
 use Rattle.abbreviation_memo.proofs.MapLaws.{entries-put, entries-same}
-use Rattle.dwarf_units.specs.Private.Links.{IsLink}
 use Rattle.dwarf_units.proofs.linked_lists.link_all.Goals as goal
 
 pub link_of-requires-clause-valid : goal.link_of-requires-clause-valid

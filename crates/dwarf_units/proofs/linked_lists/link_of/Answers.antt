@@ -1,5 +1,4 @@
-use Rattle.std.proofs.Common.{sym, ◌∙◌}
-use Rattle.dwarf_units.proofs.LinkLaws.{link-next, link-start}
+use Rattle.dwarf_units.proofs.{sym, ◌∙◌, link-next, link-start}
 use Rattle.dwarf_units.proofs.linked_lists.link_of.Goals as goal
 
 pub returns-in-Some-clause-link : goal.returns-in-Some-clause-link

@@ -1,5 +1,4 @@
-use Rattle.std.proofs.Common.{refl}
-use Rattle.std.proofs.lemmas.Bool.{ne_eqb}
+use Rattle.dwarf_units.proofs.{refl, ne_eqb}
 use Rattle.dwarf_units.proofs.node_shape.shape_of_code.Goals as goal
 
 pub returns-in_err-declaration : goal.returns-in_err-declaration

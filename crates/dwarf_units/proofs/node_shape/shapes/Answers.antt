@@ -1,8 +1,7 @@
-use Rattle.std.proofs.Common.{◌≡◌, ◌+◌, ℕ, List, length, ap, ◌∙◌, arith}
-use Rattle.std.specs.Prelude.{min}
-use Rattle.abbreviation_memo.specs.Declarations.{SharedDeclaration, full_declarations}
+use Rattle.dwarf_units.proofs.{◌≡◌, ◌+◌, ℕ, List, length, ap, ◌∙◌, arith, SharedDeclaration}
+use Rattle.dwarf_units.proofs.{full_declarations, shapes-more}
+use Rattle.std.proofs.Common.{min}
 use Rattle.dwarf_units.specs.Private.NodeShapes.{shape_count}
-use Rattle.dwarf_units.proofs.NodeShapes.{shapes-more}
 use Rattle.dwarf_units.proofs.node_shape.shapes.Goals as goal
 
 pub loop-code-preserved : goal.loop-code-preserved

@@ -1,8 +1,5 @@
-use Rattle.std.proofs.Common.{◌≡◌, List, ℕ}
-use Rattle.dwarf_bytes.specs.declared.format.Format.{Format}
-use Rattle.abbreviation_memo.specs.Declarations.{AreShared, full_declarations}
-use Rattle.dwarf_units.specs.Private.Runs.{own_runs}
-use Rattle.dwarf_units.specs.Private.NodeShapes.{AreShapes}
+use Rattle.dwarf_units.proofs
+use proofs.{◌≡◌, List, ℕ, Format, AreShared, full_declarations, own_runs, AreShapes}
 use Rattle.dwarf_units.proofs.node_shape.shapes.Given as goal
 
 abbrev pub invariant-loop-code : goal.invariant-loop-code

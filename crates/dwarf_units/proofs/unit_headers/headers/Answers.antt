@@ -1,5 +1,4 @@
-use Rattle.std.proofs.Common.{arith, sym}
-use Rattle.dwarf_units.proofs.UnitLaws.{unit_at-moves, units-item, units-end, units-fault}
+use Rattle.dwarf_units.proofs.{arith, sym, unit_at-moves, units-item, units-end, units-fault}
 use Rattle.dwarf_units.proofs.unit_headers.headers.Goals as goal
 
 pub returns-in-Err : goal.returns-in-Err

@@ -1,6 +1,4 @@
-use Rattle.std.proofs.Common.{◌≤◌, ◌-◌, length}
-use Rattle.dwarf_units.specs.Units.{header_at}
-use Rattle.dwarf_bytes.proofs.Items.Turns.{SoFar}
+use Rattle.dwarf_units.proofs.{◌≤◌, ◌-◌, length, header_at, SoFar}
 use Rattle.dwarf_units.proofs.unit_headers.headers.Given as goal
 
 abbrev pub invariant-loop-at : goal.invariant-loop-at

@@ -1,8 +1,5 @@
-use Rattle.std.proofs.Common.{◌≡◌, rules}
-use Rattle.std.specs.Prelude.{filter}
-use Rattle.std.proofs.lemmas.List.Elements.{filter_from_retain}
-use Rattle.dwarf_units.specs.Units.{is_read}
-use Rattle.dwarf_units.proofs.UnitLaws.{units-read}
+use Rattle.dwarf_units.proofs.{◌≡◌, filter, is_read, units-read}
+use Rattle.std.proofs.{Common.rules, lemmas.List.Elements.filter_from_retain}
 use Rattle.dwarf_units.proofs.unit_headers.units.Goals as goal
 
 pub returns : goal.returns

@@ -1,6 +1,5 @@
-use Rattle.std.proofs.Common.{refl}
-use Rattle.dwarf_units.specs.Private.Runs.{last_at, stretch_at}
-use Rattle.dwarf_units.proofs.StoredReads.{last-read, next-read}
+use Rattle.dwarf_units.proofs.{refl, last_at, last-read, next-read}
+use Rattle.dwarf_units.specs.Private.Runs.{stretch_at}
 use Rattle.dwarf_units.proofs.attribute_run.AttributeRun.read.Goals as goal
 
 pub returns : goal.returns

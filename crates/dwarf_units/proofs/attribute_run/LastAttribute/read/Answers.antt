@@ -1,4 +1,4 @@
-use Rattle.dwarf_units.proofs.RunTurns.{last-skipped}
+use Rattle.dwarf_units.proofs.{last-skipped}
 use Rattle.dwarf_units.proofs.attribute_run.LastAttribute.read.Goals as goal
 
 pub returns-in-Unchecked : goal.returns-in-Unchecked

@@ -1,8 +1,5 @@
-use Rattle.std.proofs.Common.{◌∷◌, [], ap, drop, ◌∙◌, arith}
-use Rattle.std.proofs.lemmas.List.{drop_all, drop_more}
-use Rattle.dwarf_units.specs.declared.attributes.Attribute.{Attribute}
-use Rattle.dwarf_units.specs.Private.Used.{with_used}
-use Rattle.dwarf_units.proofs.RunTurns.{added-all, added-more}
+use Rattle.dwarf_units.proofs.{◌∷◌, [], ap, drop, ◌∙◌, arith, drop_all, drop_more, Attribute}
+use Rattle.dwarf_units.proofs.{with_used, added-all, added-more}
 use Rattle.dwarf_units.proofs.attribute_run.Stretch.add_used.Goals as goal
 
 pub loop-position-preserved : goal.loop-position-preserved

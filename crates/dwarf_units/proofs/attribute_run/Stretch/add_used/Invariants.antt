@@ -1,6 +1,4 @@
-use Rattle.std.proofs.Common.{◌≡◌, drop}
-use Rattle.dwarf_units.specs.Private.FixedSizes.{attributes_in}
-use Rattle.dwarf_units.specs.Private.Used.{with_used}
+use Rattle.dwarf_units.proofs.{◌≡◌, drop, attributes_in, with_used}
 use Rattle.dwarf_units.proofs.attribute_run.Stretch.add_used.Given as goal
 
 abbrev pub invariant-loop-position : goal.invariant-loop-position

@@ -1,7 +1,4 @@
-use Rattle.std.proofs.Common.{ap, sym}
-use Rattle.std.specs.Prelude.{Ok}
-use Rattle.dwarf_units.specs.Used.{Used}
-use Rattle.dwarf_units.proofs.SlotLaws.{with-none}
+use Rattle.dwarf_units.proofs.{ap, sym, Ok, Used, with-none}
 use Rattle.dwarf_units.proofs.attribute_run.Stretch.read.Goals as goal
 
 pub returns-else-keep : goal.returns-else-keep

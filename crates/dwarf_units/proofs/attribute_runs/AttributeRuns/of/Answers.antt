@@ -1,7 +1,5 @@
-use Rattle.std.proofs.Common.{drop, sym, ◌∙◌, arith}
-use Rattle.std.proofs.lemmas.List.{drop_all, drop_more}
-use Rattle.dwarf_bytes.proofs.Items.Turns.{None-from-no-Some}
-use Rattle.dwarf_units.proofs.RunTurns.{runs-all, runs-ended, runs-more}
+use Rattle.dwarf_units.proofs.{drop, sym, ◌∙◌, arith, drop_all, drop_more, None-from-no-Some}
+use Rattle.dwarf_units.proofs.{runs-all, runs-ended, runs-more}
 use Rattle.dwarf_units.proofs.attribute_runs.AttributeRuns.of.Goals as goal
 
 pub loop-specification-preserved-in-Some : goal.loop-specification-preserved-in-Some

@@ -1,6 +1,4 @@
-use Rattle.std.proofs.Common.{◌≡◌, drop}
-use Rattle.dwarf_units.specs.Private.Runs.{runs_from, runs_of}
-use Rattle.dwarf_units.proofs.RunTurns.{after_these}
+use Rattle.dwarf_units.proofs.{◌≡◌, drop, runs_from, runs_of, after_these}
 use Rattle.dwarf_units.proofs.attribute_runs.AttributeRuns.of.Given as goal
 
 abbrev pub invariant-loop-specification : goal.invariant-loop-specification

@@ -1,8 +1,5 @@
-use Rattle.std.proofs.Common.{◌+◌, ◌∷◌, ap, drop, sym, ◌∙◌, arith}
-use Rattle.std.proofs.lemmas.List.{drop_more}
-use Rattle.dwarf_units.specs.Private.Runs.{Run}
-use Rattle.dwarf_units.proofs.RunTurns.{runs-left}
-use Rattle.dwarf_units.proofs.StoredReads.{next-read}
+use Rattle.dwarf_units.proofs
+use proofs.{◌+◌, ◌∷◌, ap, drop, sym, ◌∙◌, arith, drop_more, Run, runs-left, next-read}
 use Rattle.dwarf_units.proofs.attribute_runs.AttributeRuns.read.Goals as goal
 
 pub loop-run-preserved : goal.loop-run-preserved

@@ -1,6 +1,4 @@
-use Rattle.std.proofs.Common.{◌≡◌, drop}
-use Rattle.dwarf_units.specs.Private.Runs.{all_at, runs_at}
-use Rattle.dwarf_units.specs.Private.Used.{used_after}
+use Rattle.dwarf_units.proofs.{◌≡◌, drop, all_at, runs_at, used_after}
 use Rattle.dwarf_units.proofs.attribute_runs.AttributeRuns.read.Given as goal
 
 abbrev pub invariant-loop-run : goal.invariant-loop-run

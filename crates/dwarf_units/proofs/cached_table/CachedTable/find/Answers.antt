@@ -1,4 +1,4 @@
-use Rattle.std.proofs.Common.{◌∙◌}
+use Rattle.dwarf_units.proofs.{◌∙◌}
 use Rattle.dwarf_units.proofs.cached_table.CachedTable.find.Goals as goal
 
 pub returns-clause-none : goal.returns-clause-none

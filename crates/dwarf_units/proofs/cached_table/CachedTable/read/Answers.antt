@@ -1,5 +1,4 @@
-use Rattle.std.proofs.Common.{◌∙◌}
-use Rattle.abbreviation_memo.specs.Declarations.{AreShared}
+use Rattle.dwarf_units.proofs.{◌∙◌, AreShared}
 use Rattle.dwarf_units.proofs.cached_table.CachedTable.read.Goals as goal
 
 pub invariant_of-result : goal.invariant_of-result

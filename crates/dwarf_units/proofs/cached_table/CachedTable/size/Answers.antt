@@ -1,7 +1,4 @@
-use Rattle.std.proofs.Common.{length, refl, ap, sym, ◌∙◌}
-use Rattle.abbreviation_memo.specs.Declarations.{full_declarations}
-use Rattle.dwarf_units.specs.Private.AbbreviationTables.{Table}
-use Rattle.dwarf_units.proofs.SharedTableLaws.{size-is}
+use Rattle.dwarf_units.proofs.{length, refl, ap, sym, ◌∙◌, full_declarations, Table, size-is}
 use Rattle.dwarf_units.proofs.cached_table.CachedTable.size.Goals as goal
 
 pub returns : goal.returns

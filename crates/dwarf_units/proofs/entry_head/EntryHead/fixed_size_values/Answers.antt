@@ -1,7 +1,5 @@
-use Rattle.std.proofs.Common.{◌≡◌, ◌≤◌, [], length, arith}
-use Rattle.abbreviation_memo.specs.Lists.{rest_attributes}
-use Rattle.dwarf_units.specs.Private.FixedSizes.{attributes_in}
-use Rattle.dwarf_units.proofs.FixedSizeLaws.{unshared-read}
+use Rattle.dwarf_units.proofs
+use proofs.{◌≡◌, ◌≤◌, [], length, arith, rest_attributes, attributes_in, unshared-read}
 use Rattle.dwarf_units.proofs.entry_head.EntryHead.fixed_size_values.Goals as goal
 
 pub returns : goal.returns

@@ -1,9 +1,5 @@
-use Rattle.std.proofs.Common.{◌≤◌, length, ap, ◌∙◌, arith}
-use Rattle.std.proofs.lemmas.Result.{err_from_is_err_and}
-use Rattle.abbreviation_memo.specs.Lists.{rest_attributes}
-use Rattle.dwarf_units.specs.Private.StoredAttributes.{stored_attributes_at}
-use Rattle.dwarf_units.proofs.RunReads.{own-rest}
-use Rattle.dwarf_units.proofs.StoredReads.{last-read, next-fault, next-read}
+use Rattle.dwarf_units.proofs.{◌≤◌, length, ap, ◌∙◌, arith, err_from_is_err_and, rest_attributes}
+use Rattle.dwarf_units.proofs.{stored_attributes_at, own-rest, last-read, next-fault, next-read}
 use Rattle.dwarf_units.proofs.entry_head.EntryHead.read_attributes.Goals as goal
 
 pub returns-in_err-read : goal.returns-in_err-read

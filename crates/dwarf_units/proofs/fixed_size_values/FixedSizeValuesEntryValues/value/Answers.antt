@@ -1,11 +1,4 @@
-use Rattle.std.proofs.Common.{◌≡◌, ◌∙◌, ap, sym, arith, get_or}
-use Rattle.std.specs.Prelude.{Some, None, Option, option_map, slice_get}
-use Rattle.std.specs.Option.{option_copied}
-use Rattle.dwarf_forms.proofs.Codes.{got}
-use Rattle.dwarf_units.specs.declared.attributes.Attribute.{Attribute}
-use Rattle.dwarf_units.specs.Private.FixedSizes.{attribute_in}
-use Rattle.dwarf_units.specs.Private.Slots.{index_in, slot_of}
-use Rattle.dwarf_units.proofs.FixedSizeLaws.{value-at}
+use Rattle.dwarf_units.proofs.{arith, got, value-at}
 use Rattle.dwarf_units.proofs.fixed_size_values.FixedSizeValuesEntryValues.value.Goals as goal
 
 pub returns-in_err-position : goal.returns-in_err-position

@@ -1,5 +1,4 @@
-use Rattle.std.proofs.Common.{refl}
-use Rattle.dwarf_units.proofs.StoredReads.{stored-end}
+use Rattle.dwarf_units.proofs.{refl, stored-end}
 use Rattle.dwarf_units.proofs.linked_lists.LinkedLists.read.Goals as goal
 
 pub returns-in_default : goal.returns-in_default

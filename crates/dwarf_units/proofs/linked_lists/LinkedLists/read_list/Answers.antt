@@ -1,9 +1,6 @@
-use Rattle.std.proofs.Common.{◌≡◌, ◌≤◌, length, refl, ap, ◌∙◌, arith}
-use Rattle.std.proofs.lemmas.Result.{err_from_is_err_and}
-use Rattle.dwarf_units.specs.Private.Links.{IsLink}
-use Rattle.dwarf_units.specs.Private.Used.{used_after}
-use Rattle.dwarf_units.proofs.LinkLaws.{link-smaller, link-valid}
-use Rattle.dwarf_units.proofs.StoredReads.{next-fault, next-read, stored-end, stored-left}
+use Rattle.dwarf_units.proofs
+use proofs.{◌≡◌, ◌≤◌, length, refl, ap, ◌∙◌, arith, err_from_is_err_and, IsLink, used_after}
+use proofs.{link-smaller, link-valid, next-fault, next-read, stored-end, stored-left}
 use Rattle.dwarf_units.proofs.linked_lists.LinkedLists.read_list.Goals as goal
 
 pub link_of-requires-clause-links : goal.link_of-requires-clause-links

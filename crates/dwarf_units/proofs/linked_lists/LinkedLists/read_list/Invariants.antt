@@ -1,10 +1,6 @@
-use Rattle.std.proofs.Common.{◌≡◌, ◌-◌, length}
-use Rattle.std.specs.Prelude.{IfSome}
-use Rattle.std.specs.Option.{option_map_or}
-use Rattle.abbreviation_memo.specs.Lists.{IsListAt, list_at, list_from}
-use Rattle.dwarf_units.specs.Private.StoredAttributes.{stored_attributes_at}
-use Rattle.dwarf_units.specs.Private.Used.{used_after}
-use Rattle.dwarf_units.proofs.StoredReads.{StoredSoFar}
+use Rattle.dwarf_units.proofs.{◌≡◌, ◌-◌, length, IfSome, option_map_or, IsListAt, list_at}
+use Rattle.dwarf_units.proofs.{stored_attributes_at, used_after, StoredSoFar}
+use Rattle.abbreviation_memo.specs.Lists.{list_from}
 use Rattle.dwarf_units.proofs.linked_lists.LinkedLists.read_list.Given as goal
 
 abbrev pub invariant-loop-link : goal.invariant-loop-link

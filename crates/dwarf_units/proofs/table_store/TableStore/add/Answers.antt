@@ -1,7 +1,5 @@
-use Rattle.std.proofs.Common.{inl, inr, refl, ◌∙◌, take}
-use Rattle.dwarf_units.proofs.StoredLaws.{cached-permanent, cached-temporary, contents-added}
-use Rattle.dwarf_units.proofs.StoredLaws.{cached-truncated}
-use Rattle.dwarf_units.proofs.TableLaws.{last-at}
+use Rattle.dwarf_units.proofs.{inl, inr, refl, ◌∙◌, take, cached-permanent, cached-temporary}
+use Rattle.dwarf_units.proofs.{contents-added, cached-truncated, last-at}
 use Rattle.dwarf_units.proofs.table_store.TableStore.add.Goals as goal
 
 pub invariant_of-self-in_err-push : goal.invariant_of-self-in_err-push

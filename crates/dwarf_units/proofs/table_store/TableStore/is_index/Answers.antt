@@ -1,8 +1,5 @@
-use Rattle.std.proofs.Common.{◌≡◌, ap, sym, ◌∙◌}
-use Rattle.std.specs.Prelude.{Some, slice_get, option_copied}
-use Rattle.std.proofs.lemmas.Option.{same_Some}
-use Rattle.dwarf_forms.proofs.Codes.{got}
-use Rattle.dwarf_units.proofs.IndexLaws.{index-some, index-stays}
+use Rattle.dwarf_units.proofs.{◌≡◌, ap, sym, ◌∙◌, Some, slice_get, option_copied, same_Some, got}
+use Rattle.dwarf_units.proofs.{index-some, index-stays}
 use Rattle.dwarf_units.proofs.table_store.TableStore.is_index.Goals as goal
 
 there : (c : goal.After-is_of) → slice_get c.self.inside.tables.items c.args.number

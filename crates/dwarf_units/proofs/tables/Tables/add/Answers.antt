@@ -1,5 +1,4 @@
-use Rattle.std.proofs.Common.{arith, ◌∙◌}
-use Rattle.dwarf_units.proofs.TableLaws.{parsed-at}
+use Rattle.dwarf_units.proofs.{arith, ◌∙◌, parsed-at}
 use Rattle.dwarf_units.proofs.tables.Tables.add.Goals as goal
 
 pub add-requires-clause-parsed : goal.add-requires-clause-parsed

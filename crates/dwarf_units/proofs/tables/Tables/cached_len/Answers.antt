@@ -1,5 +1,4 @@
-use Rattle.std.proofs.Common.{arith, sym}
-use Rattle.dwarf_units.proofs.IndexLaws.{index-fits, index-long}
+use Rattle.dwarf_units.proofs.{arith, sym, index-fits, index-long}
 use Rattle.dwarf_units.proofs.tables.Tables.cached_len.Goals as goal
 
 pub returns-then-len-left-clause-none : goal.returns-then-len-left-clause-none

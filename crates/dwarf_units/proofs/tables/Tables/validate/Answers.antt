@@ -1,7 +1,5 @@
-use Rattle.std.proofs.Common.{◌∙◌}
-use Rattle.std.proofs.lemmas.Result.{err_from_is_err_and}
-use Rattle.dwarf_units.proofs.TableLaws.{checked-next, checked-end, checked-fault}
-use Rattle.dwarf_units.proofs.IndexLaws.{stays-next, stays-end}
+use Rattle.dwarf_units.proofs.{◌∙◌, err_from_is_err_and, checked-next, checked-end, checked-fault}
+use Rattle.dwarf_units.proofs.{stays-next, stays-end}
 use Rattle.dwarf_units.proofs.tables.Tables.validate.Goals as goal
 
 pub returns-in_err-validate_unit-clause-err : goal.returns-in_err-validate_unit-clause-err

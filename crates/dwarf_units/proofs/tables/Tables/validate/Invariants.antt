@@ -1,12 +1,10 @@
-use Rattle.std.specs.List.{All}
-use Rattle.std.proofs.Common.{◌≡◌, take}
-use Rattle.dwarf_units.specs.Private.Tables.{IsWithinLimit, IsCachedOrTooLarge}
-use Rattle.dwarf_units.proofs.TableLaws.{Checked}
+use Rattle.dwarf_units.proofs.{All, ◌≡◌, take, IsCachedOrTooLarge, AreParsedSoFar}
+use Rattle.dwarf_units.specs.Private.Tables.{IsWithinLimit}
 use Rattle.dwarf_units.proofs.tables.Tables.validate.Given as goal
 
 abbrev pub invariant-loop-unit : goal.invariant-loop-unit
 invariant-loop-unit l = record {
-  checked : Checked l.section l.units l.unit-index l.left;
+  checked : AreParsedSoFar l.section l.units l.unit-index l.left;
   section : l.tables.section ≡ l.section;
   limit : IsWithinLimit l.tables;
   stays : All (IsCachedOrTooLarge l.tables) (take l.unit-index l.units);

@@ -1,4 +1,4 @@
-use Rattle.dwarf_units.proofs.IndexLaws.{stays-parsed}
+use Rattle.dwarf_units.proofs.{stays-parsed}
 use Rattle.dwarf_units.proofs.tables.Tables.validate_unit.Goals as goal
 
 pub returns-clause-stays : goal.returns-clause-stays

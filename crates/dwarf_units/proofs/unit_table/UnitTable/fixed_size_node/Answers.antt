@@ -1,9 +1,5 @@
-use Rattle.std.proofs.Common.{◌≡◌, ap, sym, ◌∙◌, arith}
-use Rattle.std.specs.Prelude.{Some, slice_get, option_copied}
-use Rattle.dwarf_forms.proofs.Codes.{got}
-use Rattle.dwarf_units.specs.Private.AbbreviationTables.{Table}
-use Rattle.dwarf_units.specs.Private.NodeShapes.{shape_at}
-use Rattle.dwarf_units.proofs.NodeShapes.{shape-there}
+use Rattle.dwarf_units.proofs.{◌≡◌, ap, sym, ◌∙◌, arith, Some, slice_get, option_copied, got, Table}
+use Rattle.dwarf_units.proofs.{shape_at, shape-there}
 use Rattle.dwarf_units.proofs.unit_table.UnitTable.fixed_size_node.Goals as goal
 
 pub returns-clause-node : goal.returns-clause-node

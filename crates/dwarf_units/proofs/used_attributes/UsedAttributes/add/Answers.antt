@@ -1,7 +1,4 @@
-use Rattle.std.proofs.Common.{arith}
-use Rattle.dwarf_units.specs.Private.Names.{named_attribute}
-use Rattle.dwarf_units.proofs.SlotLaws.{named}
-use Rattle.dwarf_units.proofs.SlotLaws.{put-is, stored-is}
+use Rattle.dwarf_units.proofs.{arith, named_attribute, named, put-is, stored-is}
 use Rattle.dwarf_units.proofs.used_attributes.UsedAttributes.add.Goals as goal
 
 pub returns-then-not-self-slot : goal.returns-then-not-self-slot
