@@ -80,6 +80,8 @@ fn place_within(header: &UnitHeader, offset: u128) -> Option<usize>
 }
 
 /// Returns the number of units that end at or before an offset.
+// Not inlined: few references are relative to the section.
+#[inline(never)]
 fn ends_by(units: &[UnitEntries], offset: u128) -> usize
     ensures within { result ≤ length units.now }
     ensures parts { IsNonDecreasingBy (λ unit. unit.header.end) units.now

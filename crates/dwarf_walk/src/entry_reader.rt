@@ -174,6 +174,8 @@ impl<'a> EntryReader<'a> {
 
     /// Caches the entries of the unit of `header` whose offsets are in `bitmap`. Entries that
     /// cannot be read are skipped.
+    #[cold]
+    #[inline(never)]
     fn cache_unit(&mut self, header: &UnitHeader, bitmap: &EntryBitmap) -> Result<(), AllocError>
         ensures reader { (s : SectionBytes) → IsReaderOf s self.old → IsReaderOf s self.new }
         ensures cached { OnOk result ((s : SectionBytes) (at : ℕ) → IsReaderOf s self.old
@@ -209,6 +211,8 @@ impl<'a> EntryReader<'a> {
     }
 
     /// Caches what was read of the entry at an offset, in the unit of `header`.
+    #[cold]
+    #[inline(never)]
     fn cache_names(
         &mut self,
         header: &UnitHeader,
