@@ -1,13 +1,14 @@
 -- The iterations of the loop over the entries of a unit.
 use Rattle.std.proofs.Common.{◌≡◌, ℕ, ◌+◌, ◌-◌, ◌≤◌, List, [], ◌∷◌, ◌++◌, Bool, refl}
 use Rattle.std.proofs.Common.{ap, sym, ◌∙◌, cond, zero-add, arith, append-nil}
-use Rattle.std.specs.Prelude.{Some, None, is_some, count_by}
+use Rattle.std.specs.Prelude.{Some, None, is_some, count_by, option_to_list}
 use Rattle.std.specs.List.{filter_map, list_any}
+use Rattle.std.proofs.lemmas.Grind.{common_steps}
 use Rattle.std.proofs.lemmas.List.Elements.{filter_map-append}
 use Rattle.std.proofs.lemmas.List.Folds.{list_any-append}
 use Rattle.std.proofs.lemmas.List.Sums.{sum_by-append}
 use Rattle.dwarf_units.specs.declared.attributes.Attribute.{Attribute}
-use Rattle.dwarf_units.specs.Entries.{Node, Entry, Null, LocatedNode, Die, die_of, opens, closes}
+use Rattle.dwarf_units.specs.Entries.{Node, Entry, Null, LocatedNode, Die, die_in, die_of, opens, closes}
 use Rattle.dwarf_units.specs.Entries.{is_root, depth_after}
 use Rattle.dwarf_walk.specs.Stored.{root_entry, root_in}
 use Rattle.dwarf_walk.specs.References.{or_else}
@@ -26,14 +27,6 @@ root_in-push : (dies : List Die) (die : Die)
 root_in-push [] die = refl
 root_in-push (root ∷ dies) die = refl
 
--- The state after one more entry, at any depth after it.
-pub state_after_entries-push : (depth behind : ℕ) (dies : List Die) (die : Die)
-    → state_after_entries behind (dies ++ die ∷ [])
-    ≡ record (after_die (state_after_entries depth dies) die)
-    { depth = behind }
-state_after_entries-push depth behind dies die =
-    rw (root_in-push dies die, walked-push 0 dies die, least-push 0 dies die) refl
-
 count-push : {X : Type 0} (p : X → Bool) (xs : List X) (x : X)
     → count_by p (xs ++ x ∷ []) ≡ count_by p xs + cond (p x) 1 0
 count-push p xs x = sum_by-append (λ y. cond (p y) 1 0) xs (x ∷ [])
@@ -46,66 +39,47 @@ pub record IsTree (before : List LocatedNode) : Type 0 where
   pub rooted : list_any is_root before ≡ is_some (root_in (filter_map die_of before))
   pub outside : root_in (filter_map die_of before) ≡ None → depth_after before ≡ 0
 
--- An entry after a list of nodes.
-abbrev pub die_at : List LocatedNode → ℕ → ℕ → List Attribute → Die
-die_at before at tag attributes = record
-    { offset = at; depth = depth_after before; tag = tag; attributes = attributes }
-
-pub dies-null : (before : List LocatedNode) (at : ℕ)
-    → filter_map die_of (before ++ standing before at Null ∷ []) ≡ filter_map die_of before
-dies-null before at = filter_map-append die_of before (standing before at Null ∷ [])
-    ∙ append-nil (filter_map die_of before)
-
-pub dies-entry : (before : List LocatedNode) (at tag : ℕ) (children : Bool)
-    (attributes : List Attribute)
-    → filter_map die_of (before ++ standing before at (Entry tag children attributes) ∷ [])
-    ≡ filter_map die_of before ++ die_at before at tag attributes ∷ []
-dies-entry before at tag children attributes =
-    filter_map-append die_of before (standing before at (Entry tag children attributes) ∷ [])
+pub dies-push : (before : List LocatedNode) (at : ℕ) (node : Node)
+    → filter_map die_of (before ++ standing before at node ∷ [])
+    ≡ filter_map die_of before ++ option_to_list (die_in at (depth_after before) node)
+dies-push before at node =
+    grind (arith, filter_map-append die_of before (standing before at node ∷ []))
 
 -- The state after one more entry or null entry.
 pub state_after-push : (before : List LocatedNode) (at : ℕ) (node : Node) → IsTree before
     → after_node (state_after before) at node ≡ state_after (before ++ standing before at node ∷ [])
-state_after-push before at Null tree =
-    let x : LocatedNode = standing before at Null in
-    let depth : depth_after (before ++ x ∷ []) ≡ depth_after before - 1 =
-    grind (arith, count-push opens before x, count-push closes before x, tree.closed) in
-    rw (depth, dies-null before at) refl
-state_after-push before at (Entry tag children attributes) tree =
-    let x : LocatedNode = standing before at (Entry tag children attributes) in
-    let depth : depth_after (before ++ x ∷ []) ≡ depth_after_entry children (depth_after before) =
-    grind (arith, count-push opens before x, count-push closes before x, tree.closed) in
-    rw (depth, dies-entry before at tag children attributes)
-    (sym (state_after_entries-push (depth_after before) (depth_after_entry children
-    (depth_after before))
-    (filter_map die_of before) (die_at before at tag attributes)))
+state_after-push before at node tree =
+    let x : LocatedNode = standing before at node in
+    grind (
+      arith,
+      common_steps,
+      count-push opens before x,
+      count-push closes before x,
+      tree.closed,
+      dies-push before at node,
+      root_in-push (filter_map die_of before),
+      walked-push 0 (filter_map die_of before),
+      least-push 0 (filter_map die_of before),
+    )
 
 pub tree-push : (before : List LocatedNode) (at : ℕ) (node : Node) → IsTree before
     → IsTree (before ++ standing before at node ∷ [])
-tree-push before at Null tree =
-    let x : LocatedNode = standing before at Null in
-    let same = dies-null before at in
+tree-push before at node tree =
+    let x : LocatedNode = standing before at node in
     let opened = count-push opens before x in
     let closed = count-push closes before x in
+    let dies = dies-push before at node in
+    let root = root_in-push (filter_map die_of before) in
     record {
       closed = grind (arith, opened, closed, tree.closed);
-      rooted = grind (arith, list_any-append is_root before (x ∷ []), tree.rooted, same);
-      outside = λ none. grind (arith, opened, closed, tree.closed, tree.outside, same);
-    }
-tree-push before at (Entry tag children attributes) tree =
-    let x : LocatedNode = standing before at (Entry tag children attributes) in
-    let die : Die = die_at before at tag attributes in
-    let same = dies-entry before at tag children attributes in
-    let root = root_in-push (filter_map die_of before) die in
-    record {
-      closed = grind (arith, count-push opens before x, count-push closes before x, tree.closed);
       rooted = grind (
         arith,
+        common_steps,
         list_any-append is_root before (x ∷ []),
         tree.rooted,
         tree.outside,
-        same,
+        dies,
         root,
       );
-      outside = λ none. grind (arith, same, root);
+      outside = λ none. grind (arith, common_steps, opened, closed, tree.closed, tree.outside, dies, root);
     }

@@ -6,6 +6,7 @@ use Rattle.std.specs.Prelude.{is_some, Result, Ok, Err, nat_le, true}
 use Rattle.std.specs.List.{filter_map}
 use Rattle.std.proofs.lemmas.Bool.{lt-leb, le-leb}
 use Rattle.std.proofs.lemmas.List.{map-append}
+use Rattle.std.proofs.lemmas.Grind.{common_steps}
 use Rattle.dwarf_bytes.specs.declared.fault.Cause.{Cause}
 use Rattle.dwarf_bytes.specs.declared.fault.LoadFault.{LoadFault}
 use Rattle.dwarf_bytes.specs.declared.fault.Section.TheVariants as sections
@@ -27,19 +28,21 @@ use Rattle.dwarf_walk.specs.declared.entry_bitmap.EntryBitmap.{EntryBitmap}
 use Rattle.dwarf_walk.specs.EntryBitmap.{AddsOffsets, offsets_of}
 use Rattle.dwarf_walk.proofs.BitmapLaws.{adds-more}
 use Rattle.dwarf_units.proofs.EntryAdvances.{node_at_depth-moves, node_at-advances}
-use Rattle.dwarf_walk.proofs.WalkLaws.{standing, IsTree, die_at, dies-null, dies-entry}
+use Rattle.dwarf_walk.proofs.WalkLaws.{standing, IsTree, dies-push}
 use Rattle.dwarf_walk.proofs.WalkLaws.{state_after-push, tree-push}
 
 -- The offsets of the entries after one more node.
 offsets-push : (before : List LocatedNode) (at : ℕ) (node : Node)
     → offsets_of (filter_map die_of before) ++ places_of at node
     ≡ offsets_of (filter_map die_of (before ++ standing before at node ∷ []))
-offsets-push before at Null = append-nil (offsets_of (filter_map die_of before))
-    ∙ ap offsets_of (sym (dies-null before at))
-offsets-push before at (Entry tag children attributes) =
-    let die : Die = die_at before at tag attributes in
-    sym (map-append (λ (d : Die). d.offset) (filter_map die_of before) (die ∷ []))
-    ∙ ap offsets_of (sym (dies-entry before at tag children attributes))
+offsets-push before at node =
+    let dies = dies-push before at node in
+    grind (
+      arith,
+      common_steps,
+      dies,
+      map-append (λ (d : Die). d.offset) (filter_map die_of before),
+    )
 
 module _ (info : List ℕ) (header : UnitHeader) (table : List Declaration) (bitmap : EntryBitmap)
   where
