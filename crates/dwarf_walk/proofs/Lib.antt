@@ -4,5 +4,4 @@ pub mod ScopeLaws
 pub mod WalkLaws
 pub mod WalkTurns
 pub mod WalkEnds
-pub mod FastPathLaws
 pub mod RereadLaws

@@ -41,25 +41,10 @@ abbrev pub stored_die : Die → Die
 stored_die die = record die { attributes = stored_attributes true die.attributes }
 
 root-stored : (die : Die) → root_entry (stored_die die) ≡ root_entry die
-root-stored die =
-    rw (
-      value-stored die.attributes DW_AT_STMT_LIST refl,
-      value-stored die.attributes DW_AT_STR_OFFSETS_BASE refl,
-      value-stored die.attributes DW_AT_ADDR_BASE refl,
-      value-stored die.attributes DW_AT_RNGLISTS_BASE refl,
-      value-stored die.attributes DW_AT_LOW_PC
-          refl,
-    ) refl
+root-stored die = grind (arith, value-stored die.attributes)
 
 pub names_at-stored : (die : Die) → named_entry (stored_die die) ≡ named_entry die
-names_at-stored die =
-    rw (
-      value-stored die.attributes DW_AT_ABSTRACT_ORIGIN refl,
-      value-stored die.attributes DW_AT_SPECIFICATION refl,
-      value-stored die.attributes DW_AT_NAME
-          refl,
-      value-stored die.attributes DW_AT_LINKAGE_NAME refl,
-    ) refl
+names_at-stored die = grind (arith, value-stored die.attributes)
 
 -- If there is already a root, a later entry does not replace it.
 root-stays : (root : Option RootEntry) (x y : RootEntry) → not (is_some root) ≡ false

@@ -1,21 +1,25 @@
-use Rattle.std.proofs.Common.{arith, refl}
-use Rattle.dwarf_walk.specs.Private.Readers.{state_of}
-use Rattle.dwarf_walk.proofs.FastPathLaws.{bit-small, shape-added, shape-marked}
+use Rattle.std.proofs.Common.{arith}
+use Rattle.std.proofs.lemmas.Grind.{common_steps}
 use Rattle.dwarf_walk.proofs.walk.Walk.add_node.Goals as goal
 
 pub overflow_add-depth : goal.overflow_add-depth
-overflow_add-depth c =
-    omega (arith, c.requires.depth.1, c.from.ensures, bit-small c.args.shape.children)
+overflow_add-depth c = grind (arith, c.requires.depth.1, c.from.ensures)
 
 pub overflow_sub-depth : goal.overflow_sub-depth
-overflow_sub-depth c =
-    omega (arith, c.requires.depth.0, c.from-2.ensures, bit-small c.args.shape.is_null)
+overflow_sub-depth c = grind (arith, c.requires.depth.0, c.from-2.ensures)
 
 pub returns : goal.returns
-returns c node is = (
-  shape-added (state_of c.args.self.now) (state_of c.add_scope.new.self) c.args.place _
-      c.args.shape node is c.requires.rooted c.in_ok-add_scope.ensures.entry
-      c.in_ok-add_scope.ensures.null (rw (c.from.ensures, c.from-2.ensures) refl),
-  shape-marked c.args.bitmap.now c.add_offset.new.self c.args.place c.args.shape node is
-      c.in_ok-add_offset.ensures,
-)
+returns c node is =
+    let added = c.in_ok-add_scope.ensures in (
+      grind (
+        arith,
+        common_steps,
+        is,
+        c.requires.rooted,
+        added.entry,
+        added.null,
+        c.from.ensures,
+        c.from-2.ensures,
+      ),
+      λ k. grind (arith, common_steps, is, c.in_ok-add_offset.ensures k),
+    )
