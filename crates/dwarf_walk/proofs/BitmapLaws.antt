@@ -1,15 +1,15 @@
 -- The bitmap of entry offsets: the bits that a walk sets, and how they are looked up.
 use Rattle.std.proofs.Common.{◌≡◌, ℕ, ◌*◌, ◌/◌, ◌%◌, ◌^◌, ◌<◌, List, [], ◌∷◌, ◌++◌, length, set}
 use Rattle.std.proofs.Common.{get_or}
-use Rattle.std.proofs.Common.{Bool, true, false, sym, ap, ◌∙◌, subst, arith, inl, inr}
+use Rattle.std.proofs.Common.{Bool, true, false, ap, ◌∙◌, arith}
 use Rattle.std.specs.Prelude.{nat_eq, ◌==◌, ◌||◌, bit_or, if◌then◌else◌}
 use Rattle.std.specs.Int.Bits.{or_zero_r}
 use Rattle.std.proofs.Math.Nat.{zero-mul}
 use Rattle.std.specs.List.{list_any}
 use Rattle.std.specs.Int.{bit_at, from_bool, w64}
-use Rattle.std.proofs.lemmas.Bool.{cases_eq}
 use Rattle.std.proofs.lemmas.Bool.Decides.{nat_tests}
-use Rattle.std.proofs.lemmas.List.{get_or-set_same, get_or-set_other, set-get_or}
+use Rattle.std.proofs.lemmas.Grind.{get_or-set_at}
+use Rattle.std.proofs.lemmas.List.{get_or-set_other, set-get_or}
 use Rattle.std.proofs.lemmas.List.Folds.{list_any-append}
 use Rattle.std.proofs.lemmas.Nat.Bits.{bit_at_set_same, bit_at_set_other}
 use Rattle.dwarf_walk.specs.declared.entry_bitmap.EntryBitmap.{EntryBitmap}
@@ -27,38 +27,20 @@ set-same x y j k a b = grind (arith, nat_tests)
 set-other : (x y j k : ℕ) → x ≡ y → (j ≡ k → ⊥) → nat_eq x 1 ≡ (nat_eq y 1 || ((k == j) || false))
 set-other x y j k a b = grind (arith, nat_tests)
 
-pub has-set : (words : List ℕ) (k v j : ℕ) → k / 64 < length words
+has-set : (words : List ℕ) (k v j : ℕ) → k / 64 < length words
     → v ≡ bit_or (get_or words (k / 64) 0) (1 * 2 ^ (k % 64) % 2 ^ 64)
     → has (set words (k / 64) v) j ≡ (has words j || ((k == j) || false))
-has-set words k v j lt is = elim (cases_eq (j / 64) (k / 64)) [
-  | inl same ↦
-      let W : ℕ → Type 0 = λ w. get_or (set words (k / 64) v) w 0 ≡ v in
-      let word : get_or (set words (k / 64) v) (j / 64) 0 ≡ v =
-      subst W (sym same) (get_or-set_same words (k / 64) v 0 lt) in
-      let within : k % 64 < 64 = omega arith in
-      elim (cases_eq (j % 64) (k % 64)) [
-        | inl bit ↦
-            let one : bit_at v (k % 64) ≡ 1 = ap (λ n. bit_at n (k % 64)) is
-            ∙ bit_at_set_same w64 (get_or words (k / 64) 0) (k % 64) within in
-            let here : bit_at (get_or (set words (k / 64) v) (j / 64) 0) (j % 64) ≡ 1 =
-            ap (λ n. bit_at n (j % 64)) word ∙ ap (bit_at v) bit ∙ one in
-            set-same _ (bit_at (get_or words (j / 64) 0) (j % 64)) j k here (omega arith)
-        | inr other ↦
-            let kept : bit_at v (j % 64) ≡ bit_at (get_or words (k / 64) 0) (j % 64) =
-            ap (λ n. bit_at n (j % 64)) is ∙ bit_at_set_other w64 (get_or words (k / 64) 0) (k % 64)
-            within (j % 64) other in
-            let here : bit_at (get_or (set words (k / 64) v) (j / 64) 0) (j % 64)
-            ≡ bit_at (get_or words (j / 64) 0) (j % 64) =
-            ap (λ n. bit_at n (j % 64)) word ∙ kept ∙ ap (λ w. bit_at (get_or words w 0) (j % 64))
-            (sym same) in
-            set-other _ _ j k here (λ e. other (ap (λ n. n % 64) e))
-      ]
-  | inr other ↦
-      let here : bit_at (get_or (set words (k / 64) v) (j / 64) 0) (j % 64)
-      ≡ bit_at (get_or words (j / 64) 0) (j % 64) =
-      ap (λ n. bit_at n (j % 64)) (get_or-set_other words (k / 64) (j / 64) v 0 other) in
-      set-other _ _ j k here (λ e. other (ap (λ n. n / 64) e))
-]
+has-set words k v j lt is =
+    let within : k % 64 < 64 = omega arith in
+    grind (
+      arith,
+      nat_tests,
+      is,
+      get_or-set_at words (k / 64) (j / 64) v 0,
+      get_or-set_other words (k / 64) (j / 64) v 0,
+      bit_at_set_same w64 (get_or words (k / 64) 0) (k % 64) within,
+      bit_at_set_other w64 (get_or words (k / 64) 0) (k % 64) within (j % 64),
+    )
 
 or-none : (b : Bool) → b ≡ (b || false)
 or-none b = grind arith

@@ -1,8 +1,7 @@
 -- The loop of the walk over a unit.
 use Rattle.std.proofs.Common.{◌≡◌, ℕ, ◌<◌, ◌≤◌, ◌⊎◌, List, [], ◌∷◌, ◌++◌, false}
-use Rattle.std.proofs.Common.{length, take, refl, ap, sym, ◌∙◌, subst, arith, length-take}
-use Rattle.std.proofs.Common.{append-nil}
-use Rattle.std.specs.Prelude.{is_some, Result, Ok, Err, nat_le, true}
+use Rattle.std.proofs.Common.{length, take, refl, ap, sym, ◌∙◌, arith, length-take}
+use Rattle.std.specs.Prelude.{is_some, Result, Ok, Err, nat_le}
 use Rattle.std.specs.List.{filter_map}
 use Rattle.std.proofs.lemmas.Bool.{lt-leb, le-leb}
 use Rattle.std.proofs.lemmas.List.{map-append}
@@ -19,9 +18,8 @@ use Rattle.dwarf_bytes.proofs.Numbers.Moves.{same-ok}
 use Rattle.dwarf_bytes.proofs.Items.Turns.{SoFar, so-far-item, so-far-end}
 use Rattle.dwarf_bytes.proofs.Items.Turns.{so-far-fault}
 use Rattle.dwarf_units.specs.declared.unit_headers.UnitHeader.{UnitHeader}
-use Rattle.dwarf_units.specs.Entries.{Node, Entry, Null, LocatedNode, Die, die_of, depth_after}
+use Rattle.dwarf_units.specs.Entries.{Node, LocatedNode, Die, die_of}
 use Rattle.dwarf_units.specs.Entries.{node_at_depth, node_at}
-use Rattle.dwarf_walk.specs.Stored.{root_in}
 use Rattle.dwarf_walk.specs.Private.Readers.{WalkState, state_after, nodes_of}
 use Rattle.dwarf_walk.specs.Private.Readers.{Takes, places_of, walk_of}
 use Rattle.dwarf_walk.specs.declared.entry_bitmap.EntryBitmap.{EntryBitmap}
@@ -46,84 +44,87 @@ offsets-push before at node =
 
 module _ (info : List ℕ) (header : UnitHeader) (table : List Declaration) (bitmap : EntryBitmap)
   where
+    abbrev unit : List ℕ
+    unit = take header.end info
 
-  abbrev unit : List ℕ
-  unit = take header.end info
+    abbrev read_after : List LocatedNode → ℕ → Result (Next LocatedNode) Cause
+    read_after = node_at header.format table unit
 
-  abbrev read_after : List LocatedNode → ℕ → Result (Next LocatedNode) Cause
-  read_after = node_at header.format table unit
+    -- The loop invariant: the state of the loop is that of the nodes read so far.
+    pub record WalkSoFar (marked : EntryBitmap) (place : ℕ) (w : WalkState) : Type 0 where
+      pub before : List LocatedNode
+      pub marked_so : AddsOffsets bitmap marked (offsets_of (filter_map die_of before))
+      pub kept : w ≡ state_after before
+      pub tree : IsTree before
+      pub read : SoFar header.end read_after header.first before place
 
-  -- The loop invariant: the state of the loop is that of the nodes read so far.
-  pub record WalkSoFar (marked : EntryBitmap) (place : ℕ) (w : WalkState) : Type 0 where
-    pub before : List LocatedNode
-    pub marked_so : AddsOffsets bitmap marked (offsets_of (filter_map die_of before))
-    pub kept : w ≡ state_after before
-    pub tree : IsTree before
-    pub read : SoFar header.end read_after header.first before place
+    -- No node extends beyond the end of the unit, wherever the section ends.
+    advances : Advances header.end read_after
+    advances before at x after h =
+        let moved = node_at-advances header.format table unit before at x after h in
+        (moved.0, omega (arith, moved.1, length-take header.end info))
 
-  -- No node extends beyond the end of the unit, wherever the section ends.
-  advances : Advances header.end read_after
-  advances before at x after h =
-      let moved = node_at-advances header.format table unit before at x after h in
-      (moved.0, omega (arith, moved.1, length-take header.end info))
+    -- The node that a step reads is the next one.
+    next-is : {format : Format} {bytes : List ℕ} {marked : EntryBitmap} {at : ℕ} {w : WalkState}
+        → format ≡ header.format → bytes ≡ unit → at < length bytes
+        → (so_far : WalkSoFar marked at w) (x : Result (Node × ℕ) Cause)
+        → node_at_depth format table w.depth (is_some w.root) bytes at ≡ x
+        → read_after so_far.before at
+        ≡ (x >>= λ node. Ok (Item (standing so_far.before at node.0) node.1))
+    next-is {bytes} {at} same_format same within so_far x is =
+        let test : nat_le (length unit) at ≡ false =
+        lt-leb (length unit) at (rw (← same) within) in
+        rw (test, so_far.tree.rooted, rw (so_far.kept, same_format, same) at is) refl
 
-  -- The node that a step reads is the next one.
-  next-is : {format : Format} {bytes : List ℕ} {marked : EntryBitmap} {at : ℕ} {w : WalkState}
-      → format ≡ header.format → bytes ≡ unit → at < length bytes
-      → (so_far : WalkSoFar marked at w) (x : Result (Node × ℕ) Cause)
-      → node_at_depth format table w.depth (is_some w.root) bytes at ≡ x
-      → read_after so_far.before at
-      ≡ (x >>= λ node. Ok (Item (standing so_far.before at node.0) node.1))
-  next-is {bytes} {at} same_format same within so_far x is =
-      let test : nat_le (length unit) at ≡ false =
-      lt-leb (length unit) at (rw (← same) within) in
-      rw (test, so_far.tree.rooted, rw (so_far.kept, same_format, same) at is) refl
+    -- An iteration that reads a node.
+    pub walk-item : {format : Format} {bytes : List ℕ} {marked after : EntryBitmap} {at next : ℕ}
+        {was is : WalkState} → format ≡ header.format → bytes ≡ unit → at < length bytes
+        → WalkSoFar marked at was → Takes format table bytes at was is marked after (Ok next)
+        → (at < next) × (next ≤ length bytes) × WalkSoFar after next is
+    walk-item {format} {bytes} {marked} {after} {at} {next} {was} same_format same within so_far taken =
+        let before = so_far.before in
+        let moved = node_at_depth-moves format table was.depth (is_some was.root) bytes at
+        (taken.0, next) taken.1 in (
+          moved.0,
+          moved.1,
+          record {
+            before = before ++ standing before at taken.0 ∷ [];
+            marked_so = rw (← offsets-push before at taken.0) (adds-more bitmap marked after _ _
+                so_far.marked_so taken.2.1);
+            kept = rw so_far.kept at taken.2.0 ∙ state_after-push before at taken.0 so_far.tree;
+            tree = tree-push before at taken.0 so_far.tree;
+            read = so-far-item header.end read_after advances header.first before at _ next so_far.read
+                (next-is same_format same within so_far (Ok (taken.0, next)) taken.1);
+          },
+        )
 
-  -- An iteration that reads a node.
-  pub walk-item : {format : Format} {bytes : List ℕ} {marked after : EntryBitmap} {at next : ℕ}
-      {was is : WalkState} → format ≡ header.format → bytes ≡ unit → at < length bytes
-      → WalkSoFar marked at was → Takes format table bytes at was is marked after (Ok next)
-      → (at < next) × (next ≤ length bytes) × WalkSoFar after next is
-  walk-item {format} {bytes} {marked} {after} {at} {next} {was} same_format same within so_far taken =
-      let before = so_far.before in
-      let moved = node_at_depth-moves format table was.depth (is_some was.root) bytes at
-      (taken.0, next) taken.1 in
-      (moved.0, moved.1, record {
-        before = before ++ standing before at taken.0 ∷ [];
-        marked_so = rw (← offsets-push before at taken.0) (adds-more bitmap marked after _ _
-            so_far.marked_so taken.2.1);
-        kept = rw so_far.kept at taken.2.0 ∙ state_after-push before at taken.0 so_far.tree;
-        tree = tree-push before at taken.0 so_far.tree;
-        read = so-far-item header.end read_after advances header.first before at _ next so_far.read
-            (next-is same_format same within so_far (Ok (taken.0, next)) taken.1);
-      })
+    -- The end of the loop: all nodes are read, and the bits of all entries are set.
+    pub walk-end : {bytes : List ℕ} {marked : EntryBitmap} {place : ℕ} {w : WalkState}
+        → bytes ≡ unit → length bytes ≤ place → WalkSoFar marked place w
+        → (in_section sections.DebugInfo (walk_of info header table) ≡ Ok w)
+        × ((all : List LocatedNode × ℕ) → nodes_of info header table ≡ Ok all
+        → AddsOffsets bitmap marked (offsets_of (filter_map die_of all.0)))
+    unfolding walk_of
+    walk-end {place} same past so_far =
+        let end : read_after so_far.before place ≡ Ok (End place) =
+        rw (le-leb (length unit) place (rw (← same) past)) refl in
+        let whole = so-far-end header.end read_after advances header.first so_far.before place place
+        so_far.read end in (
+          rw whole (ap (λ (x : WalkState). Ok x) (sym so_far.kept)),
+          λ all is. rw (same-ok _ _ (sym is ∙ whole)) so_far.marked_so,
+        )
 
-  -- The end of the loop: all nodes are read, and the bits of all entries are set.
-  pub walk-end : {bytes : List ℕ} {marked : EntryBitmap} {place : ℕ} {w : WalkState}
-      → bytes ≡ unit → length bytes ≤ place → WalkSoFar marked place w
-      → (in_section sections.DebugInfo (walk_of info header table) ≡ Ok w)
-      × ((all : List LocatedNode × ℕ) → nodes_of info header table ≡ Ok all
-      → AddsOffsets bitmap marked (offsets_of (filter_map die_of all.0)))
-  unfolding walk_of
-  walk-end {place} same past so_far =
-      let end : read_after so_far.before place ≡ Ok (End place) =
-      rw (le-leb (length unit) place (rw (← same) past)) refl in
-      let whole = so-far-end header.end read_after advances header.first so_far.before place place
-      so_far.read end in
-      (rw whole (ap (λ (x : WalkState). Ok x) (sym so_far.kept)),
-      λ all is. rw (same-ok _ _ (sym is ∙ whole)) so_far.marked_so)
-
-  -- An iteration that fails.
-  pub walk-fault : {format : Format} {bytes : List ℕ} {marked : EntryBitmap} {at : ℕ}
-      {w : WalkState} {cause : Cause} {fault : LoadFault} → format ≡ header.format → bytes ≡ unit
-      → at < length bytes → WalkSoFar marked at w
-      → Fails cause (node_at_depth format table w.depth (is_some w.root) bytes at)
-      → fault ≡ at_item sections.DebugInfo cause at
-      → (fault ≡ memory_fault) ⊎ (in_section sections.DebugInfo (walk_of info header table)
-      ≡ Err fault)
-  unfolding walk_of
-  walk-fault {at} {cause} same_format same within so_far fails is =
-      let here = λ (read : _). so-far-fault header.end read_after advances header.first
-      so_far.before at cause so_far.read
-      (next-is same_format same within so_far (Err cause) read) in
-      grind (arith, fails, is)
+    -- An iteration that fails.
+    pub walk-fault : {format : Format} {bytes : List ℕ} {marked : EntryBitmap} {at : ℕ}
+        {w : WalkState} {cause : Cause} {fault : LoadFault} → format ≡ header.format → bytes ≡ unit
+        → at < length bytes → WalkSoFar marked at w
+        → Fails cause (node_at_depth format table w.depth (is_some w.root) bytes at)
+        → fault ≡ at_item sections.DebugInfo cause at
+        → (fault ≡ memory_fault) ⊎ (in_section sections.DebugInfo (walk_of info header table)
+        ≡ Err fault)
+    unfolding walk_of
+    walk-fault {at} {cause} same_format same within so_far fails is =
+        let here = λ (read : _). so-far-fault header.end read_after advances header.first
+        so_far.before at cause so_far.read
+        (next-is same_format same within so_far (Err cause) read) in
+        grind (arith, fails, is)
