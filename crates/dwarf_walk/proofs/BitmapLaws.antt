@@ -21,27 +21,6 @@ use Rattle.dwarf_walk.specs.EntryBitmap.{has_entry, AddsOffsets}
 abbrev pub has : List ℕ → ℕ → Bool
 has words k = bit_at (get_or words (k / 64) 0) (k % 64) == 1
 
-set-same : (x y j k : ℕ) → x ≡ 1 → j ≡ k → nat_eq x 1 ≡ (nat_eq y 1 || ((k == j) || false))
-set-same x y j k a b = grind (arith, nat_tests)
-
-set-other : (x y j k : ℕ) → x ≡ y → (j ≡ k → ⊥) → nat_eq x 1 ≡ (nat_eq y 1 || ((k == j) || false))
-set-other x y j k a b = grind (arith, nat_tests)
-
-has-set : (words : List ℕ) (k v j : ℕ) → k / 64 < length words
-    → v ≡ bit_or (get_or words (k / 64) 0) (1 * 2 ^ (k % 64) % 2 ^ 64)
-    → has (set words (k / 64) v) j ≡ (has words j || ((k == j) || false))
-has-set words k v j lt is =
-    let within : k % 64 < 64 = omega arith in
-    grind (
-      arith,
-      nat_tests,
-      is,
-      get_or-set_at words (k / 64) (j / 64) v 0,
-      get_or-set_other words (k / 64) (j / 64) v 0,
-      bit_at_set_same w64 (get_or words (k / 64) 0) (k % 64) within,
-      bit_at_set_other w64 (get_or words (k / 64) 0) (k % 64) within (j % 64),
-    )
-
 or-none : (b : Bool) → b ≡ (b || false)
 or-none b = grind arith
 
@@ -50,13 +29,19 @@ pub adds-bit : (words : List ℕ) (k v j : ℕ) (is_entry : Bool) → k / 64 < l
     → v ≡ bit_or (get_or words (k / 64) 0) (from_bool is_entry * 2 ^ (k % 64) % 2 ^ 64)
     → has (set words (k / 64) v) j
     ≡ (has words j || list_any (λ place. place == j) (if is_entry then k ∷ [] else []))
-adds-bit words k v j true lt is = has-set words k v j lt is
-adds-bit words k v j false lt is =
-    let none : from_bool false * 2 ^ (k % 64) % 2 ^ 64 ≡ 0 =
-    ap (λ n. n % 2 ^ 64) (zero-mul (2 ^ (k % 64))) in
-    let same : v ≡ get_or words (k / 64) 0 =
-    is ∙ (ap (bit_or (get_or words (k / 64) 0)) none ∙ or_zero_r (get_or words (k / 64) 0)) in
-    rw (same, set-get_or words (k / 64) 0) (or-none (has words j))
+adds-bit words k v j is_entry lt is =
+    let within : k % 64 < 64 = omega arith in
+    let word = get_or words (k / 64) 0 in
+    grind (
+      arith,
+      nat_tests,
+      get_or-set_at words (k / 64) (j / 64) v 0,
+      get_or-set_other words (k / 64) (j / 64) v 0,
+      bit_at_set_same w64 word (k % 64) within,
+      bit_at_set_other w64 word (k % 64) within (j % 64),
+      or_zero_r word,
+      zero-mul (2 ^ (k % 64)),
+    )
 
 -- ---- setting bits
 

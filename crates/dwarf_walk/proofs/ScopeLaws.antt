@@ -24,9 +24,8 @@ pub walked-push : (least : ℕ) (dies : List Die) (die : Die)
     ≡ walked_scopes least dies ++ walked_scope (least_after least dies) die
 walked-push least [] die = append-nil (walked_scope least die)
 walked-push least (d ∷ dies) die =
-    ap (λ (ws : List WalkedScope). walked_scope least d ++ ws)
-    (walked-push (least_after_entry least d) dies die)
-    ∙ sym (append_assoc (walked_scope least d) (walked_scopes (least_after_entry least d) dies) _)
+    let rest = walked-push (least_after_entry least d) dies die in
+    rw rest (sym (append_assoc (walked_scope least d) (walked_scopes (least_after_entry least d) dies) _))
 
 pub least-push : (least : ℕ) (dies : List Die) (die : Die)
     → least_after least (dies ++ die ∷ []) ≡ least_after_entry (least_after least dies) die

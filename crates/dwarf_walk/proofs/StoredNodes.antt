@@ -8,7 +8,7 @@ use Rattle.dwarf_units.specs.Attributes.{is_used}
 use Rattle.dwarf_units.specs.Entries.{Die, Entry, value_of}
 use Rattle.dwarf_walk.specs.Stored.{named_entry, root_entry}
 use Rattle.dwarf_walk.specs.Private.Readers.{WalkState}
-use Rattle.dwarf_walk.specs.Private.Readers.{after_die, after_node, depth_after_entry}
+use Rattle.dwarf_walk.specs.Private.Readers.{after_die, after_node, die_at}
 use Rattle.dwarf_units.specs.Private.StoredAttributes.{stored_attributes}
 
 -- The value of an attribute is in a list of attributes with certain names, if its name is one.
@@ -32,27 +32,12 @@ root-stored die = grind (arith, value-stored die.attributes)
 pub names_at-stored : (die : Die) → named_entry (stored_die die) ≡ named_entry die
 names_at-stored die = grind (arith, value-stored die.attributes)
 
--- The state after an entry depends only on its stored attributes.
-pub after-stored : (w : WalkState) (die : Die)
-    → after_die w (record die {
-      attributes = stored_attributes (not (is_some w.root))
-          die.attributes;
-    }) ≡ after_die w die
-after-stored w die = grind (arith, root-stored die)
-
 -- The state after an entry, given the state with its used attributes and the depth before its
 -- children.
 pub entry-added : (w kept : WalkState) (at depth tag : ℕ) (children : Bool) (all : List Attribute)
-    → kept ≡ after_die w (record {
-      offset = at;
-      depth = w.depth;
-      tag = tag;
-      attributes =
-          stored_attributes (not (is_some w.root)) all;
-    }) → depth ≡ kept.depth + from_bool children
+    → kept ≡ after_die w (die_at w at tag (stored_attributes (not (is_some w.root)) all))
+    → depth ≡ kept.depth + from_bool children
     → record kept { depth = depth } ≡ after_node w at (Entry tag children all)
 entry-added w kept at depth tag children all is deep =
-    let kept_is = is ∙ after-stored w (record { offset = at; depth = w.depth; tag = tag; attributes = all }) in
-    let depth_is : depth ≡ depth_after_entry children w.depth =
-    grind (arith, deep, ap (λ (k : WalkState). k.depth) kept_is) in
-    rw (kept_is, depth_is) refl
+    let stored = root-stored (die_at w at tag all) in
+    grind (arith, stored, is, deep)

@@ -88,25 +88,20 @@ after_die w die = record {
   least = least_after_entry w.least die;
 }
 
+-- An entry with an offset, a tag and attributes, at the depth of the walk.
+abbrev pub die_at : WalkState → ℕ → ℕ → List Attribute → Die
+die_at w offset tag attributes =
+    record { offset = offset; depth = w.depth; tag = tag; attributes = attributes }
+
 -- The state after one more entry, ignoring its attributes. The root is unchanged.
 abbrev pub after_scope : WalkState → ℕ → ℕ → WalkState
-after_scope w offset tag = record (after_die w (record {
-  offset = offset;
-  depth = w.depth;
-  tag = tag;
-  attributes = [];
-})) { root = w.root }
+after_scope w offset tag = record (after_die w (die_at w offset tag [])) { root = w.root }
 
 -- The state is the one after one more entry with an offset and a tag, for any attributes with
 -- these used ones.
 abbrev pub IsAfterEntry : WalkState → WalkState → ℕ → ℕ → Used → Type 0
 IsAfterEntry w next at tag used = (attributes : List Attribute) → used ≡ used_among attributes
-    → next ≡ after_die w (record {
-      offset = at;
-      depth = w.depth;
-      tag = tag;
-      attributes = attributes;
-    })
+    → next ≡ after_die w (die_at w at tag attributes)
 
 -- The depth after an entry, which may start a list of children.
 abbrev pub depth_after_entry : Bool → ℕ → ℕ
@@ -115,12 +110,8 @@ depth_after_entry children depth = if children then depth + 1 else depth
 -- The state after one more entry or null entry at an offset.
 abbrev pub after_node : WalkState → ℕ → Node → WalkState
 after_node w at (Entry tag children attributes) =
-    record (after_die w (record {
-      offset = at;
-      depth = w.depth;
-      tag = tag;
-      attributes = attributes;
-    })) { depth = depth_after_entry children w.depth }
+    record (after_die w (die_at w at tag attributes))
+    { depth = depth_after_entry children w.depth }
 after_node w at Null = record w { depth = w.depth - 1 }
 
 -- The offset of an entry. A null entry has none.
