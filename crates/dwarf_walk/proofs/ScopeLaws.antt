@@ -1,11 +1,10 @@
 -- The scopes that the walk stores, and the number of scopes below each.
 use Rattle.std.proofs.Common.{◌≡◌, ℕ, ◌+◌, ◌<◌, ◌≤◌, min, List, [], ◌∷◌, ◌++◌}
-use Rattle.std.proofs.Common.{cond, drop, refl, ap, sym, ◌∙◌, arith, append_assoc, append-nil}
-use Rattle.std.proofs.Common.{zero, suc, length, get_or}
+use Rattle.std.proofs.Common.{cond, drop, refl, ap, sym, arith, append_assoc, append-nil}
+use Rattle.std.proofs.Common.{zero, suc, length, get_or, one-add, suc-add, zero-add}
 use Rattle.std.specs.Prelude.{nat_lt, count_by}
 use Rattle.std.specs.List.{prefix_len}
 use Rattle.std.proofs.lemmas.Grind.{common_steps}
-use Rattle.std.proofs.lemmas.Bool.{le-ltb}
 use Rattle.std.proofs.lemmas.List.Elements.{All-nil, All-tail, All-append}
 use Rattle.std.proofs.lemmas.List.Sums.{sum_by-cons, take_while-cons}
 use Rattle.dwarf_walk.specs.declared.descendants.WalkedScope.{WalkedScope}
@@ -42,20 +41,16 @@ deeper depth least dies = prefix_len (is_deeper depth) (walked_scopes least dies
 deeper-none : (depth least : ℕ) (dies : List Die) → least ≤ depth → deeper depth least dies ≡ 0
 deeper-none depth least [] le = refl
 deeper-none depth least (d ∷ dies) le =
-    let lower : min least d.depth ≤ depth = omega (arith, le) in
-    let further = deeper-none depth (min least d.depth) dies lower in
-    grind (arith, le-ltb depth (min least d.depth) lower, further)
+    let rest = deeper-none depth (min least d.depth) dies in grind arith
 
 below-deeper : (die : Die) (least : ℕ) (dies : List Die) → die.depth < least
     → count_by is_scope (below die dies) ≡ deeper die.depth least dies
 below-deeper die least [] lt = refl
 below-deeper die least (d ∷ dies) lt =
-    let first = take_while-cons (λ (x : Die). nat_lt die.depth x.depth) d dies in
-    let sum = sum_by-cons (λ (x : Die). cond (is_scope x) 1 0) d (below die dies) in
     grind (
       arith,
-      first,
-      sum,
+      take_while-cons (λ (x : Die). nat_lt die.depth x.depth) d dies,
+      sum_by-cons (λ (x : Die). cond (is_scope x) 1 0) d (below die dies),
       deeper-none die.depth (min least d.depth) dies,
       below-deeper die (min least d.depth) dies,
       below-deeper die (d.depth + 1) dies,
@@ -85,24 +80,13 @@ pub counted_places-length : (ws : List WalkedScope) → length (counted_places w
 counted_places-length [] = refl
 counted_places-length (w ∷ rest) = ap suc (counted_places-length rest)
 
-drop-first : (m n : ℕ) (w : WalkedScope) (rest : List WalkedScope) → m ≡ n + 1
-    → drop m (w ∷ rest) ≡ drop n rest
-drop-first m n w rest e =
-    let next : m ≡ suc n = omega (arith, e) in ap (λ (k : ℕ). drop k (w ∷ rest)) next
-
 -- The scopes that are deeper than a depth are also deeper than a smaller one.
 deeper-less : (depth deep : ℕ) (ws : List WalkedScope) → depth ≤ deep
     → prefix_len (is_deeper depth) ws ≡ prefix_len (is_deeper deep) ws
     + prefix_len (is_deeper depth) (drop (prefix_len (is_deeper deep) ws) ws)
 deeper-less depth deep [] le = refl
 deeper-less depth deep (w ∷ rest) le =
-    let n = prefix_len (is_deeper deep) rest in
-    grind (
-      arith,
-      common_steps,
-      deeper-less depth deep rest le,
-      drop-first (1 + n) n w rest (omega arith),
-    )
+    grind (arith, common_steps, deeper-less depth deep rest le, one-add (prefix_len (is_deeper deep) rest))
 
 -- The number of scopes below the scope at an index.
 abbrev inside_at : List WalkedScope → ℕ → ScopePlace → ℕ
@@ -116,15 +100,7 @@ pub deeper-jump : (depth next : ℕ) (ws : List WalkedScope) (w : WalkedScope) (
 deeper-jump depth next [] w p are lt deep = absurd (omega (arith, lt))
 deeper-jump depth zero (x ∷ rest) w p are lt deep =
     let n = prefix_len (is_deeper x.depth) rest in
-    let bound = are 0 w lt in
-    grind (
-      arith,
-      common_steps,
-      deeper-less depth x.depth rest (omega (arith, deep, bound)),
-      drop-first (0 + (1 + n)) n x rest (omega arith),
-    )
+    grind (arith, common_steps, deeper-less depth x.depth rest, are 0 w lt, one-add n, zero-add (1 + n))
 deeper-jump depth (suc next) (x ∷ rest) w p are lt deep =
-    let n = 1 + inside_at rest next p in
-    deeper-jump depth next rest w p (All-tail IsBounded x rest are) (omega (arith, lt)) deep
-    ∙ ap (λ (ws : List WalkedScope). n + prefix_len (is_deeper depth) ws)
-    (sym (drop-first (suc next + n) (next + n) x rest (omega arith)))
+    rw (suc-add next (1 + inside_at rest next p))
+    (deeper-jump depth next rest w p (All-tail IsBounded x rest are) (omega (arith, lt)) deep)
