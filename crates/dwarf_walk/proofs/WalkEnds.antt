@@ -1,21 +1,17 @@
 -- The data stored for a unit and its bitmap, from the final state of its walk.
-use Rattle.std.proofs.Common.{◌≡◌, ℕ, ◌<◌, ◌⊎◌, List, refl}
-use Rattle.std.proofs.Common.{arith}
-use Rattle.std.specs.Prelude.{Result, Ok, Err, nat_lt}
+use Rattle.std.proofs.Common.{◌≡◌, ℕ, ◌<◌, ◌⊎◌, List, refl, arith, Result, Ok, Err, nat_lt}
 use Rattle.std.specs.List.{filter_map}
-use Rattle.dwarf_bytes.specs.declared.fault.Cause.TheVariants as causes
-use Rattle.dwarf_bytes.specs.declared.fault.LoadFault.{LoadFault}
-use Rattle.dwarf_bytes.specs.declared.fault.Section.TheVariants as sections
-use Rattle.dwarf_bytes.specs.Bind.{◌>>=◌}
-use Rattle.dwarf_bytes.specs.Items.{At, refuse_if, with_offset}
-use Rattle.dwarf_bytes.specs.Refusals.{memory_fault, in_section}
+use Rattle.dwarf_bytes.specs.{Bind.◌>>=◌, Items.{At, refuse_if, with_offset}, Refusals.memory_fault}
+use Rattle.dwarf_bytes.specs.{Refusals.in_section, declared.fault.LoadFault.LoadFault}
 use Rattle.dwarf_bytes.proofs.Numbers.Moves.{same-ok}
-use Rattle.dwarf_units.specs.declared.unit_headers.UnitHeader.{UnitHeader}
 use Rattle.dwarf_units.specs.Entries.{LocatedNode, Die, die_of, depth_after}
-use Rattle.dwarf_walk.specs.Stored.{StoredUnit, stored_unit}
+use Rattle.dwarf_units.specs.declared.unit_headers.UnitHeader.{UnitHeader}
 use Rattle.dwarf_walk.specs.Private.Readers.{WalkState, state_after}
-use Rattle.dwarf_walk.specs.Private.WalkedScopes.{counted_places, AreBounded}
+use Rattle.dwarf_walk.specs.{Private.WalkedScopes.{counted_places, AreBounded}, Stored.StoredUnit}
+use Rattle.dwarf_walk.specs.Stored.{stored_unit}
 use Rattle.dwarf_walk.proofs.ScopeLaws.{are-bounded, places-counted}
+use Rattle.dwarf_bytes.specs.declared.fault.Cause.TheVariants as causes
+use Rattle.dwarf_bytes.specs.declared.fault.Section.TheVariants as sections
 
 -- ---- the data stored for a unit, from the final state of its walk
 

@@ -1,18 +1,13 @@
 -- The iterations of the loop over the entries of a unit.
-use Rattle.std.proofs.Common.{◌≡◌, ℕ, ◌+◌, ◌≤◌, List, [], ◌∷◌, ◌++◌, Bool, refl}
-use Rattle.std.proofs.Common.{ap, ◌∙◌, cond, zero-add, arith}
-use Rattle.std.specs.Prelude.{Some, None, is_some, count_by, option_to_list}
+use Rattle.std.proofs.Common.{◌≡◌, ℕ, ◌+◌, ◌≤◌, List, [], ◌∷◌, ◌++◌, Bool, refl, ap, ◌∙◌, cond}
+use Rattle.std.proofs.Common.{zero-add, arith, Some, None, is_some, count_by, option_to_list}
+use Rattle.std.proofs.{lemmas.Grind.common_steps, lemmas.List.Elements.filter_map-append}
+use Rattle.std.proofs.{lemmas.List.Folds.list_any-append, lemmas.List.Sums.sum_by-append}
 use Rattle.std.specs.List.{filter_map, list_any}
-use Rattle.std.proofs.lemmas.Grind.{common_steps}
-use Rattle.std.proofs.lemmas.List.Elements.{filter_map-append}
-use Rattle.std.proofs.lemmas.List.Folds.{list_any-append}
-use Rattle.std.proofs.lemmas.List.Sums.{sum_by-append}
 use Rattle.dwarf_units.specs.Entries.{Node, LocatedNode, Die, die_in, die_of, opens, closes}
 use Rattle.dwarf_units.specs.Entries.{is_root, depth_after}
+use Rattle.dwarf_walk.specs.{Private.Readers.{state_after, after_node}, References.or_else}
 use Rattle.dwarf_walk.specs.Stored.{root_entry, root_in}
-use Rattle.dwarf_walk.specs.References.{or_else}
-use Rattle.dwarf_walk.specs.Private.Readers.{state_after}
-use Rattle.dwarf_walk.specs.Private.Readers.{after_node}
 use Rattle.dwarf_walk.proofs.ScopeLaws.{walked-push, least-push}
 
 -- The node at an offset, after a list of nodes.

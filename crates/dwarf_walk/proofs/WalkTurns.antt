@@ -1,33 +1,24 @@
 -- The loop of the walk over a unit.
-use Rattle.std.proofs.Common.{◌≡◌, ℕ, ◌<◌, ◌≤◌, ◌⊎◌, List, [], ◌∷◌, ◌++◌, false}
-use Rattle.std.proofs.Common.{length, take, refl, ap, sym, ◌∙◌, arith, length-take}
-use Rattle.std.specs.Prelude.{is_some, Result, Ok, Err, nat_le}
-use Rattle.std.specs.List.{filter_map}
-use Rattle.std.proofs.lemmas.Bool.{lt-leb, le-leb}
+use Rattle.std.proofs.Common.{◌≡◌, ℕ, ◌<◌, ◌≤◌, ◌⊎◌, List, [], ◌∷◌, ◌++◌, false, length, take, refl}
+use Rattle.std.proofs.Common.{ap, sym, ◌∙◌, arith, length-take, is_some, Result, Ok, Err, nat_le}
+use Rattle.std.proofs.{lemmas.Bool.{lt-leb, le-leb}, lemmas.Grind.common_steps}
 use Rattle.std.proofs.lemmas.List.{map-append}
-use Rattle.std.proofs.lemmas.Grind.{common_steps}
-use Rattle.dwarf_bytes.specs.declared.fault.Cause.{Cause}
-use Rattle.dwarf_bytes.specs.declared.fault.LoadFault.{LoadFault}
-use Rattle.dwarf_bytes.specs.declared.fault.Section.TheVariants as sections
-use Rattle.dwarf_bytes.specs.declared.format.Format.{Format}
-use Rattle.dwarf_bytes.specs.Bind.{◌>>=◌}
-use Rattle.dwarf_bytes.specs.Items.{Next, Item, End, Advances}
-use Rattle.dwarf_bytes.specs.Refusals.{memory_fault, at_item, in_section, Fails}
-use Rattle.dwarf_forms.specs.Declarations.{Declaration}
+use Rattle.std.specs.List.{filter_map}
+use Rattle.dwarf_bytes.specs.{Bind.◌>>=◌, Items.{Next, Item, End, Advances}, Refusals.memory_fault}
+use Rattle.dwarf_bytes.specs.{Refusals.{at_item, in_section, Fails}, declared.fault.Cause.Cause}
+use Rattle.dwarf_bytes.specs.{declared.fault.LoadFault.LoadFault, declared.format.Format.Format}
+use Rattle.dwarf_bytes.proofs.Items.Turns.{SoFar, so-far-item, so-far-end, so-far-fault}
 use Rattle.dwarf_bytes.proofs.Numbers.Moves.{same-ok}
-use Rattle.dwarf_bytes.proofs.Items.Turns.{SoFar, so-far-item, so-far-end}
-use Rattle.dwarf_bytes.proofs.Items.Turns.{so-far-fault}
+use Rattle.dwarf_forms.specs.Declarations.{Declaration}
+use Rattle.dwarf_units.specs.Entries.{Node, LocatedNode, Die, die_of, node_at_depth, node_at}
 use Rattle.dwarf_units.specs.declared.unit_headers.UnitHeader.{UnitHeader}
-use Rattle.dwarf_units.specs.Entries.{Node, LocatedNode, Die, die_of}
-use Rattle.dwarf_units.specs.Entries.{node_at_depth, node_at}
-use Rattle.dwarf_walk.specs.Private.Readers.{WalkState, state_after, nodes_of}
-use Rattle.dwarf_walk.specs.Private.Readers.{Takes, places_of, walk_of}
-use Rattle.dwarf_walk.specs.declared.entry_bitmap.EntryBitmap.{EntryBitmap}
-use Rattle.dwarf_walk.specs.EntryBitmap.{AddsOffsets, offsets_of}
-use Rattle.dwarf_walk.proofs.BitmapLaws.{adds-more}
 use Rattle.dwarf_units.proofs.EntryAdvances.{node_at_depth-moves, node_at-advances}
-use Rattle.dwarf_walk.proofs.WalkLaws.{standing, IsTree, dies-push}
+use Rattle.dwarf_walk.specs.{EntryBitmap.{AddsOffsets, offsets_of}, Private.Readers.WalkState}
+use Rattle.dwarf_walk.specs.Private.Readers.{state_after, nodes_of, Takes, places_of, walk_of}
+use Rattle.dwarf_walk.specs.declared.entry_bitmap.EntryBitmap.{EntryBitmap}
+use Rattle.dwarf_walk.proofs.{BitmapLaws.adds-more, WalkLaws.{standing, IsTree, dies-push}}
 use Rattle.dwarf_walk.proofs.WalkLaws.{state_after-push, tree-push}
+use Rattle.dwarf_bytes.specs.declared.fault.Section.TheVariants as sections
 
 -- The offsets of the entries after one more node.
 offsets-push : (before : List LocatedNode) (at : ℕ) (node : Node)

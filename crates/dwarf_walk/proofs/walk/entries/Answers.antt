@@ -1,5 +1,4 @@
-use Rattle.std.proofs.Common.{arith, inr}
-use Rattle.std.proofs.lemmas.Result.{err_from_is_err_and}
+use Rattle.std.proofs.{Common.{arith, inr}, lemmas.Result.err_from_is_err_and}
 use Rattle.dwarf_units.specs.Entries.{entries_of}
 use Rattle.dwarf_walk.specs.Private.Readers.{nodes_of, walk_of}
 use Rattle.dwarf_walk.proofs.WalkEnds.{walk-ends, unit-fault, unit-nodes}

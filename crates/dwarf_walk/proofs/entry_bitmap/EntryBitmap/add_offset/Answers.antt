@@ -1,6 +1,6 @@
 use Rattle.std.proofs.Common.{◌<◌, ◌/◌, ◌*◌, ◌^◌, ◌%◌, ap, arith, bit_or, length}
-use Rattle.std.specs.Int.{from_bool}
 use Rattle.std.proofs.lemmas.List.{get_or_read}
+use Rattle.std.specs.Int.{from_bool}
 use Rattle.dwarf_walk.proofs.BitmapLaws.{adds-bit}
 use Rattle.dwarf_walk.proofs.entry_bitmap.EntryBitmap.add_offset.Goals as goal
 

@@ -1,5 +1,4 @@
-use Rattle.std.proofs.Common.{arith}
-use Rattle.std.proofs.lemmas.Grind.{common_steps}
+use Rattle.std.proofs.{Common.arith, lemmas.Grind.common_steps}
 use Rattle.dwarf_walk.proofs.walk.Walk.add_node.Goals as goal
 
 pub overflow_add-depth : goal.overflow_add-depth
