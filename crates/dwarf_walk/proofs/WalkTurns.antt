@@ -1,8 +1,7 @@
 -- The loop of the walk over a unit.
 use Rattle.std.proofs.Common.{◌≡◌, ℕ, ◌<◌, ◌≤◌, ◌⊎◌, List, [], ◌∷◌, ◌++◌, false, length, take, refl}
 use Rattle.std.proofs.Common.{ap, sym, ◌∙◌, arith, length-take, is_some, Result, Ok, Err, nat_le}
-use Rattle.std.proofs.{lemmas.Bool.{lt-leb, le-leb}, lemmas.Grind.common_steps}
-use Rattle.std.proofs.lemmas.List.{map-append}
+use Rattle.std.proofs.{lemmas.Bool.{lt-leb, le-leb}}
 use Rattle.std.specs.List.{filter_map}
 use Rattle.dwarf_bytes.specs.{Bind.◌>>=◌, Items.{Next, Item, End, Advances}, Refusals.memory_fault}
 use Rattle.dwarf_bytes.specs.{Refusals.{at_item, in_section, Fails}, declared.fault.Cause.Cause}
@@ -10,28 +9,14 @@ use Rattle.dwarf_bytes.specs.{declared.fault.LoadFault.LoadFault, declared.forma
 use Rattle.dwarf_bytes.proofs.Items.Turns.{SoFar, so-far-item, so-far-end, so-far-fault}
 use Rattle.dwarf_bytes.proofs.Numbers.Moves.{same-ok}
 use Rattle.dwarf_forms.specs.Declarations.{Declaration}
-use Rattle.dwarf_units.specs.Entries.{Node, LocatedNode, Die, die_of, node_at_depth, node_at}
+use Rattle.dwarf_units.specs.Entries.{Node, LocatedNode, die_of, node_at_depth, node_at}
 use Rattle.dwarf_units.specs.declared.unit_headers.UnitHeader.{UnitHeader}
 use Rattle.dwarf_units.proofs.EntryAdvances.{node_at_depth-moves, node_at-advances}
 use Rattle.dwarf_walk.specs.{EntryBitmap.{AddsOffsets, offsets_of}, Private.Readers.WalkState}
-use Rattle.dwarf_walk.specs.Private.Readers.{state_after, nodes_of, Takes, places_of, walk_of}
+use Rattle.dwarf_walk.specs.Private.Readers.{state_after, nodes_of, Takes, walk_of}
 use Rattle.dwarf_walk.specs.declared.entry_bitmap.EntryBitmap.{EntryBitmap}
-use Rattle.dwarf_walk.proofs.{BitmapLaws.adds-more, WalkLaws.{standing, IsTree, dies-push}}
-use Rattle.dwarf_walk.proofs.WalkLaws.{state_after-push, tree-push}
+use Rattle.dwarf_walk.proofs.{BitmapLaws.adds-more, WalkLaws.{standing, IsTree, node-push}}
 use Rattle.dwarf_bytes.specs.declared.fault.Section.TheVariants as sections
-
--- The offsets of the entries after one more node.
-offsets-push : (before : List LocatedNode) (at : ℕ) (node : Node)
-    → offsets_of (filter_map die_of before) ++ places_of at node
-    ≡ offsets_of (filter_map die_of (before ++ standing before at node ∷ []))
-offsets-push before at node =
-    let dies = dies-push before at node in
-    grind (
-      arith,
-      common_steps,
-      dies,
-      map-append (λ (d : Die). d.offset) (filter_map die_of before),
-    )
 
 module _ (info : List ℕ) (header : UnitHeader) (table : List Declaration) (bitmap : EntryBitmap)
   where
@@ -75,15 +60,16 @@ module _ (info : List ℕ) (header : UnitHeader) (table : List Declaration) (bit
     walk-item {format} {bytes} {marked} {after} {at} {next} {was} same_format same within so_far taken =
         let before = so_far.before in
         let moved = node_at_depth-moves format table was.depth (is_some was.root) bytes at
-        (taken.0, next) taken.1 in (
+        (taken.0, next) taken.1 in
+        let pushed = node-push before at taken.0 so_far.tree in (
           moved.0,
           moved.1,
           record {
             before = before ++ standing before at taken.0 ∷ [];
-            marked_so = rw (← offsets-push before at taken.0) (adds-more bitmap marked after _ _
-                so_far.marked_so taken.2.1);
-            kept = rw so_far.kept at taken.2.0 ∙ state_after-push before at taken.0 so_far.tree;
-            tree = tree-push before at taken.0 so_far.tree;
+            marked_so = rw (← pushed.1) (adds-more bitmap marked after _ _ so_far.marked_so
+                taken.2.1);
+            kept = rw so_far.kept at taken.2.0 ∙ pushed.0;
+            tree = pushed.2;
             read = so-far-item header.end read_after advances header.first before at _ next so_far.read
                 (next-is same_format same within so_far (Ok (taken.0, next)) taken.1);
           },
