@@ -1,7 +1,6 @@
 pub mod StoredNodes
 pub mod BitmapLaws
 pub mod ScopeLaws
-pub mod WalkLaws
 pub mod WalkTurns
 pub mod WalkEnds
 pub mod RereadLaws

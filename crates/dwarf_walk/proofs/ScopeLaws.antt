@@ -21,7 +21,7 @@ pub walked-push : (least : ℕ) (dies : List Die) (die : Die)
 walked-push least [] die = append-nil (walked_scope least die)
 walked-push least (d ∷ dies) die =
     let rest = walked-push (least_after_entry least d) dies die in
-    rw rest (sym (append_assoc (walked_scope least d) (walked_scopes (least_after_entry least d) dies) _))
+    rw rest (sym (append_assoc (walked_scope least d) _ _))
 
 pub least-push : (least : ℕ) (dies : List Die) (die : Die)
     → least_after least (dies ++ die ∷ []) ≡ least_after_entry (least_after least dies) die
@@ -83,7 +83,8 @@ deeper-less : (depth deep : ℕ) (ws : List WalkedScope) → depth ≤ deep
     + prefix_len (is_deeper depth) (drop (prefix_len (is_deeper deep) ws) ws)
 deeper-less depth deep [] le = refl
 deeper-less depth deep (w ∷ rest) le =
-    grind (arith, common_steps, deeper-less depth deep rest le, one-add (prefix_len (is_deeper deep) rest))
+    let n = prefix_len (is_deeper deep) rest in
+    grind (arith, common_steps, deeper-less depth deep rest le, one-add n)
 
 -- The number of scopes below the scope at an index.
 abbrev inside_at : List WalkedScope → ℕ → ScopePlace → ℕ
@@ -97,7 +98,8 @@ pub deeper-jump : (depth next : ℕ) (ws : List WalkedScope) (w : WalkedScope) (
 deeper-jump depth next [] w p are lt deep = absurd (omega (arith, lt))
 deeper-jump depth zero (x ∷ rest) w p are lt deep =
     let n = prefix_len (is_deeper x.depth) rest in
-    grind (arith, common_steps, deeper-less depth x.depth rest, are 0 w lt, one-add n, zero-add (1 + n))
+    let more = deeper-less depth x.depth rest in
+    grind (arith, common_steps, more, are 0 w lt, one-add n, zero-add (1 + n))
 deeper-jump depth (suc next) (x ∷ rest) w p are lt deep =
     rw (suc-add next (1 + inside_at rest next p))
     (deeper-jump depth next rest w p (All-tail IsBounded x rest are) (omega (arith, lt)) deep)

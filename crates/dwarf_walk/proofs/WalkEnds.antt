@@ -43,8 +43,8 @@ walk-ends header (Ok all) w h =
     )
 
 -- A fault of the walk is a fault of the unit.
-pub unit-fault : (header : UnitHeader) (nodes : Result (List LocatedNode × ℕ) At) (fault : LoadFault)
-    → (fault ≡ memory_fault) ⊎ (in_section sections.DebugInfo (walk_in nodes) ≡ Err fault)
+pub unit-fault : (header : UnitHeader) (nodes : Result (List LocatedNode × ℕ) At)
+    (fault : LoadFault) → (fault ≡ memory_fault) ⊎ (in_section sections.DebugInfo (walk_in nodes) ≡ Err fault)
     → (fault ≡ memory_fault) ⊎ (unit_in header nodes ≡ Err fault)
 unit-fault header nodes fault h = grind arith
 
