@@ -1,7 +1,7 @@
 -- The data stored for a unit and its bitmap, from the final state of its walk.
-use Rattle.std.proofs.Common.{◌≡◌, ℕ, ◌<◌, ◌⊎◌, List, refl, arith, Result, Ok, Err, nat_lt}
+use Rattle.std.proofs.Common.{◌≡◌, ℕ, List, refl, arith, Result, Ok, Err, nat_lt}
 use Rattle.std.specs.List.{filter_map}
-use Rattle.dwarf_bytes.specs.{Bind.◌>>=◌, Items.{At, refuse_if, with_offset}, Refusals.memory_fault}
+use Rattle.dwarf_bytes.specs.{Bind.◌>>=◌, Items.{At, refuse_if, with_offset}}
 use Rattle.dwarf_bytes.specs.{Refusals.in_section, declared.fault.LoadFault.LoadFault}
 use Rattle.dwarf_bytes.proofs.Numbers.Moves.{same-ok}
 use Rattle.dwarf_units.specs.Entries.{LocatedNode, Die, die_of, depth_after}
@@ -29,24 +29,15 @@ unit_in header all = in_section sections.DebugInfo
 -- The data stored for a unit whose walk ends in a state.
 pub walk-ends : (header : UnitHeader) (nodes : Result (List LocatedNode × ℕ) At) (w : WalkState)
     → in_section sections.DebugInfo (walk_in nodes) ≡ Ok w
-    → AreBounded w.scopes × (0 < w.depth → unit_in header nodes
-    ≡ Err (record { section = sections.DebugInfo; cause = causes.TreeOpen; at = header.start }))
-    × (w.depth ≡ 0 → unit_in header nodes
+    → AreBounded w.scopes × (w.depth ≡ 0 → unit_in header nodes
     ≡ Ok (record { header = header; root = w.root; scopes = counted_places w.scopes }))
 walk-ends header (Err e) w h = cc
 walk-ends header (Ok all) w h =
     let same = same-ok (state_after all.0) w h in
     let dies = filter_map die_of all.0 in (
       rw (← same) (are-bounded 0 dies),
-      λ some. grind (arith, same),
       λ none. rw (← same) (rw (places-counted 0 dies) (grind (arith, same))),
     )
-
--- A fault of the walk is a fault of the unit.
-pub unit-fault : (header : UnitHeader) (nodes : Result (List LocatedNode × ℕ) At)
-    (fault : LoadFault) → (fault ≡ memory_fault) ⊎ (in_section sections.DebugInfo (walk_in nodes) ≡ Err fault)
-    → (fault ≡ memory_fault) ⊎ (unit_in header nodes ≡ Err fault)
-unit-fault header nodes fault h = grind arith
 
 -- The entries of a unit are those of its nodes.
 pub unit-nodes : (header : UnitHeader) (nodes : Result (List LocatedNode × ℕ) At) (dies : List Die)

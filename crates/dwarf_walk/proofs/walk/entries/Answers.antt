@@ -1,21 +1,19 @@
-use Rattle.std.proofs.{Common.{arith, inr}, lemmas.Result.err_from_is_err_and}
+use Rattle.std.proofs.{Common.{arith}, lemmas.Result.err_from_is_err_and}
 use Rattle.dwarf_units.specs.Entries.{entries_of}
 use Rattle.dwarf_walk.specs.Private.Readers.{nodes_of, walk_of}
-use Rattle.dwarf_walk.proofs.WalkEnds.{walk-ends, unit-fault, unit-nodes}
+use Rattle.dwarf_walk.proofs.WalkEnds.{walk-ends, unit-nodes}
 use Rattle.dwarf_walk.proofs.walk.entries.Goals as goal
 
 pub returns-in_err-walk-clause-decodes : goal.returns-in_err-walk-clause-decodes
 unfolding walk_of entries_of
 returns-in_err-walk-clause-decodes c =
     let p = err_from_is_err_and c.from_residual.result c.from_residual.ensures.1 in
-    rw (p.1, p.2) (unit-fault c.args.header (nodes_of c.args.info.now c.args.header
-    c.args.table.now.declarations) _ c.in_err-walk.ensures.decodes)
+    rw (p.1, p.2) (grind (arith, c.in_err-walk.ensures.decodes))
 
 pub returns-then-walk-gt0-clause-decodes : goal.returns-then-walk-gt0-clause-decodes
 unfolding walk_of entries_of
 returns-then-walk-gt0-clause-decodes c =
-    rw c.at_item.ensures (inr ((walk-ends c.args.header (nodes_of c.args.info.now c.args.header
-    c.args.table.now.declarations) _ c.in_ok-walk.ensures.decodes).1 c.if-walk-gt0.true))
+    rw c.at_item.ensures (grind (arith, c.in_ok-walk.ensures.decodes, c.if-walk-gt0.true))
 
 pub count_descendants-requires : goal.count_descendants-requires
 unfolding walk_of
@@ -28,7 +26,7 @@ unfolding walk_of entries_of
 returns-clause-decodes c =
     rw (c.in_ok-count_descendants.ensures, c.deref.ensures.value) ((walk-ends c.args.header
     (nodes_of c.args.info.now c.args.header c.args.table.now.declarations) _
-    c.in_ok-walk.ensures.decodes).2 (omega (arith, c.if-walk-gt0.false)))
+    c.in_ok-walk.ensures.decodes).1 (omega (arith, c.if-walk-gt0.false)))
 
 pub returns-clause-bitmap : goal.returns-clause-bitmap
 unfolding entries_of
