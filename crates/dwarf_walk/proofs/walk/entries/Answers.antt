@@ -1,6 +1,7 @@
 use Rattle.std.proofs.{Common.{arith}, lemmas.Result.err_from_is_err_and}
 use Rattle.dwarf_units.specs.Entries.{entries_of}
 use Rattle.dwarf_walk.specs.Private.Readers.{nodes_of, walk_of}
+use Rattle.dwarf_walk.proofs.ScopeLaws.{places-counted}
 use Rattle.dwarf_walk.proofs.WalkEnds.{walk-ends, unit-nodes}
 use Rattle.dwarf_walk.proofs.walk.entries.Goals as goal
 
@@ -24,9 +25,9 @@ count_descendants-requires c =
 pub returns-clause-decodes : goal.returns-clause-decodes
 unfolding walk_of entries_of
 returns-clause-decodes c =
-    rw (c.in_ok-count_descendants.ensures, c.deref.ensures.value) ((walk-ends c.args.header
-    (nodes_of c.args.info.now c.args.header c.args.table.now.declarations) _
-    c.in_ok-walk.ensures.decodes).1 (omega (arith, c.if-walk-gt0.false)))
+    let count = places-counted 0 in
+    rw (c.in_ok-count_descendants.ensures, c.deref.ensures.value)
+    (grind (arith, c.in_ok-walk.ensures.decodes, c.if-walk-gt0.false, count))
 
 pub returns-clause-bitmap : goal.returns-clause-bitmap
 unfolding entries_of
