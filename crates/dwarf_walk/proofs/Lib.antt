@@ -2,5 +2,4 @@ pub mod StoredNodes
 pub mod BitmapLaws
 pub mod ScopeLaws
 pub mod WalkTurns
-pub mod WalkEnds
 pub mod RereadLaws

@@ -53,15 +53,15 @@ below-deeper die least (d ∷ dies) lt =
       below-deeper die (d.depth + 1) dies,
     )
 
-pub places-counted : (least : ℕ) (dies : List Die)
+pub places_counted : (least : ℕ) (dies : List Die)
     → counted_places (walked_scopes least dies) ≡ scope_places dies
-places-counted least [] = refl
-places-counted least (die ∷ rest) =
+places_counted least [] = refl
+places_counted least (die ∷ rest) =
     grind (
       arith,
       below-deeper die (die.depth + 1) rest,
-      places-counted (die.depth + 1) rest,
-      places-counted (min least die.depth) rest,
+      places_counted (die.depth + 1) rest,
+      places_counted (min least die.depth) rest,
     )
 
 pub are-bounded : (least : ℕ) (dies : List Die) → AreBounded (walked_scopes least dies)
