@@ -18,11 +18,11 @@ or-none : (b : Bool) → b ≡ (b || false)
 or-none b = grind arith
 
 -- A bit that is set, or 0 that is added to its word.
-pub adds-bit : (words : List ℕ) (k v j : ℕ) (is_entry : Bool) → k / 64 < length words
+pub adds_bit : (words : List ℕ) (k v j : ℕ) (is_entry : Bool) → k / 64 < length words
     → v ≡ bit_or (get_or words (k / 64) 0) (from_bool is_entry * 2 ^ (k % 64) % 2 ^ 64)
     → has (set words (k / 64) v) j
     ≡ (has words j || list_any (λ place. place == j) (if is_entry then k ∷ [] else []))
-adds-bit words k v j is_entry lt is =
+adds_bit words k v j is_entry lt is =
     let within : k % 64 < 64 = omega arith in
     let word = get_or words (k / 64) 0 in
     grind (

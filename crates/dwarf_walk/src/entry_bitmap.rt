@@ -24,6 +24,7 @@ impl EntryBitmap {
     }
 
     /// Sets the bit of an offset if an entry is there. Fails if the offset is beyond the last word.
+    #[tactic(auto, using(crate::proofs::BitmapLaws::adds_bit))]
     pub(crate) fn add_offset(&mut self, place: usize, is_entry: bool) -> Result<(), AllocError>
         ensures { OnOk result (AddsOffsets self.old self.new
             (if is_entry then place ∷ [] else [])) }
