@@ -53,15 +53,15 @@ below-deeper die least (d ∷ dies) lt =
       below-deeper die (d.depth + 1) dies,
     )
 
-pub places_counted : (least : ℕ) (dies : List Die)
+pub places-counted : (least : ℕ) (dies : List Die)
     → counted_places (walked_scopes least dies) ≡ scope_places dies
-places_counted least [] = refl
-places_counted least (die ∷ rest) =
+places-counted least [] = refl
+places-counted least (die ∷ rest) =
     grind (
       arith,
       below-deeper die (die.depth + 1) rest,
-      places_counted (die.depth + 1) rest,
-      places_counted (min least die.depth) rest,
+      places-counted (die.depth + 1) rest,
+      places-counted (min least die.depth) rest,
     )
 
 pub are-bounded : (least : ℕ) (dies : List Die) → AreBounded (walked_scopes least dies)
@@ -73,9 +73,9 @@ are-bounded least (die ∷ rest) =
 
 -- ---- counting from the last scope to the first
 
-pub counted_places_length : (ws : List WalkedScope) → length (counted_places ws) ≡ length ws
-counted_places_length [] = refl
-counted_places_length (w ∷ rest) = ap suc (counted_places_length rest)
+pub counted_places-length : (ws : List WalkedScope) → length (counted_places ws) ≡ length ws
+counted_places-length [] = refl
+counted_places-length (w ∷ rest) = ap suc (counted_places-length rest)
 
 -- The scopes that are deeper than a depth are also deeper than a smaller one.
 deeper-less : (depth deep : ℕ) (ws : List WalkedScope) → depth ≤ deep
@@ -91,15 +91,18 @@ abbrev inside_at : List WalkedScope → ℕ → ScopePlace → ℕ
 inside_at ws index p = (get_or (counted_places ws) index p).inside
 
 -- If a scope is deeper, so are the scopes below it.
-pub deeper_jump : (depth next : ℕ) (ws : List WalkedScope) (w : WalkedScope) (p : ScopePlace)
+pub deeper-jump : (depth next : ℕ) (ws : List WalkedScope) (w : WalkedScope) (p : ScopePlace)
     → AreBounded ws → next < length ws → depth < (get_or ws next w).least
     → prefix_len (is_deeper depth) (drop next ws) ≡ 1 + inside_at ws next p
     + prefix_len (is_deeper depth) (drop (next + (1 + inside_at ws next p)) ws)
-deeper_jump depth next [] w p are lt deep = absurd (omega (arith, lt))
-deeper_jump depth zero (x ∷ rest) w p are lt deep =
+deeper-jump depth next [] w p are lt deep = absurd (omega (arith, lt))
+deeper-jump depth zero (x ∷ rest) w p are lt deep =
     let n = prefix_len (is_deeper x.depth) rest in
     let more = deeper-less depth x.depth rest in
     grind (arith, common_steps, more, are 0 w lt, one-add n, zero-add (1 + n))
-deeper_jump depth (suc next) (x ∷ rest) w p are lt deep =
+deeper-jump depth (suc next) (x ∷ rest) w p are lt deep =
     rw (suc-add next (1 + inside_at rest next p))
-    (deeper_jump depth next rest w p (All-tail IsBounded x rest are) (omega (arith, lt)) deep)
+    (deeper-jump depth next rest w p (All-tail IsBounded x rest are) (omega (arith, lt)) deep)
+
+-- What a loop that jumps from scope to scope needs.
+pub ruleset jumps = (counted_places-length, deeper-jump)

@@ -42,7 +42,7 @@ pub(crate) fn count_descendants(
 
 /// Counts the scopes of a list up to the first that is not deeper than `depth`. `places` has the
 /// number of scopes below each: if a scope is deeper, so are the scopes below it.
-#[tactic(auto, using(crate::proofs::ScopeLaws::counted_places_length, crate::proofs::ScopeLaws::deeper_jump))]
+#[tactic(auto, using(crate::proofs::ScopeLaws::jumps))]
 fn count_deeper(depth: u16, walked: &[WalkedScope], places: &[ScopePlace]) -> usize
     requires bounded { AreBounded walked.now }
     requires places { places.now ≡ counted_places walked.now }

@@ -2,10 +2,6 @@ use Rattle.std.proofs.Common.{arith}
 use Rattle.dwarf_walk.proofs.WalkTurns.{walk-item, walk-end, walk-fault}
 use Rattle.dwarf_walk.proofs.walk.walk_unit.Goals as goal
 
-pub read_node-requires-clause-rooted : goal.read_node-requires-clause-rooted
-read_node-requires-clause-rooted c below =
-    let so_far = c.loop-place.invariant in grind (arith, so_far.kept, so_far.tree.outside)
-
 pub returns-in-Err-clause-decodes : goal.returns-in-Err-clause-decodes
 returns-in-Err-clause-decodes c =
     walk-fault _ _ _ _ c.requires c.unit_bytes-unit.ensures c.loop-place-test.true
