@@ -1,11 +1,10 @@
 -- Sets of names while nodes are added.
-use Rattle.std.proofs.Common.{◌≡◌, ◌≢◌, ℕ, ◌+◌, ◌/◌, ◌%◌, ◌<◌, ◌≤◌, List, [], ◌∷◌, ◌++◌, length}
-use Rattle.std.proofs.Common.{reverse, true, false, refl, ap, ◌∙◌, arith, length-append, ◌==◌, ◌||◌}
-use Rattle.std.proofs.Common.{Result, IfOk, OnErr}
+use Rattle.std.proofs.Common.{◌≡◌, ◌≢◌, ℕ, ◌/◌, ◌%◌, ◌<◌, List, [], ◌∷◌, ◌++◌, length, reverse}
+use Rattle.std.proofs.Common.{true, false, refl, ap, ◌∙◌, arith, length-append, ◌==◌, ◌||◌}
 use Rattle.std.specs.Int.Digits.{digits_of}
 use Rattle.std.proofs.Math.ListN.{get_or-append}
 use Rattle.std.proofs.Math.Seq.{get_or-append_seam}
-use Rattle.std.proofs.lemmas.Int.Digits.{digits_of_step, length-digits_of_step}
+use Rattle.std.proofs.lemmas.Int.Digits.{digits_of_step}
 use Rattle.std.proofs.lemmas.List.{reverse-append, get_or_past}
 use Rattle.std.proofs.lemmas.Option.{slice_get_within}
 use Rattle.abbreviation_memo.specs.declared.name_sets.Branch.{Branch}
@@ -50,25 +49,6 @@ stay-more bs now more sets is = rw is (record {
   same = λ set name lt. ap (λ (b : Branch). b.ends)
       (along-stays bs more (reverse (digits_of 2 name)) set sets lt);
 })
-
--- ---- the number of added nodes
-
--- at most one more node for each bit of a name, and one more
-abbrev pub HasFewMore : List Branch → List Branch → ℕ → Type 0
-HasFewMore old new name = length new ≤ length old + length (digits_of 2 name) + 1
-
-pub few-after : (old mid : List Branch) (name : ℕ) → 0 < name → HasFewMore old mid (name / 2)
-    → HasFewMore old mid name
-few-after old mid name some few =
-    omega (arith, few, length-digits_of_step 2 name (omega arith) some)
-
-pub few-bits : {E : Type 0} (old mid new : List Branch) (name : ℕ) (b : Branch) (r : Result ℕ E)
-    → 0 < name → HasFewMore old mid (name / 2)
-    → IfOk r (λ set. (set ≡ length mid) × (new ≡ mid ++ b ∷ [])) → OnErr r (new ≡ mid)
-    → HasFewMore old new name
-few-bits old mid new name b r some few made none =
-    let one : length new ≤ length mid + 1 = grind (arith, length-append mid (b ∷ [])) in
-    omega (arith, few, length-digits_of_step 2 name (omega arith) some)
 
 -- ---- a set with one more name
 

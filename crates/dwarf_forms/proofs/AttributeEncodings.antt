@@ -14,10 +14,10 @@ use Rattle.dwarf_forms.specs.declared.attribute.AttributeSpecification.{Attribut
 use Rattle.dwarf_forms.specs.Declarations.{EncodesConstant, EncodesAttribute, EndsAttributes}
 use Rattle.dwarf_forms.specs.Tables.{constant_at, attribute_at, attributes_at}
 use Rattle.dwarf_forms.proofs.Encodings.{Both, both, nothing, again, joined, parted}
-use Rattle.dwarf_forms.proofs.ListEncodings.{Ends, IsDecoded, AreEncoded, IsNew, encoded-list}
-use Rattle.dwarf_forms.proofs.ListEncodings.{valid-list, read-list, all-new, new-each}
-use Rattle.dwarf_forms.proofs.Moves.{IsUsable, name_of, FieldsAt, EndAt, found, found-again}
-use Rattle.dwarf_forms.proofs.Moves.{attribute_at-advances, attributes_at-lists, attributes-ok}
+use Rattle.dwarf_forms.proofs.ListEncodings.{IsDecoded, AreEncoded, IsNew, encoded-list, valid-list}
+use Rattle.dwarf_forms.proofs.ListEncodings.{read-list, all-new, new-each}
+use Rattle.dwarf_forms.proofs.Moves.{IsUsable, name_of, found, found-again, attribute_at-advances}
+use Rattle.dwarf_forms.proofs.Moves.{attributes_at-lists, attributes-ok}
 use Rattle.dwarf_bytes.proofs.Contents.ContentEncodings.{front-within}
 use Rattle.dwarf_bytes.proofs.Numbers.AtOffsets.{fixed-encoded, fixed-again}
 
@@ -94,55 +94,41 @@ pub attribute-decoded : (section : List ℕ)
     (attribute_at section)
 attribute-decoded section = record {
   item = λ before at x next. (
-    λ h. let f = found section before at (Item x next) h in (encoded at x next f.0, f.1),
-    λ s. found-again section before at (Item x next) (fields at x next s.0, s.1),
+    λ h. let f = found section before at (Item x next) h in (
+      again (joined (joined (uleb-read f.0.2) (uleb-read f.0.3))
+          (constant-encoded x.form section f.0.1 x.constant next f.0.4)) (λ front e. record {
+            name = e.front_is.front;
+            form = e.front_is.rest;
+            constant = e.rest;
+            whole = cc (e.whole, e.front_is.whole);
+            name_is = e.front_is.front_is;
+            form_is = e.front_is.rest_is;
+            constant_is = e.rest_is;
+          }),
+      f.1,
+    ),
+    λ s. let all = parted {A = Both IsUleb IsUleb} {B = EncodesConstant x.form}
+        {p = ((x.name, x.form), x.constant)} (again s.0 (λ front e. rw e.whole (both
+        (e.name ++ e.form) e.constant (both e.name e.form e.name_is e.form_is) e.constant_is))) in
+        let two = parted all.1 in
+        let constant = constant-reads x.form section all.0 x.constant next all.2 in
+        found-again section before at (Item x next)
+        ((two.0, all.0, uleb-reads two.1, uleb-reads two.2, constant), s.1),
   );
   end = λ before at next. (
     λ h. let f = found section before at (End next) h in
-        again (joined (uleb-read f.name) (uleb-read f.form)) (λ front e. record {
+        again (joined (uleb-read f.1) (uleb-read f.2)) (λ front e. record {
           name = e.front;
           form = e.rest;
           whole = e.whole;
           name_is = e.front_is;
           form_is = e.rest_is;
         }),
-    λ s. found-again section before at (End next) (end_fields at next s),
+    λ s. let two = parted {A = IsUleb} {B = IsUleb} {p = (0, 0)} (again s (λ front e.
+        rw e.whole (both e.name e.form e.name_is e.form_is))) in
+        found-again section before at (End next) (two.0, uleb-reads two.1, uleb-reads two.2),
   );
 }
-  where
-    encoded : (at : ℕ) (x : AttributeSpecification) (next : ℕ) → FieldsAt section at x next
-        → IsEncodedAt EncodesAttribute section at x next
-    encoded at x next f = again (joined (joined (uleb-read f.name) (uleb-read f.form))
-        (constant-encoded x.form section f.last x.constant next f.constant)) (λ front e. record {
-          name = e.front_is.front;
-          form = e.front_is.rest;
-          constant = e.rest;
-          whole = cc (e.whole, e.front_is.whole);
-          name_is = e.front_is.front_is;
-          form_is = e.front_is.rest_is;
-          constant_is = e.rest_is;
-        })
-
-    fields : (at : ℕ) (x : AttributeSpecification) (next : ℕ)
-        → IsEncodedAt EncodesAttribute section at x next → FieldsAt section at x next
-    fields at x next s =
-        let all = parted {A = Both IsUleb IsUleb} {B = EncodesConstant x.form}
-        {p = ((x.name, x.form), x.constant)} (again s (λ front e. rw e.whole (both
-        (e.name ++ e.form) e.constant (both e.name e.form e.name_is e.form_is) e.constant_is))) in
-        let two = parted all.1 in record {
-          mid = two.0;
-          last = all.0;
-          name = uleb-reads two.1;
-          form = uleb-reads two.2;
-          constant = constant-reads x.form section all.0 x.constant next all.2;
-        }
-
-    end_fields : (at next : ℕ) → IsEncodedAt (Ends EndsAttributes) section at tt next
-        → EndAt section at next
-    end_fields at next s =
-        let two = parted {A = IsUleb} {B = IsUleb} {p = (0, 0)} (again s (λ front e.
-        rw e.whole (both e.name e.form e.name_is e.form_is))) in
-        record { mid = two.0; name = uleb-reads two.1; form = uleb-reads two.2 }
 
 -- ---- the attributes of a declaration
 

@@ -26,19 +26,16 @@ abbrev pub name_of : AttributeSpecification → ℕ
 name_of attribute = attribute.name
 
 -- the fields of an attribute are read one after the other
-pub record FieldsAt (section : List ℕ) (at : ℕ) (x : AttributeSpecification) (next : ℕ)
-    : Type 0 where
-  pub mid : ℕ
-  pub last : ℕ
-  pub name : reading (uleb_at section at) ≡ Ok (x.name, mid)
-  pub form : reading (uleb_at section mid) ≡ Ok (x.form, last)
-  pub constant : constant_at x.form section last ≡ Ok (x.constant, next)
+abbrev pub FieldsAt : List ℕ → ℕ → AttributeSpecification → ℕ → Type 0
+FieldsAt section at x next = (mid : ℕ) × (last : ℕ)
+    × (reading (uleb_at section at) ≡ Ok (x.name, mid))
+    × (reading (uleb_at section mid) ≡ Ok (x.form, last))
+    × (constant_at x.form section last ≡ Ok (x.constant, next))
 
 -- a name 0 and a form 0 are read
-pub record EndAt (section : List ℕ) (at next : ℕ) : Type 0 where
-  pub mid : ℕ
-  pub name : reading (uleb_at section at) ≡ Ok (0, mid)
-  pub form : reading (uleb_at section mid) ≡ Ok (0, next)
+abbrev pub EndAt : List ℕ → ℕ → ℕ → Type 0
+EndAt section at next = (mid : ℕ) × (reading (uleb_at section at) ≡ Ok (0, mid))
+    × (reading (uleb_at section mid) ≡ Ok (0, next))
 
 -- what the read of an attribute after other ones has found
 abbrev pub Found : List ℕ → List AttributeSpecification → ℕ → Next AttributeSpecification → Type 0
@@ -54,19 +51,13 @@ found section before at next h =
     after-bind (reading (uleb_at section name.1)) _ next h1 P (λ form form_is h2.
     chosen ((name.0 == 0) && (form.0 == 0)) _ _ (Ok next) h2 P (λ zeros is.
     rw (← same-ok (End form.1) next is)
-    (record { mid = name.1; name = grind arith; form = grind arith })) (λ _ h3.
+    (name.1, grind arith, grind arith)) (λ _ h3.
     after-test ((name.0 == 0) || is_none (form_of form.0)) causes.Form _ next h3 P (λ usable h4.
     after-test (list_any (λ y. y.name == name.0) before) causes.AttrTwice _ next h4 P (λ once h5.
     after-bind (constant_at form.0 section form.1) _ next h5 P (λ constant constant_is is.
     rw (← same-ok
     (Item (record { name = name.0; form = form.0; constant = constant.0 }) constant.1) next is) (
-      record {
-        mid = name.1;
-        last = form.1;
-        name = name_is;
-        form = form_is;
-        constant = constant_is;
-      },
+      (name.1, form.1, name_is, form_is, constant_is),
       (parts name.0 (form_of form.0) usable, once),
     )))))))
   where
@@ -84,8 +75,8 @@ pub found-again : (section : List ℕ) (before : List AttributeSpecification) (a
     → attribute_at section before at ≡ Ok next
 found-again section before at (Item x next) f =
     let t = tests x.name x.form (form_of x.form) f.1.0.0 f.1.0.1 in
-    rw (f.0.name, f.0.form, f.0.constant, f.1.1, t.0, t.1) refl
-found-again section before at (End next) f = rw (f.name, f.form) refl
+    rw (f.0.2, f.0.3, f.0.4, f.1.1, t.0, t.1) refl
+found-again section before at (End next) f = rw (f.1, f.2) refl
 
 -- an attribute is refused after others if one of them has its name
 pub found-twice : (section : List ℕ) (before other : List AttributeSpecification) (at : ℕ)
@@ -94,7 +85,7 @@ pub found-twice : (section : List ℕ) (before other : List AttributeSpecificati
     → attribute_at section other at ≡ Err causes.AttrTwice
 found-twice section before other at x next f twice =
     let t = tests x.name x.form (form_of x.form) f.1.0.0 f.1.0.1 in
-    rw (f.0.name, f.0.form, twice, t.0, t.1) refl
+    rw (f.0.2, f.0.3, twice, t.0, t.1) refl
 
 -- a constant has zero or more bytes, and ends within the section
 constant_at-moves : (form : ℕ) (section : List ℕ) (at : ℕ) (read : Option ℤ × ℕ)
@@ -105,16 +96,16 @@ constant_at-moves form section at read le h = grind (arith, sleb-moves section a
 pub attribute_at-advances : (section : List ℕ) → Advances (length section) (attribute_at section)
 attribute_at-advances section before at x after h =
     let f = (found section before at (Item x after) h).0 in
-    let name = uleb-moves section at (x.name, f.mid) f.name in
-    let form = uleb-moves section f.mid (x.form, f.last) f.form in
-    let moved = constant_at-moves x.form section f.last (x.constant, after) form.1 f.constant in
+    let name = uleb-moves section at (x.name, f.0) f.2 in
+    let form = uleb-moves section f.0 (x.form, f.1) f.3 in
+    let moved = constant_at-moves x.form section f.1 (x.constant, after) form.1 f.4 in
     (omega arith, moved.1)
 
 pub attribute_at-ends : (section : List ℕ) → Ends (length section) (attribute_at section)
 attribute_at-ends section before at after h =
     let f = found section before at (End after) h in
-    let name = uleb-moves section at (0, f.mid) f.name in
-    let form = uleb-moves section f.mid (0, after) f.form in
+    let name = uleb-moves section at (0, f.0) f.1 in
+    let form = uleb-moves section f.0 (0, after) f.2 in
     (omega arith, form.1)
 
 -- ---- the head of a declaration

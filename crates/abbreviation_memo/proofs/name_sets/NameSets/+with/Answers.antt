@@ -1,7 +1,9 @@
-use Rattle.std.proofs.Common.{◌≡◌, ℕ, ◌<◌, ◌++◌, ◌∷◌, [], length, true, refl, arith}
+use Rattle.std.proofs.Common.{◌≡◌, ℕ, ◌<◌, ◌++◌, ◌∷◌, [], length, true, refl, arith, ◌≤◌, ◌+◌}
+use Rattle.std.proofs.Common.{length-append}
 use Rattle.abbreviation_memo.specs.declared.name_sets.Branch.{Branch}
+use Rattle.std.proofs.lemmas.Int.Digits.{length-digits_of_step}
 use Rattle.dwarf_forms.proofs.Elements.{if-ok}
-use Rattle.abbreviation_memo.proofs.SetLaws.{HasMore, few-after, few-bits, more-bits, more-ends}
+use Rattle.abbreviation_memo.proofs.SetLaws.{HasMore, more-bits, more-ends}
 use Rattle.abbreviation_memo.proofs.name_sets.NameSets.+with.Goals as goal
 
 pub returns-then-name-eq0-clause-names : goal.returns-then-name-eq0-clause-names
@@ -33,11 +35,17 @@ returns-clause-names t c =
 
 pub returns-in_err-child-clause-few : goal.returns-in_err-child-clause-few
 returns-in_err-child-clause-few t c =
-    few-after c.args.self.now c.with.new.self c.args.name (omega (arith, c.if-name-eq0.false))
-    c.with.ensures.few
+    let some : 0 < c.args.name = omega (arith, c.if-name-eq0.false) in
+    omega (arith, c.with.ensures.few, length-digits_of_step 2 c.args.name (omega arith) some)
 
 pub returns-clause-few : goal.returns-clause-few
 returns-clause-few t c =
-    few-bits c.args.self.now c.with.new.self c.put-2.new.self c.args.name c.with_side.result
-    c.put-2.result (omega (arith, c.if-name-eq0.false)) c.with.ensures.few c.put-2.ensures.ok
-    c.put-2.ensures.err
+    let mid = c.with.new.self in
+    let some : 0 < c.args.name = omega (arith, c.if-name-eq0.false) in
+    let one : length c.put-2.new.self ≤ length mid + 1 = grind (
+      arith,
+      c.put-2.ensures.ok,
+      c.put-2.ensures.err,
+      length-append mid (c.with_side.result ∷ []),
+    ) in
+    omega (arith, c.with.ensures.few, one, length-digits_of_step 2 c.args.name (omega arith) some)
