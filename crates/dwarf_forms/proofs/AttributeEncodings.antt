@@ -89,6 +89,7 @@ flag-reads section at flag next s =
 
 -- ---- attributes
 
+-- attributes are read if and only if they are encoded and valid
 pub attribute-decoded : (section : List ℕ)
     → IsDecoded EncodesAttribute EndsAttributes (IsNew IsUsable name_of) section
     (attribute_at section)

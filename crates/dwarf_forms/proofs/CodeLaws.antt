@@ -38,6 +38,7 @@ pub is_some-position : {X : Type 0} (p : X → Bool) (xs : List X)
     → is_some (position p xs) ≡ list_any p xs
 is_some-position p xs = let found = before-any p xs in grind arith
 
+-- a code that is at an index
 place-is : (xs : List ℕ) (i code : ℕ) → AllPairs (λ a b. a ≢ b) xs → slice_get xs i ≡ Some code
     → position (is_code code) xs ≡ Some i
 place-is xs i code once at =
@@ -49,6 +50,7 @@ place-is xs i code once at =
     (λ _. eq-eqb (get_or xs i code) code here) in
     grind arith
 
+-- a code that is neither at the index before it nor in the map
 place-nowhere : (xs : List ℕ) (moved : BTreeMap ℕ ℕ) (code : ℕ) → AreCodes xs moved
     → is_code_at xs (code - 1) code ≡ false → get nat_cmp moved code ≡ None
     → position (is_code code) xs ≡ None
@@ -83,6 +85,7 @@ abbrev pub PutsPlace : BTreeMap ℕ ℕ → BTreeMap ℕ ℕ → ℕ → ℕ →
 PutsPlace moved next code place = (q : ℕ)
     → get nat_cmp next q ≡ cond (is_at (nat_cmp code) q) (Some place) (get nat_cmp moved q)
 
+-- the code is at the index before it, or it is put into the map
 pub code-push : (xs now : List ℕ) (moved next : BTreeMap ℕ ℕ) (y place : ℕ)
     → list_any (is_code y) xs ≡ false → now ≡ xs ++ y ∷ [] → place ≡ length xs
     → ((y ≡ place + 1) × (next ≡ moved)) ⊎ PutsPlace moved next y place

@@ -34,12 +34,14 @@ DeclarationFits budget before declaration = FitsBudget budget before declaration
 abbrev head_of : Declaration → Head
 head_of d = record { code = d.code; tag = d.tag; children = d.children }
 
+-- the reads of the head and of the attributes
 declaration-found : (budget : ℕ) (section : List ℕ) (before : List Declaration) (at : ℕ)
     (x : Declaration) (next : ℕ) → declaration_at budget section before at ≡ Ok (Item x next)
     → (mid : ℕ) × (head_at budget section (codes_of before) at ≡ Ok (Item (head_of x) mid))
     × (attributes_at section mid ≡ Ok (x.attributes, next))
 declaration-found budget section before at x next h = grind arith
 
+-- an encoding of a declaration consists of those of its fields, ..
 declaration-joined : (section : List ℕ) (at : ℕ) (x : Declaration) (mid next : ℕ)
     → HeadAt section at (head_of x) mid
     → AreEncoded EncodesAttribute EndsAttributes section mid x.attributes next
@@ -61,6 +63,7 @@ declaration-joined section at x mid next head attributes =
       ends = e.rest_is.rest_is;
     })
 
+-- .. and conversely
 declaration-parted : (section : List ℕ) (at : ℕ) (x : Declaration) (next : ℕ)
     → IsEncodedAt EncodesDeclaration section at x next
     → (mid : ℕ) × HeadAt section at (head_of x) mid
@@ -87,6 +90,7 @@ declaration-parted section at x next s =
       parted parts.2,
     )
 
+-- a declaration that is read is encoded and valid, ..
 pub declaration-encoded : (budget : ℕ) (section : List ℕ) (before : List Declaration) (at : ℕ)
     (x : Declaration) (next : ℕ) → declaration_at budget section before at ≡ Ok (Item x next)
     → IsEncodedAt EncodesDeclaration section at x next × DeclarationFits budget before x
@@ -109,6 +113,7 @@ declaration-encoded budget section before at x next h =
       ),
     )
 
+-- .. and conversely
 declaration-reads : (budget : ℕ) (section : List ℕ) (before : List Declaration) (at : ℕ)
     (x : Declaration) (next : ℕ) → IsEncodedAt EncodesDeclaration section at x next
     → DeclarationFits budget before x → declaration_at budget section before at ≡ Ok (Item x next)

@@ -26,6 +26,7 @@ nothing bytes at is = record {
 }
 
 module _ {X Y : Type 0} {A : List ℕ → X → Type 0} {B : List ℕ → Y → Type 0} where
+  -- the bytes of two encodings
   pub both : {values : X × Y} (front rest : List ℕ) → A front values.0 → B rest values.1
       → Both A B (front ++ rest) values
   both front rest front_is rest_is = record {

@@ -87,6 +87,7 @@ module _ {X : Type 0} {encodes : List ℕ → X → Type 0} {ends : List ℕ →
 abbrev pub IsNew : {X : Type 0} → (X → Type 0) → (X → ℕ) → List X → X → Type 0
 IsNew P key before x = P x × (list_any (λ y. key y == key x) before ≡ false)
 
+-- keys that differ from those before them are distinct, ..
 pub all-new : {X : Type 0} (P : X → Type 0) (key : X → ℕ) (xs : List X)
     → ValidEach (IsNew P key) [] xs → All P xs × AllPairs (λ x y. key x ≢ key y) xs
 all-new {X = X} P key xs valid = (λ k d within. (valid k d within).0, apart)
@@ -100,6 +101,7 @@ all-new {X = X} P key xs valid = (λ k d within. (valid k d within).0, apart)
       length-take j xs,
     )
 
+-- .. and conversely
 pub new-each : {X : Type 0} (P : X → Type 0) (key : X → ℕ) (xs : List X) → All P xs
     → AllPairs (λ x y. key x ≢ key y) xs → ValidEach (IsNew P key) [] xs
 new-each {X = X} P key xs all pairs i d within =
@@ -119,6 +121,7 @@ new-each {X = X} P key xs all pairs i d within =
 abbrev pub FitsBudget : {X : Type 0} → ℕ → List X → X → Type 0
 FitsBudget budget before x = length before < budget
 
+-- at most `budget` elements, if each fits
 pub all-fit : {X : Type 0} (budget : ℕ) (xs : List X) → ValidEach (FitsBudget budget) [] xs
     → length xs ≤ budget
 all-fit budget [] valid = omega arith

@@ -19,6 +19,7 @@ module _ {X : Type 0} {step : List ℕ → List X → ℕ → Result (Next X) Ca
       → step bytes items cursor.place ≡ read
   here read is = rw so_far.bytes_are at is
 
+  -- an iteration that reads an item
   pub one-more : (new : Position) (x : X)
       → step cursor.bytes items cursor.place ≡ Ok (Item x new.place) → new.bytes ≡ cursor.bytes
       → ItemsSoFar step first bytes (items ++ x ∷ []) new × (cursor.place < new.place)
@@ -34,11 +35,13 @@ module _ {X : Type 0} {step : List ℕ → List X → ℕ → Result (Next X) Ca
         moved.1,
       )
 
+  -- the end of the items
   pub all-read : (after : ℕ) → step cursor.bytes items cursor.place ≡ Ok (End after)
       → items_from (length bytes) (step bytes) [] first ≡ Ok (items, after)
   all-read after is =
       so-far-end _ _ advances first items cursor.place after so_far.read (here (Ok (End after)) is)
 
+  -- an invalid item
   pub first-fault : (cause : Cause) → step cursor.bytes items cursor.place ≡ Err cause
       → items_from (length bytes) (step bytes) [] first ≡ Err (cause, cursor.place)
   first-fault cause is =

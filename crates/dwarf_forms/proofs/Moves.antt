@@ -42,6 +42,7 @@ abbrev pub Found : List ℕ → List AttributeSpecification → ℕ → Next Att
 Found section before at (Item x next) = FieldsAt section at x next × IsNew IsUsable name_of before x
 Found section before at (End next) = EndAt section at next
 
+-- what an attribute or the end is read from, ..
 pub found : (section : List ℕ) (before : List AttributeSpecification) (at : ℕ)
     (next : Next AttributeSpecification) → attribute_at section before at ≡ Ok next
     → Found section before at next
@@ -70,6 +71,7 @@ tests : (name f : ℕ) {X : Type 0} (form : Option X) → name ≢ 0 → IsSome 
     → (((name == 0) && (f == 0)) ≡ false) × (((name == 0) || is_none form) ≡ false)
 tests name f form h some = (grind arith, grind arith)
 
+-- .. and the read of it
 pub found-again : (section : List ℕ) (before : List AttributeSpecification) (at : ℕ)
     (next : Next AttributeSpecification) → Found section before at next
     → attribute_at section before at ≡ Ok next
@@ -93,6 +95,7 @@ constant_at-moves : (form : ℕ) (section : List ℕ) (at : ℕ) (read : Option 
     → (at ≤ read.1) × (read.1 ≤ length section)
 constant_at-moves form section at read le h = grind (arith, sleb-moves section at)
 
+-- each attribute has at least one byte, and so does the end
 pub attribute_at-advances : (section : List ℕ) → Advances (length section) (attribute_at section)
 attribute_at-advances section before at x after h =
     let f = (found section before at (Item x after) h).0 in
@@ -123,6 +126,7 @@ HeadAt section at head next = (mid : ℕ) × (last : ℕ)
     × (reading (uleb_at section mid) ≡ Ok (head.tag, last))
     × (reading (u8_at section last) ≡ Ok (if head.children then 1 else 0, next))
 
+-- a head that is read has these parts, ..
 pub head-fits : (budget : ℕ) (section : List ℕ) (codes : List ℕ) (at : ℕ) (head : Head) (next : ℕ)
     → head_at budget section codes at ≡ Ok (Item head next) → HeadFits budget codes head.code
 head-fits budget section codes at head next h =
@@ -132,6 +136,7 @@ pub head-found : (budget : ℕ) (section : List ℕ) (codes : List ℕ) (at : �
     → head_at budget section codes at ≡ Ok (Item head next) → HeadAt section at head next
 head-found budget section codes at head next h = grind arith
 
+-- .. and a head with these parts is read
 pub head-again : (budget : ℕ) (section : List ℕ) (codes : List ℕ) (at : ℕ) (head : Head) (next : ℕ)
     → HeadFits budget codes head.code → HeadAt section at head next
     → head_at budget section codes at ≡ Ok (Item head next)

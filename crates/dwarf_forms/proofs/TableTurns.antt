@@ -45,6 +45,7 @@ module _ {budget first : ℕ} {bytes : List ℕ} {before : List Declaration} {ol
         turn.2,
       )
 
+  -- the end of the table
   pub turn_end : (after : List Declaration) (new : Position) (found : Bool)
       → ExtendsTable (Ok found) budget before after old new → found ≡ false
       → in_section sections.DebugAbbrev (declarations_of budget bytes first) ≡ Ok after
@@ -53,6 +54,7 @@ module _ {budget first : ℕ} {bytes : List ℕ} {before : List Declaration} {ol
   turn_end after new false step is =
       rw (all-read (declaration_at-advances budget bytes) so_far.read new.place step.0, step.1) refl
 
+  -- an invalid declaration
   pub turn-fault : (cause : Cause) (place : ℕ) (fault : LoadFault)
       → Fails cause (declaration_at budget old.bytes before old.place) → place ≡ old.place
       → fault ≡ at_item sections.DebugAbbrev cause place → (fault ≡ memory_fault)

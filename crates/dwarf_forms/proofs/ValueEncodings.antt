@@ -18,6 +18,7 @@ use Rattle.dwarf_forms.specs.Values.{Value, SpellsDirectly, SpellsIndirectly, re
 use Rattle.dwarf_forms.specs.Values.{direct_at}
 use Rattle.dwarf_forms.proofs.Encodings.{both, nothing, again, joined, parted}
 
+-- the layout of the form, and the read of the content
 direct-parts : (f : Option Shape) (form : ℕ) (format : Format) (bytes : List ℕ) (at : ℕ)
     (value : Value) (next : ℕ) → (elim f as (λ _. Result (Value × ℕ) ValueFault) [
       | None ↦ Err Form
@@ -76,6 +77,7 @@ Value_read f form format constant bytes at = elim f [
       inner.1
 ]
 
+-- what is read is encoded, by what the form is
 pub value-encoded : (f : Option Shape) (form : ℕ) (format : Format) (constant : Option ℤ)
     (bytes : List ℕ) (at : ℕ) (value : Value) (next : ℕ)
     → Value_read f form format constant bytes at
@@ -101,6 +103,7 @@ value-encoded (Some Indirect) form format constant bytes at value next h =
           both.rest_is;
     })
 
+-- what is encoded is read
 pub value-reads : (f : Option Shape) (form : ℕ) (format : Format) (constant : Option ℤ)
     (bytes : List ℕ) (at : ℕ) (value : Value) (next : ℕ)
     → IsEncodedAt (Spells_by f form format constant) bytes at value next
