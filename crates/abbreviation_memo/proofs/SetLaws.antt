@@ -1,6 +1,6 @@
 -- Sets of names while nodes are added.
 use Rattle.std.proofs.Common.{◌≡◌, ◌≢◌, ℕ, ◌/◌, ◌%◌, ◌<◌, List, [], ◌∷◌, ◌++◌, length, reverse}
-use Rattle.std.proofs.Common.{true, false, refl, ap, ◌∙◌, arith, length-append, ◌==◌, ◌||◌}
+use Rattle.std.proofs.Common.{false, refl, ap, ◌∙◌, arith, length-append, ◌==◌, ◌||◌}
 use Rattle.std.specs.Int.Digits.{digits_of}
 use Rattle.std.proofs.Math.ListN.{get_or-append}
 use Rattle.std.proofs.Math.Seq.{get_or-append_seam}
@@ -55,24 +55,9 @@ stay-more bs now more sets is = rw is (record {
 abbrev pub HasMore : List Branch → List Branch → ℕ → ℕ → ℕ → Type 0
 HasMore old new set more name = (x : ℕ) → is_in new more x ≡ ((x == name) || is_in old set x)
 
-branch-last : (bs now : List Branch) (set : ℕ) (b : Branch) → set ≡ length bs
+pub branch-last : (bs now : List Branch) (set : ℕ) (b : Branch) → set ≡ length bs
     → now ≡ bs ++ b ∷ [] → branch_at now set ≡ b
 branch-last bs now set b last is = rw (last, is) (get_or-append_seam bs b [] no_names)
-
--- a name without more bits
-pub more-ends : (old new : List Branch) (set more name : ℕ) (b ended : Branch)
-    → b ≡ branch_at old set → IsWithin (length old) b → name ≡ 0
-    → more ≡ length old → new ≡ old ++ ended ∷ []
-    → ended ≡ record { ends = true; zero = b.zero; one = b.one }
-    → SetsStay old new → HasMore old new set more name
-more-ends old new set more name b ended there within none last is ends stay x = grind (
-  arith,
-  branch-last old new more ended last is,
-  is_in-zero new more,
-  is_in-more new more x,
-  is_in-more old set x,
-  stay.same (side b (x % 2)) (x / 2),
-)
 
 -- a name with more bits; the set for the rest of its bits has the rest of the name
 pub more-bits : (old mid new : List Branch) (set behind more name : ℕ) (b turned : Branch)

@@ -55,8 +55,8 @@ declaration-joined section at x mid next head attributes =
       tag = names.rest;
       attributes = e.rest_is.front;
       end = e.rest_is.rest;
-      whole = rw (e.whole, front.whole, names.whole, front.rest_is, e.rest_is.whole, append_assoc)
-          refl;
+      whole = rw (e.whole, front.whole, names.whole, front.rest_is, e.rest_is.whole)
+          (append_assoc (names.front ++ names.rest) _ _);
       code_is = names.front_is;
       tag_is = names.rest_is;
       attributes_are = e.rest_is.front_is;

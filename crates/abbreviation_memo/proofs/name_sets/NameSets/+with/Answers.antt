@@ -1,9 +1,11 @@
-use Rattle.std.proofs.Common.{◌≡◌, ℕ, ◌<◌, ◌++◌, ◌∷◌, [], length, true, refl, arith, ◌≤◌, ◌+◌}
+use Rattle.std.proofs.Common.{◌%◌, ◌/◌, ◌≡◌, ℕ, ◌<◌, ◌++◌, ◌∷◌, [], length, true, arith, ◌≤◌, ◌+◌}
 use Rattle.std.proofs.Common.{length-append}
 use Rattle.abbreviation_memo.specs.declared.name_sets.Branch.{Branch}
 use Rattle.std.proofs.lemmas.Int.Digits.{length-digits_of_step}
 use Rattle.dwarf_forms.proofs.Elements.{if-ok}
-use Rattle.abbreviation_memo.proofs.SetLaws.{HasMore, more-bits, more-ends}
+use Rattle.abbreviation_memo.proofs.SetLaws.{HasMore, branch-last, is_in-zero, is_in-more}
+use Rattle.abbreviation_memo.proofs.SetLaws.{more-bits}
+use Rattle.abbreviation_memo.specs.Private.NameSets.{side}
 use Rattle.abbreviation_memo.proofs.name_sets.NameSets.+with.Goals as goal
 
 pub returns-then-name-eq0-clause-names : goal.returns-then-name-eq0-clause-names
@@ -14,9 +16,17 @@ returns-then-name-eq0-clause-names t c =
     let ended : Branch = record { ends = true; zero = b.zero; one = b.one } in
     if-ok (λ (more : ℕ). (more ≡ length old) × (new ≡ old ++ ended ∷ []))
     (λ (more : ℕ). HasMore old new c.args.set more c.args.name) c.put.result c.put.ensures.ok
-    (λ more made. more-ends old new c.args.set more c.args.name b ended
-    c.branch-branch.ensures.value c.branch-branch.ensures.within c.if-name-eq0.true
-    made.0 made.1 refl c.put.ensures.stay)
+    (λ more made x. grind (
+      arith,
+      c.branch-branch.ensures.value,
+      c.branch-branch.ensures.within,
+      c.if-name-eq0.true,
+      branch-last old new more ended made.0 made.1,
+      is_in-zero new more,
+      is_in-more new more x,
+      is_in-more old c.args.set x,
+      c.put.ensures.stay.same (side b (x % 2)) (x / 2),
+    ))
 
 pub returns-clause-names : goal.returns-clause-names
 returns-clause-names t c =
