@@ -41,8 +41,7 @@ impl<'a> Model for Units<'a> {
 
     ghost view = { λ u. units_of_object (sections_of u.sections.now) };
 
-    ghost invariant = { λ u. AreUnitsOf (units_of_object (sections_of u.sections.now))
-        u.units.items u.bitmap u.bases.items u.strings u.reader u.cache };
+    ghost invariant = { λ u. AreUnitsOf (units_of_object (sections_of u.sections.now)) u };
 }
 
 impl<'a> Units<'a> {

@@ -59,10 +59,7 @@ scope-stored die kind =
 entry-within : (format : Format) (table : List Declaration) (unit : List ℕ) (at : ℕ)
     (x : (ℕ × List Attribute) × ℕ) → entry_at format table unit at ≡ Ok x → at ≤ length unit
 unfolding entry_at
-entry-within format table unit at x h =
-    after-bind (reading (uleb_at unit at)) _ x h (at ≤ length unit)
-    (λ code code_is _. let moved = uleb-moves unit at code code_is in
-    omega (arith, moved.0, moved.1))
+entry-within format table unit at x h = grind (arith, uleb-moves unit at)
 
 -- The bytes up to the end of a unit, by its header.
 abbrev pub bytes_in : Sections → UnitHeader → List ℕ
@@ -127,24 +124,23 @@ sites-stored k u same = ap (λ (x : StoredUnit). length x.scopes) same
     ∙ (ap (λ (ps : List ScopePlace). length ps) (places-are u u.dies)
     ∙ length-map (sites_in u u.dies) place_in)
 
--- The site at an index of the stored data of a unit, which can be re-read.
-pub site-read : (s : Sections) (u : CompilationUnit) (i : ℕ) (p : ScopeSite) (k : UnitEntries)
-    (stored : ScopePlace) (read : IsUnitIn s k.header u.dies) → stored_of k ≡ stored_unit_of u
-    → slice_get (sites_in u u.dies) i ≡ Some p → stored ≡ get_or k.scopes.items i stored
-    → (stored.inside ≡ p.inside)
-    × (scope_entry_at k.header.format read.table (bytes_in s k.header) stored.offset
+-- The site at an index of a unit can be re-read from the stored data of the unit.
+pub site-read : (s : Sections) (us : List CompilationUnit) (n i : ℕ) (u : CompilationUnit)
+    (p : ScopeSite) (k : UnitEntries) (x : ScopePlace) → AreUnitsIn s us
+    → stored_of k ≡ stored_unit_of u → slice_get us n ≡ Some u
+    → slice_get (sites_in u u.dies) i ≡ Some p → x ≡ get_or k.scopes.items i x
+    → (x.inside ≡ p.inside) × (read : IsUnitIn s k.header u.dies)
+    × (scope_entry_at k.header.format read.table (bytes_in s k.header) x.offset
     ≡ Ok (scope_entry p.member.die p.kind))
-site-read s u i p k stored read same found here =
-    let sites = sites_in u u.dies in
+site-read s us n i u p k x are same is found here =
     let at = site-in u u.dies i p found in
-    let is : stored ≡ place_in p =
-    here ∙ (ap (λ (ps : List ScopePlace). get_or ps i stored)
-    (ap (λ (x : StoredUnit). x.scopes) same ∙ places-are u u.dies)
-    ∙ (get_or-map place_in sites i p stored (slice_get_within sites i p found)
-    ∙ ap place_in (get_or_from_slice_get sites i p p found))) in
-    subst (λ (q : ScopePlace). (q.inside ≡ p.inside)
-    × (scope_entry_at k.header.format read.table (bytes_in s k.header) q.offset
-    ≡ Ok (scope_entry p.member.die p.kind))) (sym is) (
+    let read = stored-in s u k same (are.each_is n u is) in
+    let place : x ≡ place_in p = here ∙ rw (ap (λ (y : StoredUnit). y.scopes) same
+    ∙ places-are u u.dies) (get_or-map place_in (sites_in u u.dies) i p x
+    (slice_get_within (sites_in u u.dies) i p found)
+    ∙ ap place_in (get_or_from_slice_get (sites_in u u.dies) i p p found)) in
+    rw place (
       refl,
+      read,
       scope-there s k.header u.dies at.index p.member.die read at.there p.kind at.kind_is,
     )

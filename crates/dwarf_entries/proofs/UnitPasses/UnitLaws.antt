@@ -31,7 +31,7 @@ use Rattle.dwarf_entries.specs.Private.EntryOffsets.{stored_unit_of}
 use Rattle.dwarf_entries.specs.Private.ObjectUnits.{ObjectUnits, units_or_none, units_of_object}
 use Rattle.dwarf_entries.specs.Private.Passes.{all_entries, all_bases}
 use Rattle.dwarf_entries.proofs.UnitPasses.HeaderLaws.{HasBounds, headers-in}
-use Rattle.dwarf_entries.proofs.UnitPasses.PassLaws.{each-at}
+use Rattle.dwarf_entries.proofs.UnitPasses.PassLaws.{each-at, from-map}
 use Rattle.std.proofs.lemmas.List.{length-map}
 use Rattle.dwarf_walk.specs.declared.unit_entries.UnitEntries.{UnitEntries}
 use Rattle.dwarf_walk.specs.Stored.{stored_of}
@@ -41,9 +41,7 @@ use Rattle.dwarf_bytes.specs.Items.{each_from}
 
 pub with_bases-parts : (s : Sections) (u v : CompilationUnit) → with_bases s u ≡ Ok v
     → (v.header ≡ u.header) × (v.dies ≡ u.dies)
-with_bases-parts s u v h =
-    let b = bind_ok (bases_of_first s u.header.format u.dies) _ v h in
-    rw (← same-ok (record { header = u.header; dies = u.dies; bases = b.0 }) v b.2) (refl, refl)
+with_bases-parts s u v h = grind arith
 
 -- The headers and the entries of units stay the same.
 pub bases-stay : {Z : Type 0} (f : UnitHeader → List Die → Z) (s : Sections)
@@ -53,14 +51,8 @@ unfolding each_from
 bases-stay f s before [] vs h = rw (← same-ok [] vs h) refl
 bases-stay f s before (u ∷ us) vs h =
     let v = bind_ok (with_bases s u) _ vs h in
-    let rest = bind_ok (each_from (λ _ u. with_bases s u) (before ++ v.0 ∷ []) us) _ vs v.2 in
-    let parts = with_bases-parts s u v.0 v.1 in
-    rw (
-      ← same-ok (v.0 ∷ rest.0) vs rest.2,
-      bases-stay f s (before ++ v.0 ∷ []) us rest.0 rest.1,
-      parts.0,
-      parts.1,
-    ) refl
+    let rest = bases-stay f s (before ++ v.0 ∷ []) us in
+    grind (arith, rest, v.2, with_bases-parts s u v.0 v.1)
 
 -- ---- the units that were read
 
@@ -112,26 +104,23 @@ module _ (s : Sections) (headers : List UnitHeader) (tables : List (List Declara
         let from = each-at (λ _ p. unit_of s.debug_info p.0 p.1) [] (zip headers tables) us us_are i
         of.0 of.1 in
         let header : UnitHeader = from.0.0 in
-        let table : List Declaration = from.0.1 in
         let at = zip-at headers tables i from.0 from.1 in
         let within = slice_get_within headers i header at.0 in
         let header_at = get_or_from_slice_get headers i header header at.0 in
-        let read : declarations_of declarations_limit s.debug_abbrev header.abbreviations
-        ≡ Ok table =
-        subst (λ (h : UnitHeader). declarations_of declarations_limit s.debug_abbrev h.abbreviations
-        ≡ Ok table) header_at (table_is s.debug_abbrev headers tables i header tables_are within
-        ∙ ap (λ (t : List Declaration). Ok t) (get_or_from_slice_get tables i table [] at.1)) in
-        let bounds = subst (HasBounds (length s.debug_info)) header_at
-        ((headers-in s.debug_info headers headers_are).bounded i header within) in
+        let read = table_is s.debug_abbrev headers tables i header tables_are within in
+        let bounds = (headers-in s.debug_info headers headers_are).bounded i header within in
+        let dies = bind_ok (entries_of s.debug_info header from.0.1) _ of.0 from.2 in
         let P : UnitHeader → List Die → Type 0 =
         λ h ds. (slice_get headers i ≡ Some h) × IsUnitIn s h ds in
-        subst₂ P (sym stay.0) (sym stay.1)
-        (after-bind (entries_of s.debug_info header table) _ of.0 from.2 (P of.0.header of.0.dies)
-        (λ dies dies_are last. subst (λ (u : CompilationUnit). P u.header u.dies)
-        (same-ok (record { header = header; dies = dies; bases = no_bases }) of.0 last) (
+        subst₂ P (sym stay.0) (sym stay.1) (rw (← same-ok _ of.0 dies.2) (
           at.0,
-          record { bounds = bounds; table = table; table_is = read; dies_are = dies_are },
-        )))
+          record {
+            bounds = rw header_at at bounds;
+            table = from.0.1;
+            table_is = rw (header_at, get_or_from_slice_get tables i from.0.1 [] at.1) at read;
+            dies_are = dies.1;
+          },
+        ))
 
     units-are-in : AreUnitsIn s vs
     units-are-in = record {
@@ -191,32 +180,25 @@ pub stored-length : (stored : List UnitEntries) (us : List CompilationUnit) → 
 stored-length stored us same =
     rw (← length-map stored stored_of, same) (length-map us stored_unit_of)
 
--- The element at an index of the program is at that index of the list.
-pub stored-here : (stored : List UnitEntries) (us : List CompilationUnit) (n : ℕ) (k : UnitEntries)
-    → AreStored stored us → n < length us → k ≡ get_or stored n k → slice_get stored n ≡ Some k
-stored-here stored us n k same within is =
-    let sizes = stored-length stored us same in
-    slice_get_read stored (length stored) n k refl (omega (arith, sizes, within)) is
-
-stored-same : (stored : List UnitEntries) (us : List CompilationUnit) (n : ℕ) (k : UnitEntries)
-    → AreStored stored us → slice_get stored n ≡ Some k
-    → Some (stored_of k) ≡ option_map stored_unit_of (slice_get us n)
-stored-same stored us n k same found =
-    rw (← slice_get-map stored_unit_of us n, ← same, slice_get-map stored_of stored n, found) refl
-
 pub stored-at : (stored : List UnitEntries) (us : List CompilationUnit) (n : ℕ) (k : UnitEntries)
     → AreStored stored us → slice_get stored n ≡ Some k → StoredFor us n k
 stored-at stored us n k same found =
-    by_unit (slice_get us n) refl (stored-same stored us n k same found)
-  where
-    by_unit : (u : Option CompilationUnit) → slice_get us n ≡ u
-        → Some (stored_of k) ≡ option_map stored_unit_of u → StoredFor us n k
-    by_unit None is h = cc
-    by_unit (Some u) is h = record { unit = u; is = is; stored = cc }
+    let x = from-map stored_unit_of us n (stored_of k)
+    (rw (← same, slice_get-map stored_of stored n, found) refl) in
+    record { unit = x.0; is = x.1; stored = sym x.2 }
 
 pub stored-index : (stored : List UnitEntries) (us : List CompilationUnit) (n : ℕ) (k : UnitEntries)
     → AreStored stored us → slice_get stored n ≡ Some k → (u : CompilationUnit)
     → slice_get us n ≡ Some u → stored_of k ≡ stored_unit_of u
 stored-index stored us n k same found u is =
-    same_Some (stored_of k) (stored_unit_of u)
-    (stored-same stored us n k same found ∙ ap (option_map stored_unit_of) is)
+    let at = stored-at stored us n k same found in grind (arith, at.is, at.stored)
+
+-- The element at an index of the program is stored for the unit at that index.
+pub stored-there : (stored : List UnitEntries) (us : List CompilationUnit) (n : ℕ)
+    (k : UnitEntries) (u : CompilationUnit) → AreStored stored us → slice_get us n ≡ Some u
+    → k ≡ get_or stored n k → stored_of k ≡ stored_unit_of u
+stored-there stored us n k u same found is =
+    let sizes = stored-length stored us same in
+    let within = slice_get_within us n u found in
+    stored-index stored us n k same
+    (slice_get_read stored (length stored) n k refl (omega (arith, sizes, within)) is) u found

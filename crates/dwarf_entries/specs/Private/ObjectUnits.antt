@@ -1,13 +1,8 @@
 -- The units of an object, and what the program stores for them.
 use Rattle.std.specs.Prelude.{◌≡◌, List, [], map, Result, Ok, Err}
-use Rattle.dwarf_walk.specs.declared.entry_bitmap.EntryBitmap.{EntryBitmap}
-use Rattle.dwarf_walk.specs.declared.entry_reader.EntryReader.{EntryReader}
-use Rattle.dwarf_walk.specs.declared.unit_entries.UnitEntries.{UnitEntries}
 use Rattle.dwarf_walk.specs.Sections.{Sections}
 use Rattle.dwarf_walk.specs.Private.Rereading.{IsReaderOf}
-use Rattle.dwarf_ranges.specs.declared.bases.Bases.{Bases}
-use Rattle.dwarf_entries.specs.declared.name_cache.NameCache.{NameCache}
-use Rattle.dwarf_entries.specs.declared.string_sections.StringSections.{StringSections}
+use Rattle.dwarf_entries.specs.declared.units.Units.TheInside.{Inside}
 use Rattle.dwarf_bytes.specs.declared.fault.LoadFault.{LoadFault}
 use Rattle.dwarf_entries.specs.Units.{CompilationUnit, units_read}
 use Rattle.dwarf_entries.specs.Private.EntryOffsets.{AreStored, IsBitmapOf}
@@ -31,12 +26,10 @@ units_of_object s = record { sections = s; units = units_or_none (units_read s) 
 
 -- What the program stores for the units of an object: their entries, the bitmap of all entries and
 -- the bases, the string sections, a reader of entries, and a cache of names.
-pub record AreUnitsOf (object : ObjectUnits) (stored : List UnitEntries) (bitmap : EntryBitmap)
-    (bases : List Bases) (strings : StringSections) (reader : EntryReader) (cache : NameCache)
-    : Type 0 where
-  pub stored_are : AreStored stored object.units
-  pub bitmap_is : IsBitmapOf bitmap object.units
-  pub bases_are : bases ≡ map bases_of object.units
-  pub strings_are : AreStringSections object.sections strings
-  pub reader_is : IsReaderOf object.sections reader
-  pub cache_is : IsCacheOf object.sections object.units cache
+pub record AreUnitsOf (object : ObjectUnits) (u : Inside) : Type 0 where
+  pub stored_are : AreStored u.units.items object.units
+  pub bitmap_is : IsBitmapOf u.bitmap object.units
+  pub bases_are : u.bases.items ≡ map bases_of object.units
+  pub strings_are : AreStringSections object.sections u.strings
+  pub reader_is : IsReaderOf object.sections u.reader
+  pub cache_is : IsCacheOf object.sections object.units u.cache

@@ -2,14 +2,16 @@ use Rattle.std.proofs.Common.{refl, sym, ◌∙◌}
 use Rattle.dwarf_bytes.proofs.Numbers.Moves.{same-ok}
 use Rattle.dwarf_walk.specs.Stored.{named_entry}
 use Rattle.dwarf_walk.proofs.RereadLaws.{again-memory}
-use Rattle.dwarf_entries.proofs.UnitPasses.ObjectLaws.{seen, seen-units, with-reader}
+use Rattle.dwarf_entries.proofs.UnitPasses.ObjectLaws.{seen, seen-units, with-parts}
 use Rattle.dwarf_entries.proofs.UnitPasses.PassLaws.{found-at, exit}
 use Rattle.dwarf_entries.proofs.UnitPasses.RereadLaws.{reread}
 use Rattle.dwarf_entries.proofs.UnitPasses.UnitLaws.{object-units}
 use Rattle.dwarf_entries.proofs.units.Units.reread_entry.Goals as goal
 
 pub invariant_of-self : goal.invariant_of-self
-invariant_of-self c = with-reader _ c.self.invariant c.in_err-entry.ensures.reader
+invariant_of-self c =
+    let are = c.self.invariant in
+    with-parts are refl (c.in_err-entry.ensures.reader _ are.reader_is) are.cache_is
 
 pub returns-in_err-entry-clause-member : goal.returns-in_err-entry-clause-member
 returns-in_err-entry-clause-member c m at =
@@ -24,7 +26,9 @@ returns-in_err-entry-clause-member c m at =
     (seen c.self.invariant c.self.view_is).reader_is r.0.table_is))
 
 pub invariant_of-self-2 : goal.invariant_of-self-2
-invariant_of-self-2 c = with-reader _ c.self.invariant c.in_ok-entry.ensures.reader
+invariant_of-self-2 c =
+    let are = c.self.invariant in
+    with-parts are refl (c.in_ok-entry.ensures.reader _ are.reader_is) are.cache_is
 
 pub returns-clause-member : goal.returns-clause-member
 returns-clause-member c m at =

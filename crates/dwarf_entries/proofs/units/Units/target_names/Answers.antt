@@ -1,8 +1,9 @@
 use Rattle.std.proofs.Common.{inl, sym, ◌∙◌}
 use Rattle.dwarf_entries.proofs.OriginChains.ChainStrings.{cache-more, packed-cache}
-use Rattle.dwarf_entries.proofs.UnitPasses.ObjectLaws.{seen, with-cache}
+use Rattle.dwarf_entries.proofs.UnitPasses.ObjectLaws.{seen, with-parts}
 use Rattle.dwarf_entries.proofs.units.Units.target_names.Goals as goal
 use Rattle.dwarf_entries.proofs.UnitPasses.PassLaws.{exit}
+use Rattle.std.proofs.Common.{refl}
 
 pub returns-in-Some-get-clause-names : goal.returns-in-Some-get-clause-names
 returns-in-Some-get-clause-names c u is =
@@ -19,17 +20,16 @@ returns-in_err-next-clause-names c u is =
 
 pub invariant_of-self : goal.invariant_of-self
 invariant_of-self c =
-    let same = c.self-2.view_is ∙ (c.in_ok-names.ensures.same ∙ c.in_ok-next.ensures.same) in
-    with-cache _ c.self-2.invariant same (λ slot packed is.
-    (seen c.self-2.invariant same).cache_is slot packed (sym (c.in_err-put.ensures.err slot) ∙ is))
+    let are = c.self-2.invariant in
+    with-parts are refl are.reader_is (λ slot packed is. are.cache_is slot packed
+    (sym (c.in_err-put.ensures.err slot) ∙ is))
 
 pub invariant_of-self-2 : goal.invariant_of-self-2
 invariant_of-self-2 c =
-    let object = c.args.self.now in
     let same = c.self-2.view_is ∙ (c.in_ok-names.ensures.same ∙ c.in_ok-next.ensures.same) in
+    let are = seen c.self-2.invariant same in
     let there = rw c.if-not-has_entry.false at c.has_entry.ensures c.in-Some.ensures.within in
     let at = c.in_ok-next.ensures.member there.0 there.2 in
-    with-cache _ c.self-2.invariant same (cache-more object.sections object.units
-    c.self-2.inside.cache c.put.new.self c.in-Some.place c.in_ok-names.names
-    (seen c.self-2.invariant same).cache_is c.in_ok-put.ensures.ok there.0 there.1
-    ((rw c.in_ok-next.ensures.same at c.in_ok-names.ensures.names) there.0 at))
+    with-parts c.self-2.invariant same are.reader_is (cache-more c.args.self.now.sections _
+    c.self-2.inside.cache c.put.new.self c.in-Some.place c.in_ok-names.names are.cache_is c.in_ok-put.ensures.ok there.0
+    there.1 ((rw c.in_ok-next.ensures.same at c.in_ok-names.ensures.names) there.0 at))

@@ -92,7 +92,7 @@ is-site {us = us} so_far u index p numbers entry found there number_is stored re
     let is = rw there at read in
     record {
       unit_is = rw unit_is found;
-      stmt_list_is = rw unit_is (by_number us u numbers.unit numbers.number found
+      stmt_list_is = rw unit_is (by_number 0 us u numbers.unit numbers.number found
           (omega (arith, stored, sizes, number_is))
           (omega (arith, stored, sizes, number_is, within, count)));
       entry_is = is.0;
