@@ -22,23 +22,10 @@ use Rattle.dwarf_entries.specs.Private.Members.{FindsFirst}
 
 -- ---- the first attribute with a name
 
-or_else-assoc : {X : Type 0} (a b c : Option X) → or_else a (or_else b c) ≡ or_else (or_else a b) c
-or_else-assoc a b c = grind arith
-
 first_on-push : (name : ℕ) (path : List Member) (m : Member) → first_on name (path ++ m ∷ [])
     ≡ or_else (first_on name path) (of_member name m)
 first_on-push name [] m = grind arith
-first_on-push name (p ∷ path) m =
-    let rest = first_on-push name path m in rw rest (or_else-assoc (of_member name p)
-    (first_on name path) (of_member name m))
-
-is-first-more : (units : List CompilationUnit) (unit : CompilationUnit) (number : ℕ)
-    → slice_get units number ≡ Some unit
-    → (known : Option UnitAttribute) (first : Option (CompilationUnit × AttributeValue))
-    (value : Option AttributeValue) → IsFirst units known first
-    → IsFirst units (option_or known (option_map (λ v. record { unit = number; value = v }) value))
-    (or_else first (option_map (λ v. (unit, v)) value))
-is-first-more units unit number is known first value h = grind arith
+first_on-push name (p ∷ path) m = let rest = first_on-push name path m in grind arith
 
 -- The first attribute, after one more entry is appended.
 pub first-more : (units : List CompilationUnit) (name number : ℕ) (path : List Member) (m : Member)
@@ -48,8 +35,7 @@ pub first-more : (units : List CompilationUnit) (name number : ℕ) (path : List
     → result ≡ option_or known (option_map (λ v. record { unit = number; value = v }) value)
     → IsFirst units result (first_on name (path ++ m ∷ []))
 first-more units name number path m known value is value_is h result result_is =
-    rw (result_is, first_on-push name path m, ← value_is)
-    (is-first-more units m.unit number is known (first_on name path) value h)
+    let push = first_on-push name path m in grind arith
 
 -- ---- the loop
 

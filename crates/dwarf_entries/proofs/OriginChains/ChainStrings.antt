@@ -65,39 +65,28 @@ cache-more s units old new place names knew put m there led_is slot packed is =
 abbrev on_path : Sections → List Member → Result EntryNames Cause
 on_path s path = both_names (name_on DW_AT_NAME s path) (name_on DW_AT_LINKAGE_NAME s path)
 
-less : (s : Sections) (m : Member) (name : ℕ) → attribute m.die name ≡ None → (path : List Member)
-    → name_on name s (m ∷ path) ≡ name_on name s path
-less s m name none path = rw none refl
-
-pub names-packed : (s : Sections) (units : List CompilationUnit) (m : Member)
-    (reference : AttributeValue) → next_of m.die ≡ Some reference
-    → attribute m.die DW_AT_NAME ≡ None → attribute m.die DW_AT_LINKAGE_NAME ≡ None
-    → names_of s units m ≡ target_names s units m.unit reference
-names-packed s units m reference next no_name no_linkage_name =
-    let remaining : references_limit ≡ suc 15 = omega arith in
-    rw (remaining, stepped units 15 m reference next) (by_target (target_of units m.unit reference))
-  where
-    by_path : (p : Result (List Member) Cause) → (in_front m p >>= λ path. on_path s path)
-        ≡ (p >>= λ path. on_path s path)
-    by_path (Err e) = refl
-    by_path (Ok path) =
-        rw (less s m DW_AT_NAME no_name path, less s m DW_AT_LINKAGE_NAME no_linkage_name path) refl
-
-    by_target : (t : Result Member Cause)
-        → ((t >>= λ n. in_front m (chain_within 15 units n)) >>= λ path. on_path s path)
-        ≡ (t >>= λ n. second_names s units n)
-    by_target (Err e) = refl
-    by_target (Ok n) = by_path (chain_within 15 units n)
-
--- The same, for the entry as the program stores it.
+-- If the program stores no name in an entry, the names are those of the target of its reference.
 pub names-by-reference : (s : Sections) (units : List CompilationUnit) (number : ℕ)
     (entry : NamedEntry) (m : Member) (reference : AttributeValue) → IsMember units number entry m
     → (entry.next ≡ Some reference) × (entry.name ≡ None) × (entry.linkage_name ≡ None)
     → names_of s units m ≡ target_names s units m.unit reference
-names-by-reference s units number entry m reference at (next, no_name, no_linkage_name) =
-    names-packed s units m reference (sym (ap (λ (e : NamedEntry). e.next) at.entry_is) ∙ next)
-    (sym (ap (λ (e : NamedEntry). e.name) at.entry_is) ∙ no_name)
-    (sym (ap (λ (e : NamedEntry). e.linkage_name) at.entry_is) ∙ no_linkage_name)
+names-by-reference s units number entry m reference at parts =
+    let stored = rw at.entry_is at parts in
+    let remaining : references_limit ≡ suc 15 = omega arith in
+    rw (remaining, stepped units 15 m reference stored.0)
+    (by_target stored.1 stored.2 (target_of units m.unit reference))
+  where
+    by_target : attribute m.die DW_AT_NAME ≡ None → attribute m.die DW_AT_LINKAGE_NAME ≡ None
+        → (t : Result Member Cause)
+        → ((t >>= λ n. in_front m (chain_within 15 units n)) >>= λ path. on_path s path)
+        ≡ (t >>= λ n. second_names s units n)
+    by_target no_name no_linkage_name (Err e) = refl
+    by_target no_name no_linkage_name (Ok n) = by_path (chain_within 15 units n)
+      where
+        by_path : (p : Result (List Member) Cause) → (in_front m p >>= λ path. on_path s path)
+            ≡ (p >>= λ path. on_path s path)
+        by_path (Err e) = refl
+        by_path (Ok path) = rw (no_name, no_linkage_name) refl
 
 -- ---- the names of the target of a reference
 

@@ -46,11 +46,9 @@ none-outside : (from end : ℕ) (dies : List Die) (offset : ℕ) → RiseWithin 
     → (offset < from) ⊎ (end ≤ offset) → find (λ die. die.offset == offset) dies ≡ None
 none-outside from end [] offset h out = refl
 none-outside from end (die ∷ dies) offset h out =
-    let first = h.0 in
     let past = within-le (suc die.offset) end dies h.1 in
-    let further : (offset < suc die.offset) ⊎ (end ≤ offset) = grind arith in
-    rw (ne_eqb die.offset offset (λ e. grind arith))
-    (none-outside (suc die.offset) end dies offset h.1 further)
+    let rest = none-outside (suc die.offset) end dies offset h.1 in
+    grind (arith, h.0)
 
 find-map : {X Y : Type 0} (p : Y → Bool) (f : X → Y) (xs : List X)
     → find p (map f xs) ≡ option_map f (find (λ x. p (f x)) xs)

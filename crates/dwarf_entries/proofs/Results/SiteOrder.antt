@@ -84,39 +84,21 @@ pub sites-below : {us : List CompilationUnit} {n m : ℕ} {p q : ScopeSite} (a :
     (b : IsSiteAt us m q)
     → ((a.unit ≡ b.unit) × IsBelow p.member.unit.dies b.is.index a.is.index)
     ↔ ((n < m) × (m < n + 1 + p.inside))
-sites-below {us} {n} {m} {p} {q} a b = by_order (cases_order a.unit b.unit)
-  where
-    by_order : (a.unit ≡ b.unit) ⊎ ((a.unit < b.unit) ⊎ (b.unit < a.unit))
-        → ((a.unit ≡ b.unit) × IsBelow p.member.unit.dies b.is.index a.is.index)
-        ↔ ((n < m) × (m < n + 1 + p.inside))
-    by_order (inl e) =
-        let here = in-unit-of a a refl in
-        let there = in-unit-of a b e in
-        let between = scopes-between p.member.unit.dies a.is.index b.is.index p.member.die
-        q.member.die here.there there.there (ap is_some a.is.kind_is) (ap is_some b.is.kind_is) in (
-          λ below. grind (
-            arith,
-            between.0 below.1,
-            here.number_is,
-            here.inside_is,
-            there.number_is,
-          ),
-          λ numbers. (
-            e,
-            between.1 (grind (
-              arith,
-              here.number_is,
-              here.inside_is,
-              there.number_is,
-            )),
-          ),
-        )
-    by_order (inr (inl lt)) =
-        let past = (before-later a b.unit lt).1 in
-        (λ below. grind arith, λ numbers. grind (arith, b.number_is))
-    by_order (inr (inr gt)) =
-        let past = (before-later b a.unit gt).0 in
-        (λ below. grind arith, λ numbers. grind (arith, a.number_is))
+sites-below {us} {n} {m} {p} {q} a b =
+    let past = before-later a b.unit in
+    let before = before-later b a.unit in
+    let here = in-unit-of a a refl in
+    let there = in-unit-of a b in
+    let between = λ (e : a.unit ≡ b.unit). scopes-between p.member.unit.dies a.is.index b.is.index
+    p.member.die q.member.die here.there (there e).there (ap is_some a.is.kind_is)
+    (ap is_some b.is.kind_is) in (
+      λ below. let numbers = (between below.0).0 below.1 in
+          let same = there below.0 in
+          grind (arith, here.number_is, here.inside_is, same.number_is),
+      λ numbers. let e : a.unit ≡ b.unit = grind (arith, a.number_is, b.number_is) in
+          let same = there e in
+          (e, (between e).1 (grind (arith, here.number_is, here.inside_is, same.number_is))),
+    )
 
 -- A scope with a lower number is in an earlier unit, or earlier in the same unit.
 pub site-order : {us : List CompilationUnit} {n m : ℕ} {p q : ScopeSite} (a : IsSiteAt us n p)
@@ -144,7 +126,7 @@ pub rise-order : (from end : ℕ) (dies : List Die) (i j : ℕ) (d e : Die) → 
 rise-order from end [] i j d e rise d_is e_is lt = cc
 rise-order from end (x ∷ dies) i zero d e rise d_is e_is lt = absurd (omega (arith, lt))
 rise-order from end (x ∷ dies) zero (suc j) d e rise d_is e_is lt =
-    let at = rise-at (suc x.offset) end dies j e rise.1 e_is in grind arith
+    grind (arith, rise-at (suc x.offset) end dies j e rise.1 e_is)
 rise-order from end (x ∷ dies) (suc i) (suc j) d e rise d_is e_is lt =
     rise-order (suc x.offset) end dies i j d e rise.1 d_is e_is (omega (arith, lt))
 

@@ -51,8 +51,7 @@ with-units s us tree us_are h P next = after-tree s tree h P (λ vs parsed vs_ar
 
 without-offset : {X : Type 0} (at : ℕ) (r : Result X Cause) (x : X) → with_offset at r ≡ Ok x
     → r ≡ Ok x
-without-offset at (Ok y) x h = cc
-without-offset at (Err e) x h = cc
+without-offset at r x h = grind arith
 
 -- What a scope was parsed from: its site, its names and its ranges.
 pub record IsParsedAt (s : Sections) (us : List CompilationUnit) (parsed : List ParsedScope) (n : ℕ)
@@ -72,21 +71,18 @@ parsed-at s us parsed h n j there =
     let of = each-at (parse_scope s us) [] (all_sites us) parsed h n j there in
     let p = of.0 in
     let before : List ParsedScope = take n parsed in
-    let P : Type 0 = IsParsedAt s us parsed n j in
-    after-bind (names_of s us p.member)
-    (λ found. covers_there s before p >>= λ covering. Ok (scope_of_site before p found covering)) j
-    (without-offset p.member.die.offset (scope_at s us before p) j of.2) P (λ found found_are h1.
-    after-bind (covers_there s before p) (λ covering. Ok (scope_of_site before p found covering)) j
-    h1 P (λ covering covering_is last.
+    let found = bind_ok (names_of s us p.member) _ j
+    (without-offset p.member.die.offset (scope_at s us before p) j of.2) in
+    let covering = bind_ok (covers_there s before p) _ j found.2 in
     record {
       site = p;
       there = of.1;
-      names = found;
-      names_are = found_are;
-      covering = covering;
-      covering_is = covering_is;
-      is = same-ok (scope_of_site before p found covering) j last;
-    }))
+      names = found.0;
+      names_are = found.1;
+      covering = covering.0;
+      covering_is = covering.1;
+      is = same-ok (scope_of_site before p found.0 covering.0) j covering.2;
+    }
 
 -- ---- the list of scopes
 

@@ -23,8 +23,7 @@ use Rattle.dwarf_entries.specs.declared.scope_lists.ScopeLists.{ScopeLists}
 
 start-next : (first : ℕ) (s : StoredScope) (ss : List StoredScope) (n : ℕ)
     → ranges_start first (s ∷ ss) (suc n) ≡ ranges_start s.ranges_end ss n
-start-next first s ss zero = refl
-start-next first s ss (suc n) = grind (arith, common_steps)
+start-next first s ss n = grind (arith, common_steps)
 
 pub scopes-at : (roots : List Root) (wide : List CallSite) (ranges : List Range) (first : ℕ)
     (ss : List StoredScope) (n : ℕ)
@@ -98,25 +97,14 @@ scopes-push roots wide more ranges new first (t ∷ ts) s in_list ends =
       scopes-push roots wide more ranges new t.ranges_end ts s in_list.2 ends,
     ) refl
 
-more-in_list : (many more : ℕ) (c : Calls) (file line : ℕ) → IsInList many c file line
-    → IsInList (many + more) c file line
-more-in_list many more c file line in_list = grind arith
-
 pub in_list-push : (many more first past new : ℕ) (ss : List StoredScope) (s : StoredScope)
     → AreConsecutive many first past ss → s.ranges_end ≡ past + new
     → IsInList (many + more) s.calls s.call_file s.call_line
     → AreConsecutive (many + more) first (past + new) (ss ++ s ∷ [])
-in_list-push many more first past new [] s in_list ends inside = (
-  omega (arith, in_list, ends),
-  inside,
-  ends,
-)
-in_list-push many more first past new (t ∷ ts) s in_list ends inside = (
-  in_list.0,
-  more-in_list many more t.calls t.call_file t.call_line in_list.1,
-  in_list-push many more t.ranges_end past
-      new ts s in_list.2 ends inside,
-)
+in_list-push many more first past new [] s in_list ends inside =
+    (omega (arith, in_list, ends), inside, ends)
+in_list-push many more first past new (t ∷ ts) s in_list ends inside =
+    (in_list.0, grind arith, in_list-push many more t.ranges_end past new ts s in_list.2 ends inside)
 
 -- The contents of the lists after one more scope.
 pub record Pushed (roots : List Root) (old new : ScopeLists) (scope : Scope) : Type 0 where

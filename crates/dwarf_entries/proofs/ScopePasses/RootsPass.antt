@@ -108,6 +108,14 @@ parts-rise number end (root ∷ roots) parts =
       rising-cons root roots rest.0 rest.1,
     )
 
+-- The root of a unit in front.
+parts-cons : (number past end : ℕ) (dies : List Die) (roots : List Root)
+    → past ≡ number + count_by is_scope dies → ArePartsFrom past end roots
+    → ArePartsFrom number end (root_of number past dies roots)
+parts-cons number past end [] roots is rest =
+    let same : past ≡ number = omega (arith, is) in rw (← same) rest
+parts-cons number past end (root ∷ dies) roots is rest = (refl, omega (arith, is), rest)
+
 -- The roots partition the numbers of the scopes.
 pub roots-part : (number : ℕ) (units : List CompilationUnit)
     → ArePartsFrom number (number + number_of_scopes units) (roots_from number units)
@@ -118,20 +126,7 @@ roots-part number (unit ∷ units) =
     let end : past + number_of_scopes units ≡ number + number_of_scopes (unit ∷ units) =
     omega (arith, sum) in
     let rest = roots-part past units in
-    by_root unit.dies refl (rw end at rest)
-  where
-    by_root : (dies : List Die) → unit.dies ≡ dies
-        → ArePartsFrom (number + count_by is_scope unit.dies)
-        (number + number_of_scopes (unit ∷ units))
-        (roots_from (number + count_by is_scope unit.dies) units)
-        → ArePartsFrom number (number + number_of_scopes (unit ∷ units)) (root_of number
-        (number + count_by is_scope unit.dies) dies (roots_from (number + count_by is_scope
-        unit.dies) units))
-    by_root [] is rest = let none : number + count_by is_scope unit.dies ≡ number =
-        rw is (omega arith) in
-        subst (λ (n : ℕ). ArePartsFrom n (number + number_of_scopes (unit ∷ units))
-        (roots_from (number + count_by is_scope unit.dies) units)) none rest
-    by_root (root ∷ dies) is rest = (refl, omega arith, rest)
+    parts-cons number past _ unit.dies (roots_from past units) refl (rw end at rest)
 
 pub ends-rise : (us : List CompilationUnit) (roots : List Root) → roots ≡ roots_from 0 us
     → IsNonDecreasingBy (λ r. r.past) roots
@@ -159,35 +154,27 @@ by_later_unit : (first past : ℕ) (dies : List Die) (roots : List Root) (number
 by_later_unit first past dies roots number before = grind (arith, le-ltb number past)
 
 -- A unit with scopes has a root, which has its stmt_list.
-by_unit : (first past : ℕ) (dies : List Die) (roots : List Root) (number : ℕ) → first ≤ number
-    → number < past → past ≡ first + count_by is_scope dies
+by_unit : (first past : ℕ) (dies : List Die) (roots : List Root) (number : ℕ)
+    → number < past → past ≡ first + count_by is_scope dies → first ≤ number
     → stmt_list_by_number (root_of first past dies roots) number ≡ stmt_list_of dies
-by_unit first past dies roots number after inside past_is = grind (arith, lt-ltb number past)
+by_unit first past dies roots number inside past_is after = grind (arith, lt-ltb number past)
 
 -- ---- the scopes of the units before
 
-by_number_from : (first : ℕ) (us : List CompilationUnit) (u : CompilationUnit) (index number : ℕ)
+-- The stmt_list that is found by the number of a scope of a unit is that of the unit.
+pub by_number : (first : ℕ) (us : List CompilationUnit) (u : CompilationUnit) (index number : ℕ)
     → slice_get us index ≡ Some u → first + first_number us index ≤ number
     → number < first + first_number us index + count_by is_scope u.dies
     → stmt_list_by_number (roots_from first us) number ≡ stmt_list_of u.dies
-by_number_from first [] u index number found after inside = cc
-by_number_from first (v ∷ vs) u zero number found after inside =
-    let same : u ≡ v = grind arith in
+by_number first [] u index number found after inside = cc
+by_number first (v ∷ vs) u zero number found after inside =
     let past : ℕ = first + count_by is_scope v.dies in
+    let same : u ≡ v = grind arith in
     let within = rw same at inside in
-    rw same (by_unit first past v.dies (roots_from past vs) number (omega (arith, after))
-    (omega (arith, within)) refl)
-by_number_from first (v ∷ vs) u (suc index) number found after inside =
+    rw same (by_unit first past v.dies (roots_from past vs) number (omega (arith, within)) refl
+    (omega (arith, after)))
+by_number first (v ∷ vs) u (suc index) number found after inside =
     let past : ℕ = first + count_by is_scope v.dies in
     let count = sum_by-cons (λ (w : CompilationUnit). count_by is_scope w.dies) v (take index vs) in
-    by_later_unit first past v.dies (roots_from past vs) number (omega (arith, after, count))
-    ∙ by_number_from past vs u index number found (omega (arith, after, count))
-    (omega (arith, inside, count))
-
--- The stmt_list that is found by the number of a scope of a unit is that of the unit.
-pub by_number : (us : List CompilationUnit) (u : CompilationUnit) (index number : ℕ)
-    → slice_get us index ≡ Some u → first_number us index ≤ number
-    → number < first_number us index + count_by is_scope u.dies
-    → stmt_list_by_number (roots_from 0 us) number ≡ stmt_list_of u.dies
-by_number us u index number found after inside =
-    by_number_from 0 us u index number found (omega (arith, after)) (omega (arith, inside))
+    let later = by_number past vs u index number found in
+    grind (arith, by_later_unit first past v.dies (roots_from past vs) number, count, later)

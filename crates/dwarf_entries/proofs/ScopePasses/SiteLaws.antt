@@ -1,4 +1,5 @@
 -- The scope sites of units, by their numbers.
+use Rattle.std.specs.Prelude.{is_some}
 use Rattle.std.proofs.Common.{◌≡◌, ℕ, zero, suc, ◌+◌, ◌-◌, ◌<◌, ◌≤◌, ◌⊎◌, inl, inr, cond, List, []}
 use Rattle.std.proofs.Common.{◌∷◌, ◌++◌, length, take, drop, refl, ap, sym, ◌∙◌, arith}
 use Rattle.std.proofs.Common.{length-append}
@@ -16,15 +17,6 @@ use Rattle.dwarf_entries.specs.Private.Passes.{number_of_scopes, first_number, a
 use Rattle.dwarf_entries.proofs.UnitPasses.PassLaws.{element}
 
 -- ---- the sites of a unit
-
-pub count-none : (die : Die) (dies : List Die) → kind_of die.tag ≡ None
-    → count_by is_scope (die ∷ dies) ≡ count_by is_scope dies
-count-none die dies is = sum_by-cons (λ x. cond (is_scope x) 1 0) die dies ∙ rw is (omega arith)
-
-pub count-one : (die : Die) (dies : List Die) (kind : ScopeKind) → kind_of die.tag ≡ Some kind
-    → count_by is_scope (die ∷ dies) ≡ suc (count_by is_scope dies)
-count-one die dies kind is =
-    sum_by-cons (λ x. cond (is_scope x) 1 0) die dies ∙ rw is (omega arith)
 
 pub sites-count : (unit : CompilationUnit) (dies : List Die) → length (sites_in unit dies)
     ≡ count_by is_scope dies
@@ -57,14 +49,19 @@ site-in u [] n p h = cc
 site-in u (die ∷ rest) n p h = by_kind (kind_of die.tag) refl n h (λ m found.
     site-in u rest m p found)
   where
-    next : (m n : ℕ) (at : IsSiteIn u rest m p) → n ≡ count_by is_scope (die ∷ take at.index rest)
+    next : (m n : ℕ) → IsSiteIn u rest m p → n ≡ cond (is_scope die) 1 0 + m
         → IsSiteIn u (die ∷ rest) n p
-    next m n at number_is = record {
+    next m n at number = record {
       unit_is = at.unit_is;
       kind_is = at.kind_is;
       index = suc at.index;
       there = at.there;
-      number_is = number_is;
+      number_is = omega (
+        arith,
+        number,
+        at.number_is,
+        sum_by-cons (λ x. cond (is_scope x) 1 0) die (take at.index rest),
+      );
       inside_is = at.inside_is;
     }
 
@@ -72,8 +69,7 @@ site-in u (die ∷ rest) n p h = by_kind (kind_of die.tag) refl n h (λ m found.
         → slice_get (site_of u die rest kind (sites_in u rest)) n ≡ Some p
         → ((m : ℕ) → slice_get (sites_in u rest) m ≡ Some p → IsSiteIn u rest m p)
         → IsSiteIn u (die ∷ rest) n p
-    by_kind None is n h later = let at = later n h in
-        next n n at (at.number_is ∙ sym (count-none die (take at.index rest) is))
+    by_kind None is n h later = next n n (later n h) (rw is (omega arith))
     by_kind (Some kind) is zero h later =
         let same : site_at u die rest kind ≡ p = grind arith in
         rw (← same) (record {
@@ -84,8 +80,13 @@ site-in u (die ∷ rest) n p h = by_kind (kind_of die.tag) refl n h (λ m found.
           number_is = refl;
           inside_is = refl;
         })
-    by_kind (Some kind) is (suc n) h later = let at = later n h in
-        next n (suc n) at (ap suc at.number_is ∙ sym (count-one die (take at.index rest) kind is))
+    by_kind (Some kind) is (suc n) h later = next n (suc n) (later n h) (rw is (omega arith))
+
+-- The site of the first entry, if it has one, is passed over.
+skipped : (u : CompilationUnit) (d : Die) (rest : List Die) (found : Option ScopeKind)
+    (sites : List ScopeSite) (n : ℕ)
+    → slice_get (site_of u d rest found sites) (cond (is_some found) 1 0 + n) ≡ slice_get sites n
+skipped u d rest found sites n = grind arith
 
 -- An entry that is a scope has the site with the number of scopes before it.
 site-of : (u : CompilationUnit) (dies : List Die) (k : ℕ) (die : Die) (kind : ScopeKind)
@@ -94,30 +95,22 @@ site-of : (u : CompilationUnit) (dies : List Die) (k : ℕ) (die : Die) (kind : 
     ≡ Some (site_at u die (drop (suc k) dies) kind)
 site-of u [] k die kind h is = cc
 site-of u (d ∷ rest) zero die kind h is = grind arith
-site-of u (d ∷ rest) (suc k) die kind h is =
-    by_kind (kind_of d.tag) refl (site-of u rest k die kind h is)
-  where
-    by_kind : (found : Option ScopeKind) → kind_of d.tag ≡ found
-        → slice_get (sites_in u rest) (count_by is_scope (take k rest))
-        ≡ Some (site_at u die (drop (suc k) rest) kind)
-        → slice_get (site_of u d rest found (sites_in u rest)) (count_by is_scope (d ∷ take k rest))
-        ≡ Some (site_at u die (drop (suc k) rest) kind)
-    by_kind None at later = rw (count-none d (take k rest) at) later
-    by_kind (Some found) at later = rw (count-one d (take k rest) found at) later
+site-of u (d ∷ rest) (suc k) die kind h is = rw (
+  sum_by-cons (λ x. cond (is_scope x) 1 0) d (take k rest),
+  skipped u d rest (kind_of d.tag) (sites_in u rest),
+) (site-of u rest k die kind h is)
 
 -- ---- the sites of all units
 
 pub all-sites-count : (us : List CompilationUnit) → length (all_sites us) ≡ number_of_scopes us
 all-sites-count [] = refl
-all-sites-count (u ∷ us) =
-    let sum = sum_by-cons (λ (v : CompilationUnit). count_by is_scope v.dies) u us in
-    omega (
-      arith,
-      sum,
-      sites-count u u.dies,
-      all-sites-count us,
-      length-append (sites_in u u.dies) (all_sites us),
-    )
+all-sites-count (u ∷ us) = omega (
+  arith,
+  sum_by-cons (λ (v : CompilationUnit). count_by is_scope v.dies) u us,
+  sites-count u u.dies,
+  all-sites-count us,
+  length-append (sites_in u u.dies) (all_sites us),
+)
 
 pub first-all : (us : List CompilationUnit) (i : ℕ) → length us ≤ i
     → first_number us i ≡ length (all_sites us)

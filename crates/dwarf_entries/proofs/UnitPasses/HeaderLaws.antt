@@ -20,6 +20,7 @@ use Rattle.dwarf_units.specs.Units.{header_at, headers_of, units_of}
 use Rattle.dwarf_units.proofs.EntryMoves.{fixed-stays, offset-stays}
 use Rattle.dwarf_units.proofs.UnitLaws.{header_in-places, unit_at-moves}
 use Rattle.dwarf_entries.specs.TreeLaws.{AreContiguous}
+use Rattle.std.proofs.Common.{length-take}
 
 -- ---- the bounds of a unit
 
@@ -28,30 +29,7 @@ header_in-first : (start : ℕ) (format : Format) (unit : List ℕ) (at : ℕ) (
     → header_in start format unit at ≡ Ok header
     → (at ≤ header.first) × (header.first ≤ length unit)
 header_in-first start format unit at header h =
-    after-bind (reading (u16_at unit at)) _ header h (Fits header) (λ version version_is h1.
-    after-test (not (version.0 == 5)) causes.Version _ header h1 (Fits header) (λ _ h2.
-    after-bind (reading (u8_at unit version.1)) _ header h2 (Fits header) (λ number number_is h3.
-    after-bind (ok_or (unit_type_of number.0) causes.UnitType) _ header h3 (Fits header)
-    (λ unit_type _ h4.
-    let versioned = fixed-stays 2 unit at version
-    (reading-ok (u16_at unit at) version version_is) in
-    let typed = fixed-stays 1 unit version.1 number
-    (reading-ok (u8_at unit version.1) number number_is) in
-    chosen (not (is_read_type unit_type)) _ _ (Ok header) h4 (Fits header)
-    (λ _ last. subst Fits (same-ok _ header last)
-    (omega (arith, versioned.0, versioned.1), omega arith)) (λ _ h5.
-    after-bind (reading (u8_at unit number.1)) _ header h5 (Fits header) (λ size size_is h6.
-    after-test (not (size.0 == 8)) causes.AddressSize _ header h6 (Fits header) (λ _ h7.
-    after-bind (reading (offset_at format unit size.1)) _ header h7 (Fits header)
-    (λ abbreviations abbreviations_are last.
-    let sized = fixed-stays 1 unit number.1 size (reading-ok (u8_at unit number.1) size size_is) in
-    let abbreviated = offset-stays format unit size.1 abbreviations
-    (reading-ok (offset_at format unit size.1) abbreviations abbreviations_are) in
-    subst Fits (same-ok _ header last)
-    (omega (arith, versioned.0, typed.0, sized.0, abbreviated.0), abbreviated.1)))))))))
-  where
-    Fits : UnitHeader → Type 0
-    Fits header = (at ≤ header.first) × (header.first ≤ length unit)
+    grind (arith, fixed-stays 2 unit, fixed-stays 1 unit, offset-stays format unit)
 
 -- The bounds in a header are in order, within the section.
 pub record HasBounds (size : ℕ) (header : UnitHeader) : Type 0 where
@@ -63,43 +41,26 @@ unit_at-bounds : (info : List ℕ) (at : ℕ) (header : UnitHeader) → unit_at 
     → (header.start ≡ at) × HasBounds (length info) header
 unfolding unit_at
 unit_at-bounds info at header h =
-    let moves = unit_at-moves info at header h in
-    let len = bind_ok (reading (initial_length_at info at)) _ header h in
-    let fits = refuse_if-ok (nat_lt (length info) (len.0.1 + len.0.0.1)) causes.Short _ header len.2
-    in
-    let moved = (initial_length_at-moves info at len.0
-    (reading-ok (initial_length_at info at) len.0 len.1)).0 in
-    let unit : List ℕ = take (len.0.1 + len.0.0.1) info in
-    let places = header_in-places at len.0.0.0 unit len.0.1 header fits.1 in
-    let first = header_in-first at len.0.0.0 unit len.0.1 header fits.1 in (
-      places.0,
-      record {
-        first = omega (arith, moved, places.0, first.0);
-        last = omega (arith, places.1, first.1);
-        within = moves.1;
-      },
-    )
+    let parts : (header.start ≡ at) × (header.start ≤ header.first) × (header.first ≤ header.end)
+    × (header.end ≤ length info) = grind (
+      arith,
+      initial_length_at-moves info at,
+      header_in-places,
+      header_in-first,
+      unit_at-moves info at,
+      length-take,
+    ) in
+    (parts.0, record { first = parts.1; last = parts.2; within = parts.3 })
 
 -- ---- contiguous units
 
 list-contiguous : (info : List ℕ) (before : List UnitHeader) (at : ℕ) (headers : List UnitHeader)
     (after : ℕ) → Lists (header_at info) before at headers after → at ≤ length info
     → AreContiguous info at headers
-list-contiguous info before at [] after h le =
-    chosen (nat_le (length info) at) _ _ (Ok (End after)) h (at ≡ length info)
-    (λ past _. grind arith)
-    (λ _ h1. let found = bind_ok (unit_at info at) _ (End after) h1 in let no = found.2 in cc)
+list-contiguous info before at [] after h le = grind arith
 list-contiguous info before at (header ∷ headers) after h le =
-    chosen (nat_le (length info) at) _ _ (Ok (Item header h.0)) h.1
-    (AreContiguous info at (header ∷ headers)) (λ _ is. cc) (λ _ h1.
-    let found = bind_ok (unit_at info at) _ (Item header h.0) h1 in
-    let same = same-item found.0 header found.0.end h.0 found.2 in
-    let read = rw same.0 at found.1 in
-    let moves = unit_at-moves info at header read in
-    let place : header.end ≡ h.0 = rw (← same.0) same.1 in
-    let rest = list-contiguous info (before ++ header ∷ []) h.0 headers after h.2
-    (omega (arith, place, moves.1)) in
-    (read, (unit_at-bounds info at header read).0, moves.0, rw place rest))
+    let rest = list-contiguous info (before ++ header ∷ []) h.0 headers after h.2 in
+    grind (arith, h.1, unit_at-moves info at, unit_at-bounds info at, rest)
 
 pub units_contiguous : (info : List ℕ) (headers : List UnitHeader) → headers_of info ≡ Ok headers
     → AreContiguous info 0 headers

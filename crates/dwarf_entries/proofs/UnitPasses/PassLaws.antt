@@ -1,7 +1,7 @@
 -- A pass over a list, which stops at the first element that is refused.
 use Rattle.std.proofs.Common.{◌≡◌, ◌⊎◌, ℕ, zero, suc, ◌+◌, ◌<◌, ◌≤◌, List, [], ◌∷◌, ◌++◌, length}
 use Rattle.std.proofs.Common.{map, take, drop, get_or, refl, ap, sym, ◌∙◌, subst, arith}
-use Rattle.std.proofs.Common.{length-append}
+use Rattle.std.proofs.Common.{length-append, drop-cons}
 use Rattle.std.specs.Prelude.{Some, None, Result, Ok, Err, slice_get}
 use Rattle.std.proofs.lemmas.List.{take_more, take_all, take-append-drop}
 use Rattle.std.proofs.lemmas.Option.{slice_get_within, get_or_from_slice_get, slice_get_read}
@@ -24,12 +24,6 @@ element [] n lt = absurd (omega (arith, lt))
 element (x ∷ xs) zero lt = (x, refl)
 element (x ∷ xs) (suc n) lt = element xs n (omega (arith, lt))
 
-pub drop-at : {X : Type 0} (xs : List X) (n : ℕ) (x : X) → slice_get xs n ≡ Some x
-    → drop n xs ≡ x ∷ drop (suc n) xs
-drop-at [] n x h = cc
-drop-at (y ∷ ys) zero x h = grind arith
-drop-at (y ∷ ys) (suc n) x h = drop-at ys n x h
-
 -- An element of a mapped list.
 pub from-map : {X Y : Type 0} (f : X → Y) (xs : List X) (i : ℕ) (y : Y)
     → slice_get (map f xs) i ≡ Some y
@@ -41,13 +35,12 @@ from-map f (x ∷ xs) (suc i) y h = from-map f xs i y h
 -- The element that a lookup returns.
 pub found-at : {X : Type 0} (list items : List X) (n : ℕ) (x : X) → list ≡ items
     → (n < length list) × ((d : X) → x ≡ get_or list n d) → slice_get items n ≡ Some x
-found-at list items n x same found = subst (λ (xs : List _). slice_get xs n ≡ Some x) same
-    (slice_get_read list (length list) n x refl found.0 (found.1 x))
+found-at list items n x same found =
+    rw (← same) (slice_get_read list (length list) n x refl found.0 (found.1 x))
 
 pub not-at : {X : Type 0} (list items : List X) (n : ℕ) → list ≡ items → length list ≤ n
     → slice_get items n ≡ None
-not-at list items n same past = subst (λ (xs : List _). slice_get xs n ≡ None) same
-    (slice_get_past list n past)
+not-at list items n same past = rw (← same) (slice_get_past list n past)
 
 -- The element that an element of the result was made from.
 pub each-at : {X Y : Type 0} (make : List Y → X → Result Y At) (before : List Y) (xs : List X)
@@ -140,7 +133,9 @@ module _ {X Y : Type 0} {make : List Y → X → Result Y At} {xs : List X} {ind
       → each make xs ≡ Err e
   unfolding each_from
   pass-refused x e found is =
-      ap (each make) (sym (take-append-drop index xs)) ∙ rw (drop-at xs index x found)
+      let within = slice_get_within xs index x found in
+      ap (each make) (sym (take-append-drop index xs))
+      ∙ rw (drop-cons xs index x, get_or_from_slice_get xs index x x found)
       (then (x ∷ drop (suc index) xs) ∙ rw is refl)
 
   pub pass-fault : {fault : LoadFault} (x : X) → slice_get xs index ≡ Some x

@@ -4,7 +4,7 @@ use Rattle.std.specs.Prelude.{Some, Ok, Err, zip, slice_get, Result}
 use Rattle.std.proofs.lemmas.List.{map_push}
 use Rattle.std.proofs.lemmas.List.Concat.{flat_map-append}
 use Rattle.std.proofs.lemmas.Option.{slice_get-get_or, same_Some, slice_get_within}
-use Rattle.std.proofs.lemmas.Slice.Zip.{length-zip}
+use Rattle.std.proofs.lemmas.Slice.Zip.{length-zip, get_or-zip}
 use Rattle.dwarf_bytes.specs.declared.fault.Section.TheVariants as names
 use Rattle.dwarf_bytes.specs.declared.fault.LoadFault.{LoadFault}
 use Rattle.dwarf_bytes.specs.Items.{At}
@@ -45,13 +45,6 @@ offsets-push made u = rw (
   append-nil (offsets_of u.dies),
 ) refl
 
-zip-there : {X Y : Type 0} (xs : List X) (ys : List Y) (i : ℕ) (x : X) (y : Y)
-    → slice_get xs i ≡ Some x → slice_get ys i ≡ Some y → slice_get (zip xs ys) i ≡ Some (x, y)
-zip-there [] ys i x y x_is y_is = cc
-zip-there (a ∷ xs) [] i x y x_is y_is = cc
-zip-there (a ∷ xs) (b ∷ ys) zero x y x_is y_is = grind arith
-zip-there (a ∷ xs) (b ∷ ys) (suc i) x y x_is y_is = zip-there xs ys i x y x_is y_is
-
 module _ {info : List ℕ} {headers : List UnitHeader} {tables : List (List Declaration)}
     {bitmap marked : EntryBitmap} {index : ℕ} {stored : List UnitEntries}
     (so_far : EntriesSoFar info headers tables bitmap marked index stored) (section : List ℕ)
@@ -75,8 +68,10 @@ module _ {info : List ℕ} {headers : List UnitHeader} {tables : List (List Decl
         (declarations_of declarations_limit section (get_or headers index d).abbreviations) table
         table_read) in
         let sizes = each-length (table_for section) [] headers tables all in
-        zip-there headers tables index _ table (slice_get-get_or headers index d within)
-        (slice_get-get_or tables index [] (omega (arith, sizes, within)) ∙ rw same refl)
+        let there : index < length tables = omega (arith, sizes, within) in
+        slice_get-get_or (zip headers tables) index (d, [])
+        (omega (arith, length-zip headers tables, sizes, within))
+        ∙ rw (get_or-zip headers tables index (d, []) within there, same) refl
 
     entries-next : (after : EntryBitmap) (unit : UnitEntries) → in_section names.DebugInfo
         (stored_entries info (get_or headers index d) table) ≡ Ok (stored_of unit)
