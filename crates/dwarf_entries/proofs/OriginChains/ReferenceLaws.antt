@@ -181,12 +181,8 @@ module _ {s : Sections} {us : List CompilationUnit} (are : AreUnitsIn s us) wher
         → IsWithin us (record { unit = n; offset = offset })
     within-stored n offset k found low high =
         let at = stored-at stored us n k same found in
-        record {
-          of = at.unit;
-          of_is = at.is;
-          low = subst (λ (x : StoredUnit). x.header.start ≤ offset) at.stored low;
-          high = subst (λ (x : StoredUnit). offset < x.header.end) at.stored high;
-        }
+        let header = ap (λ (x : StoredUnit). x.header) at.stored in
+        record { of = at.unit; of_is = at.is; low = rw header at low; high = rw header at high }
 
 pub within-unit : (us : List CompilationUnit) (n offset : ℕ) (u : CompilationUnit)
     (reference : AttributeValue) → (reference.form ≡ DW_FORM_REF_ADDR → ⊥)

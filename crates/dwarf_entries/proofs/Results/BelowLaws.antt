@@ -22,18 +22,17 @@ module _ {X : Type 0} (p : X → Bool) (xs : List X) where
   pub counted-rises : (a b : ℕ) → a ≤ b → counted a ≤ counted b
   counted-rises a b le =
       let parts : a + (b - a) ≡ b = omega (arith, le) in
-      let sum : counted b ≡ counted a + count_by p (take (b - a) (drop a xs)) =
-      ap counted (sym parts) ∙ counted-add a (b - a) in
-      omega (arith, sum)
+      let sum = counted-add a (b - a) in
+      omega (arith, rw parts at sum)
 
   -- An element that passes is counted after its index, and not before.
   counted-before : (place : ℕ) (d : X) → place < length xs → p (get_or xs place d) ≡ true
       → (end : ℕ) → (counted place < counted end) ↔ (place < end)
   counted-before place d within passes end =
-      let more = count_by_more_yes p xs place d within passes in
-      let before = counted-rises end place in
-      let after = counted-rises (place + 1) end in
-      (λ lt. grind arith, λ lt. grind arith)
+      let more = count_by_more_yes p xs place d within passes in (
+        λ lt. grind (arith, counted-rises end place),
+        λ lt. grind (arith, counted-rises (place + 1) end),
+      )
 
 -- The index after the entries below an entry.
 abbrev past_below : List Die → ℕ → Die → ℕ
@@ -125,10 +124,12 @@ past-within : (dies : List Die) (i j : ℕ) (outer inner : Die) → slice_get di
 past-within dies i j outer inner outer_is inner_is under =
     let k : ℕ = past_below dies i outer in
     let before = (from-below dies i j outer outer_is under).1 in
-    let further = to-below dies j k inner inner_is before in
-    let never = λ (deep : IsBelow dies k j). (from-below dies i k outer outer_is
-    (below-trans dies i j k under deep)).1 in
-    grind arith
+    grind (
+      arith,
+      to-below dies j k inner inner_is before,
+      below-trans dies i j k under,
+      from-below dies i k outer outer_is,
+    )
 
 pub ends-within : (dies : List Die) (i j : ℕ) (outer inner : Die) → slice_get dies i ≡ Some outer
     → slice_get dies j ≡ Some inner → is_scope outer ≡ true → is_scope inner ≡ true

@@ -24,9 +24,8 @@ use Rattle.std.proofs.lemmas.Grind.{common_steps}
 
 pub first-rises : (us : List CompilationUnit) (i j : ℕ) → i ≤ j
     → first_number us i ≤ first_number us j
-first-rises us i j le =
-    let less = sum_by-take-le (λ (u : CompilationUnit). count_by is_scope u.dies) (take j us) i in
-    omega (arith, less, ap number_of_scopes (take-take i j us le))
+first-rises us i j le = rw (← take-take i j us le)
+    (sum_by-take-le (λ (u : CompilationUnit). count_by is_scope u.dies) (take j us) i)
 
 few-below : (die : Die) (dies : List Die)
     → count_by is_scope (below die dies) ≤ count_by is_scope dies
@@ -105,11 +104,17 @@ pub site-order : {us : List CompilationUnit} {n m : ℕ} {p q : ScopeSite} (a : 
     (b : IsSiteAt us m q) → n < m
     → (a.unit < b.unit) ⊎ ((p.member.unit ≡ q.member.unit) × (a.is.index < b.is.index))
 site-order {us} {n} {m} {p} {q} a b less =
-    let unit = a.unit_is in
-    let other = b.unit_is in
     let counts = counted-rises is_scope p.member.unit.dies b.is.index a.is.index in
     let past = before-later b a.unit in
-    grind (arith, a.number_is, a.is.number_is, b.number_is, b.is.number_is)
+    grind (
+      arith,
+      a.unit_is,
+      b.unit_is,
+      a.number_is,
+      a.is.number_is,
+      b.number_is,
+      b.is.number_is,
+    )
 
 -- ---- the order of offsets
 
@@ -117,9 +122,9 @@ pub rise-at : (from end : ℕ) (dies : List Die) (k : ℕ) (d : Die) → RiseWit
     → slice_get dies k ≡ Some d → (from ≤ d.offset) × (d.offset < end)
 rise-at from end [] k d rise h = cc
 rise-at from end (x ∷ dies) zero d rise h =
-    let past = within-le (suc x.offset) end dies rise.1 in grind (arith, common_steps)
+    grind (arith, common_steps, within-le (suc x.offset) end dies rise.1)
 rise-at from end (x ∷ dies) (suc k) d rise h =
-    let at = rise-at (suc x.offset) end dies k d rise.1 h in grind arith
+    grind (arith, rise-at (suc x.offset) end dies k d rise.1 h)
 
 pub rise-order : (from end : ℕ) (dies : List Die) (i j : ℕ) (d e : Die) → RiseWithin from end dies
     → slice_get dies i ≡ Some d → slice_get dies j ≡ Some e → i < j → d.offset < e.offset
@@ -131,11 +136,11 @@ rise-order from end (x ∷ dies) (suc i) (suc j) d e rise d_is e_is lt =
     rise-order (suc x.offset) end dies i j d e rise.1 d_is e_is (omega (arith, lt))
 
 -- A site is within its unit, and the offsets of sites are strictly increasing.
-pub within-unit : {s : Sections} {us : List CompilationUnit} {n : ℕ} {p : ScopeSite}
+pub site-within : {s : Sections} {us : List CompilationUnit} {n : ℕ} {p : ScopeSite}
     → AreUnitsIn s us → (a : IsSiteAt us n p)
     → (p.member.unit.header.start ≤ p.member.die.offset)
     × (p.member.die.offset < p.member.unit.header.end)
-within-unit {p = p} are a =
+site-within {p = p} are a =
     rise-at p.member.unit.header.start p.member.unit.header.end p.member.unit.dies a.is.index
     p.member.die (dies-rise (are.each_is a.unit p.member.unit a.unit_is)) a.is.there
 
@@ -143,12 +148,16 @@ pub sites-rise : {s : Sections} {us : List CompilationUnit} {n m : ℕ} {p q : S
     → AreUnitsIn s us → (a : IsSiteAt us n p) (b : IsSiteAt us m q) → n < m
     → p.member.die.offset < q.member.die.offset
 sites-rise {us = us} {p = p} {q = q} are a b less =
-    let order = site-order a b less in
-    let there = a.is.there in
-    let first = within-unit are a in
-    let second = within-unit are b in
-    let between = are.apart a.unit b.unit p.member.unit q.member.unit a.unit_is b.unit_is in
     let rise = rise-order q.member.unit.header.start q.member.unit.header.end q.member.unit.dies
     a.is.index b.is.index p.member.die q.member.die
     (dies-rise (are.each_is b.unit q.member.unit b.unit_is)) in
-    grind (arith, b.is.there)
+    grind (
+      arith,
+      site-order a b less,
+      site-within are a,
+      site-within are b,
+      are.apart a.unit b.unit p.member.unit q.member.unit a.unit_is b.unit_is,
+      rise,
+      a.is.there,
+      b.is.there,
+    )

@@ -114,7 +114,7 @@ scope-at s us parsed h n scope there =
     let x = parsed-at s us parsed h n j.0 j.1 in
     let within = slice_get_within parsed n j.0 j.1 in
     let size : length (take n parsed) ≡ n = omega (arith, length-take n parsed, within) in
-    subst (IsScopeAt us n) (ap (λ (y : ParsedScope). y.scope) x.is ∙ j.2) (record {
+    rw (← j.2, ← x.is) (record {
       site = x.site;
       there = x.there;
       place = site-at us n x.site x.there;

@@ -76,10 +76,12 @@ call-stays : (wide more : List CallSite) (c : Calls) (file line : ℕ)
 call-stays wide more c file line in_list =
     let d : CallSite = record { file = None; line = None } in
     let index : ℕ = wide_index file line in
-    let stays = get_or_append_left wide more d index in
-    let one = unwrap_or-slice_get (wide ++ more) index d in
-    let two = unwrap_or-slice_get wide index d in
-    grind arith
+    grind (
+      arith,
+      get_or_append_left wide more d index,
+      unwrap_or-slice_get (wide ++ more) index d,
+      unwrap_or-slice_get wide index d,
+    )
 
 pub scopes-push : (roots : List Root) (wide more : List CallSite) (ranges new : List Range)
     (first : ℕ) (ss : List StoredScope) (s : StoredScope) → AreConsecutive (length wide) first

@@ -1,6 +1,7 @@
 -- The roots of units: the loop that returns them, their order, and the root of a scope.
 use Rattle.std.proofs.Common.{◌≡◌, ℕ, zero, suc, ◌+◌, ◌<◌, ◌≤◌, List, [], ◌∷◌, ◌++◌, length, take}
 use Rattle.std.proofs.Common.{get_or, refl, ap, sym, ◌∙◌, arith, append_assoc, append-nil, subst}
+use Rattle.std.proofs.Common.{Bool}
 use Rattle.std.specs.Prelude.{Option, Some, None, All, count_by, slice_get, nat_lt}
 use Rattle.std.specs.List.Sorted.{IsNonDecreasingBy, IsPartitionPoint}
 use Rattle.std.proofs.lemmas.List.Elements.{All-nil, All-cons, All-weaker}
@@ -47,13 +48,12 @@ roots-push number [] u first past first_is past_is =
     ∙ append-nil (root_list first past (root_in u.dies)))
 roots-push number (v ∷ us) u first past first_is past_is =
     let next : ℕ = number + count_by is_scope v.dies in
-    let root : List Root = root_list number next (root_in v.dies) in
     let sum = sum_by-cons (λ (w : CompilationUnit). count_by is_scope w.dies) v us in
     rw (
       root_of-is number next v.dies (roots_from next (us ++ u ∷ [])),
       roots-push next us u first past (omega (arith, first_is, sum)) past_is,
       root_of-is number next v.dies (roots_from next us),
-      append_assoc root (roots_from next us) (root_list first past (root_in u.dies)),
+      append_assoc (root_list number next (root_in v.dies)) (roots_from next us),
     ) refl
 
 module _ {us : List CompilationUnit} {index : ℕ} {unit : UnitEntries}
@@ -90,8 +90,7 @@ module _ {us : List CompilationUnit} {index : ℕ} {unit : UnitEntries}
 -- The scopes of the roots end in order.
 rising-cons : (root : Root) (roots : List Root) → All (λ r. root.past ≤ r.past) roots
     → IsNonDecreasingBy (λ r. r.past) roots → IsNonDecreasingBy (λ r. r.past) (root ∷ roots)
-rising-cons root roots after rise zero zero d le lt = omega arith
-rising-cons root roots after rise (suc i) zero d le lt = absurd (omega (arith, le))
+rising-cons root roots after rise i zero d le lt = grind arith
 rising-cons root roots after rise zero (suc j) d le lt = after j d (omega (arith, lt))
 rising-cons root roots after rise (suc i) (suc j) d le lt =
     rise i j d (omega (arith, le)) (omega (arith, lt))
@@ -141,9 +140,8 @@ pub by_partition : (roots : List Root) (number index : ℕ) → index ≤ length
     → find (λ r. nat_lt number r.past) roots ≡ slice_get roots index
 by_partition roots number index within parts =
     let d : Root = record { offset = 0; stmt_list = None; first = 0; past = 0 } in
-    find_at (λ (r : Root). nat_lt number r.past) roots
-    ∙ ap (λ (k : ℕ). slice_get roots k)
-    (position_or_len_is (λ (r : Root). nat_lt number r.past) roots index d within
+    let test : Root → Bool = λ r. nat_lt number r.past in
+    find_at test roots ∙ ap (slice_get roots) (position_or_len_is test roots index d within
     (λ k before. le-ltb number (get_or roots k d).past (parts.0 k d (omega arith) before))
     (λ inside. lt-ltb number (get_or roots index d).past (parts.1 index d (omega arith) inside)))
 

@@ -1,3 +1,4 @@
+use Rattle.std.proofs.Common.{arith}
 use Rattle.std.proofs.Common.{◌≡◌, ℕ, ◌+◌, List, [], ◌∷◌, ◌++◌, refl, ap, sym, ◌∙◌}
 use Rattle.std.specs.Prelude.{Ok}
 use Rattle.std.proofs.lemmas.List.{map_push}
@@ -21,18 +22,13 @@ use Rattle.dwarf_entries.proofs.passes.all_bases.Invariants.{BasesSoFar}
 use Rattle.std.proofs.lemmas.Option.{slice_get_read}
 use Rattle.dwarf_entries.proofs.passes.all_bases.Goals as goal
 
--- The bases that the stored root of a unit defines.
-bases_in-is : (s : Sections) (format : Format) (dies : List Die)
-    → bases_in s format (root_in dies) ≡ bases_of_first s format dies
-bases_in-is s format [] = refl
-bases_in-is s format (root ∷ dies) = refl
-
 bases-same : (s : Sections) (u : CompilationUnit) (unit : UnitEntries)
     → stored_of unit ≡ stored_unit_of u
     → bases_in s unit.header.format unit.root ≡ bases_of_first s u.header.format u.dies
 bases-same s u unit same =
-    ap (λ (x : StoredUnit). bases_in s x.header.format x.root) same
-    ∙ bases_in-is s u.header.format u.dies
+    let header = ap (λ (x : StoredUnit). x.header) same in
+    let root = ap (λ (x : StoredUnit). x.root) same in
+    grind arith
 
 module _ {s : Sections} {us : List CompilationUnit} {index : ℕ} {all : List Bases}
     (so_far : BasesSoFar s us index all) {unit : UnitEntries} (here : StoredFor us index unit) where

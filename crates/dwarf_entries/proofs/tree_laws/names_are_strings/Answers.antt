@@ -1,3 +1,4 @@
+use Rattle.dwarf_bytes.proofs.Numbers.Advance.{bind_ok}
 use Rattle.std.proofs.Common.{◌≡◌, ℕ, ◌+◌, List, length, refl, subst, arith}
 use Rattle.std.specs.Prelude.{Option, Some, None, Ok, IfSome, All, ◌==◌}
 use Rattle.dwarf_bytes.specs.declared.constants.TheConstants.{DW_AT_LINKAGE_NAME, DW_AT_NAME}
@@ -35,17 +36,13 @@ found-encoded bytes at found h = grind arith
 text_in-is_text : (s : Sections) (name : Section) (bytes : List ℕ) (at : ℕ) (found : TextOffset)
     → section_bytes s name ≡ bytes → text_in name bytes at ≡ Ok found → IsTextOf s found
 text_in-is_text s name bytes at found bytes_are h =
-    let begins : TextOffset = record { section = name; offset = at } in
-    after-bind (reading (text_at bytes at)) (λ _. Ok begins) found h (IsTextOf s found)
-    (λ content content_is last.
-    let next : ℕ = at + length content + 1 in
-    subst (IsTextOf s) (same-ok begins found last) (
-      content,
-      next,
-      rw bytes_are (text-encoded bytes
-          at content next (found-encoded bytes at content
-          (reading-ok (text_at bytes at) content content_is))),
-    ))
+    let content = bind_ok (reading (text_at bytes at)) _ found h in
+    rw (← same-ok _ found content.2) (
+      content.0,
+      at + length content.0 + 1,
+      rw bytes_are (text-encoded bytes at content.0 _ (found-encoded bytes at content.0
+          (reading-ok (text_at bytes at) content.0 content.1))),
+    )
 
 -- ---- the names of a scope
 
@@ -68,38 +65,33 @@ text_of-is_text s str_offsets value found h =
 first-is_text : (s : Sections) (first : Option (CompilationUnit × AttributeValue))
     (found : Option TextOffset) → optional (λ at. text_of s at.0.bases.str_offsets at.1) first
     ≡ Ok found → IfSome found (IsTextOf s)
-first-is_text s None found h = subst (λ (o : Option TextOffset). IfSome o (IsTextOf s))
-    (same-ok None found h) tt
+first-is_text s None found h = rw (← same-ok None found h) tt
 first-is_text s (Some at) found h =
-    after-bind (text_of s at.0.bases.str_offsets at.1) (λ y. Ok (Some y)) found h
-    (IfSome found (IsTextOf s)) (λ y y_is last.
-    subst (λ (o : Option TextOffset). IfSome o (IsTextOf s)) (same-ok (Some y) found last)
-    (text_of-is_text s at.0.bases.str_offsets at.1 y y_is))
+    let y = bind_ok (text_of s at.0.bases.str_offsets at.1) _ found h in
+    rw (← same-ok _ found y.2) (text_of-is_text s at.0.bases.str_offsets at.1 y.0 y.1)
 
-abbrev AreTexts : Sections → EntryNames → Type 0
-AreTexts s found = IfSome found.name (IsTextOf s) × IfSome found.linkage_name (IsTextOf s)
+abbrev AreTexts : Sections → Option TextOffset → Option TextOffset → Type 0
+AreTexts s name linkage_name = IfSome name (IsTextOf s) × IfSome linkage_name (IsTextOf s)
 
 names-are_texts : (s : Sections) (units : List CompilationUnit) (m : Member) (found : EntryNames)
-    → names_of s units m ≡ Ok found → AreTexts s found
+    → names_of s units m ≡ Ok found → AreTexts s found.name found.linkage_name
 names-are_texts s units m found h =
-    after-bind (chain_within references_limit units m) _ found h (AreTexts s found) (λ path _ h1.
-    after-bind (name_on DW_AT_NAME s path) _ found h1 (AreTexts s found) (λ name name_is h2.
-    after-bind (name_on DW_AT_LINKAGE_NAME s path) _ found h2 (AreTexts s found)
-    (λ linkage_name linkage_is last.
-    subst (AreTexts s) (same-ok (record { name = name; linkage_name = linkage_name }) found last) (
-      first-is_text s (first_on DW_AT_NAME path) name name_is,
-      first-is_text s (first_on DW_AT_LINKAGE_NAME path) linkage_name linkage_is,
-    ))))
+    let path = bind_ok (chain_within references_limit units m) _ found h in
+    let name = bind_ok (name_on DW_AT_NAME s path.0) _ found path.2 in
+    let linkage_name = bind_ok (name_on DW_AT_LINKAGE_NAME s path.0) _ found name.2 in
+    rw (← same-ok _ found linkage_name.2) (
+      first-is_text s (first_on DW_AT_NAME path.0) name.0 name.1,
+      first-is_text s (first_on DW_AT_LINKAGE_NAME path.0) linkage_name.0 linkage_name.1,
+    )
 
 abbrev HasTexts : Sections → Scope → Type 0
-HasTexts s scope = IfSome scope.name (IsTextOf s) × IfSome scope.linkage_name (IsTextOf s)
+HasTexts s scope = AreTexts s scope.name scope.linkage_name
 
 all-strings : (s : Sections) (tree : Tree) → tree_of s ≡ Ok tree → All (HasTexts s) tree.scopes
 all-strings s tree h = after-tree s tree h (λ tree. All (HasTexts s) tree.scopes)
     (λ us parsed us_are parsed_are. all-are (HasTexts s) parsed (λ n j there.
     let at = parsed-at s us parsed parsed_are n j there in
-    subst (λ (x : ParsedScope). HasTexts s x.scope) at.is
-    (names-are_texts s us at.site.member at.names at.names_are)))
+    rw (← at.is) (names-are_texts s us at.site.member at.names at.names_are)))
 
 pub returns : goal.returns
 returns c = record {

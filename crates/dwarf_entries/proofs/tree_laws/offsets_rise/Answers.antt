@@ -15,7 +15,7 @@ use Rattle.dwarf_entries.specs.Units.{CompilationUnit}
 use Rattle.dwarf_entries.specs.Scopes.{Scope, root_of, roots_from}
 use Rattle.dwarf_entries.specs.TreeLaws.{RiseBelow}
 use Rattle.dwarf_entries.proofs.OriginChains.ReferenceLaws.{within-le}
-use Rattle.dwarf_entries.proofs.Results.SiteOrder.{sites-rise, within-unit}
+use Rattle.dwarf_entries.proofs.Results.SiteOrder.{sites-rise, site-within}
 use Rattle.dwarf_entries.proofs.Results.TreeParts.{after-tree, scope-at, scopes_in}
 use Rattle.dwarf_entries.proofs.UnitPasses.UnitLaws.{IsUnitIn, AreUnitsIn, dies-rise, units-in}
 use Rattle.dwarf_entries.proofs.UnitPasses.UnitLaws.{units-after}
@@ -47,7 +47,7 @@ returns-clause-scopes c s tree h = after-tree s tree h (λ tree. RiseBelow (leng
       All-map (λ (offset : ℕ). offset < length s.debug_info) (λ (scope : Scope). scope.offset)
           scopes (λ k d lt.
           let one = at k (get_or scopes k d) (slice_get-get_or scopes k d lt) in
-          let inside = within-unit are one.place in
+          let inside = site-within are one.place in
           let unit = are.each_is one.place.unit one.site.member.unit one.place.unit_is in
           omega (arith, inside.1, unit.bounds.within, one.offset_is)),
     ))
@@ -62,45 +62,39 @@ abbrev RootsRise : Sections → ℕ → List Root → Type 0
 RootsRise s from roots =
     All (Within from (length s.debug_info)) roots × AllPairs (λ a b. a.offset < b.offset) roots
 
+-- The roots rise with that of a unit in front.
+rise-cons : (s : Sections) (from number past start end : ℕ) (dies : List Die) (roots : List Root)
+    → from ≤ start → end ≤ length s.debug_info → RiseWithin start end dies → RootsRise s end roots
+    → RootsRise s from (root_of number past dies roots)
+rise-cons s from number past start end dies roots lower within rise rest =
+    by_dies dies rise (All-weaker (Within end size) (Within from size) (λ root at.
+    (omega (arith, lower, within-le start end dies rise, at.0), at.1)) roots rest.0)
+  where
+    size : ℕ
+    size = length s.debug_info
+
+    by_dies : (dies : List Die) → RiseWithin start end dies → All (Within from size) roots
+        → RootsRise s from (root_of number past dies roots)
+    by_dies [] rise all = (all, rest.1)
+    by_dies (die ∷ dies) rise all =
+        let first = rise.0 in
+        let fits = within-le (suc die.offset) end dies rise.1 in (
+          All-cons (Within from size) _ roots
+              (omega (arith, lower, first), omega (arith, fits, within)) all,
+          AllPairs-cons (λ (a b : Root). a.offset < b.offset) _ roots
+              (All-weaker (Within end size) (λ (root : Root). die.offset < root.offset)
+              (λ root at. omega (arith, fits, at.0)) roots rest.0) rest.1,
+        )
+
 roots-from-rise : (s : Sections) (from number : ℕ) (us : List CompilationUnit) → AreUnitsIn s us
     → ((i : ℕ) (u : CompilationUnit) → slice_get us i ≡ Some u → from ≤ u.header.start)
     → RootsRise s from (roots_from number us)
 roots-from-rise s from number [] are starts = (All-nil _, λ i j d lt within. grind arith)
 roots-from-rise s from number (u ∷ us) are starts =
-    by_root u.dies (number + count_by is_scope u.dies) (dies-rise is) (roots-from-rise s
-    u.header.end _ us (units-after u us are) (λ i v found. are.apart 0 (suc i) u v refl found
-    (omega arith)))
-  where
-    is : IsUnitIn s u.header u.dies
-    is = are.each_is 0 u refl
-
-    by_root : (dies : List Die) (past : ℕ) → RiseWithin u.header.start u.header.end dies
-        → RootsRise s u.header.end (roots_from past us)
-        → RootsRise s from (root_of number past dies (roots_from past us))
-    by_root dies past rise rest =
-        let start = starts 0 u refl in
-        let fits = within-le u.header.start u.header.end dies rise in
-        let lower = All-weaker (Within u.header.end (length s.debug_info))
-        (Within from (length s.debug_info)) (λ root at. (omega (arith, start, fits, at.0), at.1))
-        (roots_from past us) rest.0 in
-        by_dies dies rise lower
-      where
-        by_dies : (dies : List Die) → RiseWithin u.header.start u.header.end dies
-            → All (Within from (length s.debug_info)) (roots_from past us)
-            → RootsRise s from (root_of number past dies (roots_from past us))
-        by_dies [] rise lower = (lower, rest.1)
-        by_dies (die ∷ dies) rise lower =
-            let start = starts 0 u refl in
-            let first = rise.0 in
-            let fits = within-le (suc die.offset) u.header.end dies rise.1 in
-            let within = is.bounds.within in (
-              All-cons (Within from (length s.debug_info)) _ (roots_from past us)
-                  (omega (arith, start, first), omega (arith, fits, within)) lower,
-              AllPairs-cons (λ (a b : Root). a.offset < b.offset) _ (roots_from past us)
-                  (All-weaker (Within u.header.end (length s.debug_info))
-                  (λ (root : Root). die.offset < root.offset)
-                  (λ root at. omega (arith, fits, at.0)) (roots_from past us) rest.0) rest.1,
-            )
+    let is = are.each_is 0 u refl in
+    rise-cons s from number _ u.header.start u.header.end u.dies (roots_from _ us)
+    (starts 0 u refl) is.bounds.within (dies-rise is) (roots-from-rise s u.header.end _ us
+    (units-after u us are) (λ i v found. are.apart 0 (suc i) u v refl found (omega arith)))
 
 pub returns-clause-roots : goal.returns-clause-roots
 returns-clause-roots c s tree h = after-tree s tree h (λ tree. RiseBelow (length s.debug_info)

@@ -80,24 +80,27 @@ returns-clause-parts c s tree h = after-tree s tree h
     let made = each-length (parse_scope s us) [] (all_sites us) parsed parsed_are in
     let size : 0 + number_of_scopes us ≡ length (scopes_in parsed) =
     omega (arith, made, length-map parsed (λ (j : ParsedScope). j.scope), all-sites-count us) in
-    subst (λ (n : ℕ). ArePartsFrom 0 n (roots_from 0 us)) size (roots-part 0 us))
+    let parts = roots-part 0 us in rw size at parts)
 
 of-unit : (s : Sections) (us : List CompilationUnit) (n : ℕ) (scope : Scope) (root : Root)
     → AreUnitsIn s us → IsScopeAt us n scope → IsRootOf us 0 root → root.first ≤ scope.number
     → scope.number < root.past → IsOfUnit root scope
 of-unit s us n scope root are x r from until =
-    let die = x.site.member.die in
-    let k : ℕ = x.place.is.index in
     let next = first-next us r.unit r.of r.of_is in
-    let rises = first-rises us (r.unit + 1) x.place.unit in
-    let before = before-later x.place r.unit in
-    let e : x.place.unit ≡ r.unit =
-    grind (arith, x.number_is, x.place.number_is, r.first_is, r.past_is) in
+    let e : x.place.unit ≡ r.unit = grind (
+      arith,
+      first-rises us (r.unit + 1) x.place.unit,
+      before-later x.place r.unit,
+      x.number_is,
+      x.place.number_is,
+      r.first_is,
+      r.past_is,
+    ) in
     let same : x.site.member.unit ≡ r.of = grind (arith, x.place.unit_is, r.of_is) in
     let last = (before-later x.place (r.unit + 1) (omega (arith, e))).1 in
     let there = rw same at x.place.is.there in
-    let rise = rise-order r.of.header.start r.of.header.end r.of.dies 0 k r.die die
-    (dies-rise (are.each_is r.unit r.of r.of_is)) r.die_is there in
+    let rise = rise-order r.of.header.start r.of.header.end r.of.dies 0 x.place.is.index r.die
+    x.site.member.die (dies-rise (are.each_is r.unit r.of r.of_is)) r.die_is there in
     record {
       stmt_list_is = rw (x.stmt_list_is, r.root_is.1, same) refl;
       ends = omega (arith, x.end_is, last, next, r.first_is, r.past_is);

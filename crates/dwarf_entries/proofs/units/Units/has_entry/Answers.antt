@@ -1,3 +1,6 @@
+use Rattle.std.specs.List.{position_or_len}
+use Rattle.std.proofs.lemmas.List.Folds.{find_at}
+use Rattle.std.proofs.Common.{sym}
 use Rattle.std.proofs.Common.{◌≡◌, ℕ, suc, List, [], ◌∷◌, Bool, true, false, cond, ◌==◌, ◌||◌, refl}
 use Rattle.std.proofs.Common.{ap, ◌∙◌, arith}
 use Rattle.std.specs.Prelude.{Option, Some, None, is_some, find, slice_get, option_map, ok_or}
@@ -42,47 +45,39 @@ any-members offset (u ∷ us) = rw (
 ) (is_some-or (option_map (member_of u) (die_at u offset))
     (find (is_at_offset offset) (members_of us)))
 
--- The element that is found is in the list and passes the test.
-find-index : (p : Die → Bool) (dies : List Die) (die : Die) → find p dies ≡ Some die
-    → (i : ℕ) × (slice_get dies i ≡ Some die) × (p die ≡ true)
-find-index p [] die h = cc
-find-index p (d ∷ dies) die h = by_test (p d) refl h (find-index p dies die)
-  where
-    by_test : (b : Bool) → p d ≡ b → cond b (Some d) (find p dies) ≡ Some die
-        → (find p dies ≡ Some die → (i : ℕ) × (slice_get dies i ≡ Some die) × (p die ≡ true))
-        → (i : ℕ) × (slice_get (d ∷ dies) i ≡ Some die) × (p die ≡ true)
-    by_test true passes h later = (0, h, grind arith)
-    by_test false passes h later = let rest = later h in (suc rest.0, rest.1, rest.2)
+-- The element that is found passes the test.
+found-passes : (p : Die → Bool) (dies : List Die) (die : Die) → find p dies ≡ Some die
+    → p die ≡ true
+found-passes p [] die h = cc
+found-passes p (d ∷ dies) die h = let rest = found-passes p dies die in grind arith
 
 finds-inside : {s : Sections} {us : List CompilationUnit} → AreUnitsIn s us
     → (bitmap : EntryBitmap) → IsBitmapOf bitmap us → (place : UnitPlace) → IsWithin us place
     → (marked : Bool) → marked ≡ has_entry bitmap place.offset
     → Finds us (cond marked (Some place) None) (member_in us place.unit place.offset)
-finds-inside {us = us} are bitmap all place within marked marked_is =
-    by_die (die_at u place.offset) refl marked (marked_is ∙ (all place.offset
-    ∙ (any-members place.offset us ∙ ap (λ (o : Option Member). is_some o)
-    (in-own are place.unit place.offset u within.of_is within.low within.high))))
-    (member-is us place.unit place.offset u within.of_is)
+finds-inside {us = us} are bitmap all place within marked marked_is = rw (
+  marked_is,
+  all place.offset,
+  any-members place.offset us,
+  in-own are place.unit place.offset within.of within.of_is within.low within.high,
+) (by_die (die_at within.of place.offset) refl
+    (member-is us place.unit place.offset within.of within.of_is))
   where
-    u : CompilationUnit
-    u = within.of
-
-    by_die : (die : Option Die) → die_at u place.offset ≡ die → (marked : Bool)
-        → marked ≡ is_some (option_map (member_of u) die) → member_in us place.unit place.offset
-        ≡ ok_or (option_map (member_of u) die) causes.Reference
-        → Finds us (cond marked (Some place) None) (member_in us place.unit place.offset)
-    by_die None here false same outcome = outcome
-    by_die None here true same outcome = cc
-    by_die (Some d) here false same outcome = cc
-    by_die (Some d) here true same outcome =
-        let there = find-index (λ die. die.offset == place.offset) u.dies d here in (
-          member_of u d,
+    by_die : (die : Option Die) → die_at within.of place.offset ≡ die
+        → member_in us place.unit place.offset
+        ≡ ok_or (option_map (member_of within.of) die) causes.Reference
+        → Finds us (cond (is_some (option_map (member_of within.of) die)) (Some place) None)
+        (member_in us place.unit place.offset)
+    by_die None here outcome = outcome
+    by_die (Some d) here outcome =
+        let p : Die → Bool = λ die. die.offset == place.offset in (
+          member_of within.of d,
           outcome,
           record {
             unit_is = within.of_is;
-            offset_is = eqb-true d.offset place.offset there.2;
-            index = there.0;
-            there = there.1;
+            offset_is = eqb-true d.offset place.offset (found-passes p within.of.dies d here);
+            index = position_or_len p within.of.dies;
+            there = sym (find_at p within.of.dies) ∙ here;
             found = outcome;
           },
         )

@@ -10,12 +10,10 @@ use Rattle.dwarf_entries.proofs.units.Units.place_in.Goals as goal
 
 pub returns-in_err-offset-clause-leads : goal.returns-in_err-offset-clause-leads
 returns-in_err-offset-clause-leads c =
-    let us = c.args.self.now.units in
     let are = seen-units c.self.invariant c.self.view_is c.deref.ensures.value in
     let k = c.in_ok-stored.stored.now in
-    subst (λ (found : Option UnitPlace). LeadsTo us found (member_in us c.args.unit c.args.offset))
-    (sym c.from_residual-in_err-offset.ensures)
-    (outside (object-units _ _ c.self.view_is) c.deref.result.now are c.args.unit c.args.offset k
+    rw c.from_residual-in_err-offset.ensures (outside (object-units _ _ c.self.view_is)
+    c.deref.result.now are c.args.unit c.args.offset k
     (found-at _ _ c.args.unit k refl c.in_ok-stored.ensures.lookup.3) c.in_err-offset.ensures)
 
 pub returns-clause-within : goal.returns-clause-within

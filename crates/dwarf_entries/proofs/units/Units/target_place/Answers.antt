@@ -14,10 +14,8 @@ use Rattle.dwarf_entries.proofs.units.Units.target_place.Goals as goal
 pub returns-then-reference-eq-DW_FORM_REF_ADDR-clause-leads :
     goal.returns-then-reference-eq-DW_FORM_REF_ADDR-clause-leads
 returns-then-reference-eq-DW_FORM_REF_ADDR-clause-leads c u at =
-    let us = c.args.self.now.units in
     let are = seen-units c.self.invariant c.self.view_is c.deref.ensures.value in
-    subst (λ (outcome : Result Member Cause). LeadsTo us c.place_in.result outcome)
-    (anywhere (object-units _ _ c.self.view_is) c.deref.result.now are c.ends_by.result
+    rw (← anywhere (object-units _ _ c.self.view_is) c.deref.result.now are c.ends_by.result
     c.from-number.result c.ends_by.ensures.parts u c.args.reference
     c.if-reference-eq-DW_FORM_REF_ADDR.true (sym c.from-number.ensures)) c.place_in.ensures.leads
 
@@ -39,7 +37,6 @@ returns-clause-leads c u at =
     (stored-index c.deref-2.result.now us c.args.unit k are
     (found-at _ _ c.args.unit k refl c.in_ok-start.ensures.lookup.3) u at) in
     let number = c.from-number.ensures in
-    subst (λ (outcome : Result Member Cause). LeadsTo us c.place_in-2.result outcome)
-    (within-unit us c.args.unit (c.in_ok-start.field-0.now.header.start + c.from-number.result) u
-    c.args.reference c.if-reference-eq-DW_FORM_REF_ADDR.false at (omega (arith, start, number)))
+    rw (← within-unit us c.args.unit (k.header.start + c.from-number.result) u c.args.reference
+    c.if-reference-eq-DW_FORM_REF_ADDR.false at (omega (arith, start, number)))
     c.place_in-2.ensures.leads

@@ -1,3 +1,4 @@
+use Rattle.std.proofs.Common.{◌<◌}
 use Rattle.std.proofs.Common.{◌≡◌, ℕ, ◌+◌, List, [], ◌∷◌, ◌++◌, length, ap, arith, refl, inl, ◌∙◌}
 use Rattle.std.proofs.Common.{subst}
 use Rattle.std.specs.Prelude.{Ok, Some, slice_get}
@@ -75,31 +76,33 @@ module _ {s : Sections} {us : List CompilationUnit} {number : ℕ} {lists : Scop
         (rw (fault_is, at_is) (item-fault (scope_at s us so_far.parsed p) cause
         p.member.die.offset bad))
 
--- The site of a scope, after the scopes before it.
-is-site : {s : Sections} {us : List CompilationUnit} {number : ℕ} {lists : ScopeLists}
-    {left : ℕ} (so_far : AreParsedTo s us number lists left) (u : CompilationUnit) (index : ℕ)
-    (p : ScopeSite) (numbers : ScopeNumbers) (entry : ScopeEntry)
-    → slice_get us numbers.unit ≡ Some u → slice_get (sites_in u u.dies) index ≡ Some p
-    → number ≡ first_number us numbers.unit + index
-    → numbers.number ≡ length lists.scopes.items
-    → IsSiteRead (Ok (entry, numbers.inside)) (slice_get (sites_in u u.dies) index)
-    → IsScopeSite us numbers entry left so_far.parsed p
-is-site {us = us} so_far u index p numbers entry found there number_is stored read =
-    let sizes = scopes-stored so_far in
-    let within = slice_get_within (sites_in u u.dies) index p there in
-    let count = sites-count u u.dies in
-    let unit_is = (site-in u u.dies index p there).unit_is in
-    let is = rw there at read in
-    record {
-      unit_is = rw unit_is found;
-      stmt_list_is = rw unit_is (by_number 0 us u numbers.unit numbers.number found
-          (omega (arith, stored, sizes, number_is))
-          (omega (arith, stored, sizes, number_is, within, count)));
-      entry_is = is.0;
-      descendants_are = is.1;
-      number_is = omega (arith, stored, sizes, so_far.passed.len);
-      budget_is = omega (arith, so_far.counted);
-    }
+  -- The site with the number, which is a scope of the unit after the scopes before it.
+  site-here : (u : CompilationUnit) (index : ℕ) (numbers : ScopeNumbers) (entry : ScopeEntry)
+      → slice_get us numbers.unit ≡ Some u → index < length (sites_in u u.dies)
+      → number ≡ first_number us numbers.unit + index
+      → numbers.number ≡ length lists.scopes.items
+      → IsSiteRead (Ok (entry, numbers.inside)) (slice_get (sites_in u u.dies) index)
+      → (p : ScopeSite) × (slice_get (all_sites us) number ≡ Some p)
+      × IsScopeSite us numbers entry left so_far.parsed p
+  site-here u index numbers entry found within number_is stored read =
+      let p = element (sites_in u u.dies) index within in
+      let sizes = scopes-stored in
+      let count = sites-count u u.dies in
+      let unit_is = (site-in u u.dies index p.0 p.1).unit_is in
+      let is = rw p.1 at read in (
+        p.0,
+        all-sites-at us numbers.unit index number u p.0 found p.1 number_is,
+        record {
+          unit_is = rw unit_is found;
+          stmt_list_is = rw unit_is (by_number 0 us u numbers.unit numbers.number found
+              (omega (arith, stored, sizes, number_is))
+              (omega (arith, stored, sizes, number_is, within, count)));
+          entry_is = is.0;
+          descendants_are = is.1;
+          number_is = omega (arith, stored, sizes, so_far.passed.len);
+          budget_is = omega (arith, so_far.counted);
+        },
+      )
 
 pub returns-in_err-entry-clause-scopes : goal.returns-in_err-entry-clause-scopes
 returns-in_err-entry-clause-scopes c parsed =
@@ -109,38 +112,33 @@ returns-in_err-entry-clause-scopes c parsed =
 
 pub returns-in-Err-clause-scopes : goal.returns-in-Err-clause-scopes
 returns-in-Err-clause-scopes c parsed =
-    let us = c.args.self.now.units in
-    let index = c.loop-index.index in
     let so_far = c.loop-index.invariant.so_far parsed in
-    let u = element us c.args.unit c.requires.unit in
+    let u = element c.args.self.now.units c.args.unit c.requires.unit in
     let size = c.scopes_in-index-end.ensures u.0 u.1 in
-    let p = element (sites_in u.0 u.0.dies) index (omega (arith, size, c.loop-index-test.true)) in
-    let read = (rw c.loop-index.invariant.same at c.in_ok-entry.ensures.site) u.0 u.1 in
-    let site = is-site so_far u.0 index p.0 _ c.in_ok-entry.entry u.1 p.1 refl
-    (c.len.ensures ∙ c.loop-index.lists.scopes.ok.0) read in
-    scopes-fault so_far p.0 (all-sites-at us c.args.unit index _ u.0 p.0 u.1 p.1 refl)
-    c.in-Err.cause c.in_ok-entry.entry.entry.offset c.at_item.result
-    ((rw (c.in_ok-entry.ensures.same ∙ c.loop-index.invariant.same) at c.in-Err.ensures.parsed)
-    so_far.parsed p.0 site) (ap (λ (e : ScopeEntry). e.entry.offset) site.entry_is)
-    c.at_item.ensures
+    let here = site-here so_far u.0 c.loop-index.index _ c.in_ok-entry.entry u.1
+    (omega (arith, size, c.loop-index-test.true)) refl
+    (c.len.ensures ∙ c.loop-index.lists.scopes.ok.0)
+    ((rw c.loop-index.invariant.same at c.in_ok-entry.ensures.site) u.0 u.1) in
+    scopes-fault so_far here.0 here.1 c.in-Err.cause c.in_ok-entry.entry.entry.offset
+    c.at_item.result ((rw (c.in_ok-entry.ensures.same ∙ c.loop-index.invariant.same)
+    at c.in-Err.ensures.parsed) so_far.parsed here.0 here.2)
+    (ap (λ (e : ScopeEntry). e.entry.offset) here.2.entry_is) c.at_item.ensures
 
 pub loop-index-preserved : goal.loop-index-preserved
 loop-index-preserved c = record {
   same = c.in-Ok.ensures.same ∙ (c.in_ok-entry.ensures.same ∙ c.loop-index.invariant.same);
   so_far = λ parsed.
-      let us = c.args.self.now.units in
-      let index = c.loop-index.index in
       let so_far = c.loop-index.invariant.so_far parsed in
-      let u = element us c.args.unit c.requires.unit in
+      let u = element c.args.self.now.units c.args.unit c.requires.unit in
       let size = c.scopes_in-index-end.ensures u.0 u.1 in
-      let p = element (sites_in u.0 u.0.dies) index (omega (arith, size, c.loop-index-test.true)) in
-      let read = (rw c.loop-index.invariant.same at c.in_ok-entry.ensures.site) u.0 u.1 in
-      let site = is-site so_far u.0 index p.0 _ c.in_ok-entry.entry u.1 p.1 refl
-      (c.len.ensures ∙ c.loop-index.lists.scopes.ok.0) read in
-      scopes-next so_far p.0 (all-sites-at us c.args.unit index _ u.0 p.0 u.1 p.1 refl)
+      let here = site-here so_far u.0 c.loop-index.index _ c.in_ok-entry.entry u.1
+      (omega (arith, size, c.loop-index-test.true)) refl
+      (c.len.ensures ∙ c.loop-index.lists.scopes.ok.0)
+      ((rw c.loop-index.invariant.same at c.in_ok-entry.ensures.site) u.0 u.1) in
+      scopes-next so_far here.0 here.1
       {mid = record c.loop-index.lists { ranges = c.scope.new.ranges }}
       ((rw (c.in_ok-entry.ensures.same ∙ c.loop-index.invariant.same) at c.in-Ok.ensures.parsed)
-      so_far.parsed p.0 site) refl refl c.in_ok-push-in-Ok.ensures
+      so_far.parsed here.0 here.2) refl refl c.in_ok-push-in-Ok.ensures
       (omega (arith, c.in-Ok.ensures.budget)) (omega arith);
 }
 
@@ -149,13 +147,13 @@ returns-clause-scopes c parsed =
     let us = c.args.self.now.units in
     let u = element us c.args.unit c.requires.unit in
     let size = c.scopes_in-index-end.ensures u.0 u.1 in
-    let next = first-next us c.args.unit u.0 u.1 in
-    subst (λ (n : ℕ). AreParsedTo c.args.self.now.sections us n c.loop-index.lists
-    c.loop-index.left) (omega (
+    let next : first_number us c.args.unit + c.loop-index.index
+    ≡ first_number us (c.args.unit + 1) = omega (
       arith,
       size,
-      next,
+      first-next us c.args.unit u.0 u.1,
       sites-count u.0 u.0.dies,
       c.loop-index-test.false,
       c.loop-index.auto.index-end,
-    )) (c.loop-index.invariant.so_far parsed)
+    ) in
+    rw (← next) (c.loop-index.invariant.so_far parsed)
