@@ -1,24 +1,16 @@
 -- The iterations of the loop that follows an origin chain, and the strings of the names that it
 -- finds.
-use Rattle.std.proofs.Common.{◌≡◌, ℕ, zero, suc, ◌+◌, List, [], ◌∷◌, ◌++◌, refl, sym, ap, ◌∙◌}
-use Rattle.std.proofs.Common.{arith, append_assoc}
-use Rattle.std.specs.Prelude.{Option, Some, None, Result, Ok, Err, slice_get, option_map, ◌-◌}
-use Rattle.std.specs.Option.{option_or}
-use Rattle.dwarf_bytes.specs.declared.fault.Cause.{Cause}
-use Rattle.dwarf_bytes.specs.declared.fault.Cause.TheVariants as causes
-use Rattle.dwarf_bytes.specs.Bind.{◌>>=◌}
-use Rattle.dwarf_units.specs.declared.attributes.AttributeValue.{AttributeValue}
-use Rattle.dwarf_walk.specs.declared.unit_entries.NamedEntry.{NamedEntry}
+use Rattle.dwarf_entries.proofs.Common
+use Common.{◌≡◌, ℕ, zero, suc, ◌+◌, List, [], ◌∷◌, ◌++◌, refl, sym, ap, ◌∙◌, arith, append_assoc}
+use Common.{Option, Some, None, Result, Ok, Err, slice_get, option_map, ◌-◌, option_or, Cause}
+use Common.{◌>>=◌, AttributeValue, NamedEntry, UnitPlace, attribute, CompilationUnit, Member}
+use Common.{target_of, chain_within, first_on, IsMember, IsPlaceOf, Finds}
 use Rattle.dwarf_entries.specs.declared.origin_chains.UnitAttribute.{UnitAttribute}
 use Rattle.dwarf_entries.specs.declared.origin_chains.UnitEntry.{UnitEntry}
-use Rattle.dwarf_entries.specs.declared.references.UnitPlace.{UnitPlace}
-use Rattle.dwarf_entries.specs.declared.origin_chains.FirstNames.{FirstNames}
-use Rattle.dwarf_units.specs.Entries.{attribute}
-use Rattle.dwarf_entries.specs.Units.{CompilationUnit}
-use Rattle.dwarf_entries.specs.Names.{Member, target_of, chain_within, of_member, first_on}
+use Rattle.dwarf_entries.specs.{declared.origin_chains.FirstNames.FirstNames, Names.of_member}
+use Rattle.dwarf_entries.specs.Private.Members.{IsFirst, AreFirst, FindsFirst}
 use Rattle.dwarf_walk.specs.References.{or_else, next_of}
-use Rattle.dwarf_entries.specs.Private.Members.{IsMember, IsPlaceOf, Finds, IsFirst, AreFirst}
-use Rattle.dwarf_entries.specs.Private.Members.{FindsFirst}
+use Rattle.dwarf_bytes.specs.declared.fault.Cause.TheVariants as causes
 
 -- ---- the first attribute with a name
 

@@ -1,27 +1,14 @@
 -- The names of an entry: the strings of the first names of its origin chain, and the cache of the
 -- names of reference targets.
-use Rattle.std.proofs.Common.{◌≡◌, ℕ, List, refl, ap, sym, suc, ◌∷◌, Bool, true, false, ◌==◌, ◌&&◌}
-use Rattle.std.proofs.Common.{◌∙◌, arith}
-use Rattle.std.specs.Prelude.{Option, Result, Ok, Err, Some, None, if◌then◌else◌}
-use Rattle.dwarf_bytes.specs.declared.constants.TheConstants.{DW_AT_LINKAGE_NAME, DW_AT_NAME}
-use Rattle.dwarf_bytes.specs.declared.fault.Cause.{Cause}
-use Rattle.dwarf_bytes.specs.Bind.{◌>>=◌}
-use Rattle.dwarf_entries.specs.declared.text_offset.TextOffset.{TextOffset}
-use Rattle.dwarf_entries.specs.declared.origin_chains.EntryNames.{EntryNames}
-use Rattle.dwarf_walk.specs.Sections.{Sections}
-use Rattle.dwarf_entries.specs.Units.{CompilationUnit}
-use Rattle.dwarf_entries.specs.Names.{Member, chain_within, name_on, target_of, names_of}
-use Rattle.dwarf_entries.specs.Names.{references_limit}
-use Rattle.dwarf_entries.specs.Private.NameCache.{CachedNames, slot_of, slot_at, second_names}
-use Rattle.dwarf_entries.specs.Private.NameCache.{target_names, IsCacheOf}
-use Rattle.dwarf_entries.specs.Private.Members.{IsMember, LeadsTo, member_in}
-use Rattle.dwarf_units.specs.declared.attributes.AttributeValue.{AttributeValue}
-use Rattle.dwarf_units.specs.Entries.{attribute}
-use Rattle.dwarf_walk.specs.declared.unit_entries.NamedEntry.{NamedEntry}
-use Rattle.dwarf_entries.specs.declared.name_cache.NameCache.{NameCache}
-use Rattle.dwarf_entries.specs.declared.references.UnitPlace.{UnitPlace}
-use Rattle.dwarf_walk.specs.References.{next_of}
-use Rattle.dwarf_entries.specs.Private.Narrow.{are_narrow}
+use Rattle.dwarf_entries.proofs.Common
+use Common.{◌≡◌, ℕ, List, refl, sym, suc, Bool, true, false, ◌==◌, ◌∙◌, arith, Option, Result, Ok}
+use Common.{Err, Some, None, DW_AT_LINKAGE_NAME, DW_AT_NAME, Cause, ◌>>=◌, TextOffset, EntryNames}
+use Common.{Sections, CompilationUnit, Member, chain_within, name_on, target_of, names_of}
+use Common.{references_limit, slot_at, IsCacheOf, IsMember, member_in, AttributeValue, attribute}
+use Common.{NamedEntry, NameCache, UnitPlace}
+use Rattle.std.proofs.Common.{◌&&◌, if◌then◌else◌}
+use Rattle.dwarf_entries.specs.Private.NameCache.{CachedNames, slot_of, second_names, target_names}
+use Rattle.dwarf_entries.specs.{Private.Members.LeadsTo, Private.Narrow.are_narrow}
 use Rattle.dwarf_entries.proofs.OriginChains.ChainLaws.{in_front, stepped}
 
 -- ---- the strings

@@ -1,29 +1,19 @@
 -- The entry at an offset of .debug_info is found by its bit, in the unit that contains the offset.
-use Rattle.std.proofs.Common.{◌≡◌, ◌⊎◌, inl, inr, ℕ, zero, suc, ◌+◌, ◌<◌, ◌≤◌, List, [], ◌∷◌}
-use Rattle.std.proofs.Common.{length, map, get_or, Bool, true, ◌==◌, refl, sym, ap, ◌∙◌, subst}
-use Rattle.std.proofs.Common.{arith, eq-eqb}
-use Rattle.std.specs.Prelude.{Option, Some, None, Err, find, slice_get, option_map, ok_or}
-use Rattle.std.specs.Prelude.{option_to_list}
-use Rattle.std.specs.Option.{option_or}
-use Rattle.std.specs.List.Sorted.{IsNonDecreasingBy, IsPartitionPoint}
-use Rattle.std.proofs.lemmas.Bool.{ne_eqb, cases_lt}
+use Rattle.dwarf_entries.proofs.Common
+use Common.{◌≡◌, ◌⊎◌, inl, inr, ℕ, zero, suc, ◌+◌, ◌<◌, ◌≤◌, List, [], ◌∷◌, length, map, get_or}
+use Common.{Bool, true, ◌==◌, refl, sym, ap, ◌∙◌, arith, Option, Some, None, Err, find, slice_get}
+use Common.{option_map, ok_or, option_or, IsNonDecreasingBy, IsPartitionPoint, cases_lt}
+use Common.{slice_get-get_or, slice_get_within, get_or_from_slice_get, AttributeValue, Die}
+use Common.{RiseWithin, UnitEntries, StoredUnit, Sections, CompilationUnit, Member, members_of}
+use Common.{target_of, AreStored, IsWithin, member_in}
+use Rattle.std.proofs.{Common.{eq-eqb, option_to_list}, lemmas.Bool.ne_eqb}
 use Rattle.std.proofs.lemmas.List.Folds.{find-append}
-use Rattle.std.proofs.lemmas.Option.{slice_get-get_or, slice_get_within, get_or_from_slice_get}
 use Rattle.dwarf_bytes.specs.declared.constants.TheConstants.{DW_FORM_REF_ADDR}
+use Rattle.dwarf_entries.specs.Names.{member_at}
+use Rattle.dwarf_entries.proofs.{UnitPasses.PassLaws.element, UnitPasses.UnitLaws.stored-at}
+use Rattle.dwarf_entries.proofs.UnitPasses.UnitLaws.{stored-index, stored-length, AreUnitsIn}
+use Rattle.dwarf_entries.proofs.UnitPasses.UnitLaws.{dies-rise}
 use Rattle.dwarf_bytes.specs.declared.fault.Cause.TheVariants as causes
-use Rattle.dwarf_units.specs.declared.attributes.AttributeValue.{AttributeValue}
-use Rattle.dwarf_units.specs.Entries.{Die}
-use Rattle.dwarf_units.specs.Private.Rising.{RiseWithin}
-use Rattle.dwarf_walk.specs.declared.unit_entries.UnitEntries.{UnitEntries}
-use Rattle.dwarf_walk.specs.Stored.{StoredUnit}
-use Rattle.dwarf_walk.specs.Sections.{Sections}
-use Rattle.dwarf_entries.specs.Units.{CompilationUnit}
-use Rattle.dwarf_entries.specs.Names.{Member, members_of, member_at, target_of}
-use Rattle.dwarf_entries.specs.Private.EntryOffsets.{AreStored}
-use Rattle.dwarf_entries.specs.Private.Members.{IsWithin, member_in}
-use Rattle.dwarf_entries.proofs.UnitPasses.PassLaws.{element}
-use Rattle.dwarf_entries.proofs.UnitPasses.UnitLaws.{stored-at, stored-index, stored-length}
-use Rattle.dwarf_entries.proofs.UnitPasses.UnitLaws.{AreUnitsIn, dies-rise}
 
 -- ---- the entry at an offset of a unit
 

@@ -1,14 +1,11 @@
 -- The entries below an entry, by indexes and by the number of scopes before them.
-use Rattle.std.proofs.Common.{◌≡◌, ◌↔◌, ℕ, ◌+◌, ◌-◌, ◌<◌, ◌≤◌, List, Bool, true, Some, length, take}
-use Rattle.std.proofs.Common.{drop, get_or, ap, sym, ◌∙◌, subst, arith, length-drop, take-add}
-use Rattle.std.specs.Prelude.{nat_lt, count_by, slice_get}
-use Rattle.std.specs.List.{prefix_len}
-use Rattle.std.proofs.lemmas.List.{get_or-drop}
-use Rattle.std.proofs.lemmas.List.Sums.{sum_by-append, count_by_more_yes, prefix_len_passes}
-use Rattle.std.proofs.lemmas.List.Sums.{prefix_len_stops, prefix_len-le-length}
-use Rattle.std.proofs.lemmas.Option.{get_or_from_slice_get, slice_get_within}
-use Rattle.dwarf_units.specs.Entries.{Die, below, IsBelow}
-use Rattle.dwarf_walk.specs.ScopeEntries.{is_scope}
+use Rattle.dwarf_entries.proofs.Common
+use Common.{◌≡◌, ◌↔◌, ℕ, ◌+◌, ◌-◌, ◌<◌, ◌≤◌, List, Bool, true, Some, length, take, drop, get_or, ap}
+use Common.{sym, ◌∙◌, subst, arith, nat_lt, count_by, slice_get, prefix_len, count_by_more_yes}
+use Common.{get_or_from_slice_get, slice_get_within, Die, below, IsBelow, is_scope}
+use Rattle.std.proofs.{Common.{length-drop, take-add}, lemmas.List.get_or-drop}
+use Rattle.std.proofs.lemmas.List.Sums.{sum_by-append, prefix_len_passes, prefix_len_stops}
+use Rattle.std.proofs.lemmas.List.Sums.{prefix_len-le-length}
 
 module _ {X : Type 0} (p : X → Bool) (xs : List X) where
   -- The number of elements before an index that pass the test.

@@ -1,21 +1,16 @@
 -- The scopes of an object are in order: the number of each is its index, and a scope that starts
 -- inside another one also ends inside it.
-use Rattle.std.proofs.Common.{◌≡◌, ℕ, suc, ◌+◌, ◌<◌, ◌≤◌, List, [], ◌∷◌, length, get_or, refl, ap}
-use Rattle.std.proofs.Common.{arith}
-use Rattle.std.specs.Prelude.{Some, slice_get, is_some, Ok}
-use Rattle.std.proofs.lemmas.List.{length-map}
+use Rattle.dwarf_entries.proofs.Common
+use Common.{◌≡◌, ℕ, suc, ◌+◌, ◌<◌, ◌≤◌, List, [], ◌∷◌, length, get_or, refl, ap, arith, Some}
+use Common.{slice_get, is_some, Ok, length-map, slice_get-get_or, slice_get_within, each-length}
+use Common.{CompilationUnit, AreNumbered, AreInOrder, Scope, ScopeSite, ParsedScope, Tree, tree_of}
+use Common.{parse_scope, all_sites, Sections}
 use Rattle.std.proofs.lemmas.List.Elements.{recursion_from_All}
-use Rattle.std.proofs.lemmas.Option.{slice_get-get_or, slice_get_within}
-use Rattle.dwarf_bytes.proofs.Items.EachPlaces.{each-length}
-use Rattle.dwarf_entries.specs.Units.{CompilationUnit}
-use Rattle.dwarf_entries.specs.Order.{AreNumbered, AreNested, AreInOrder}
-use Rattle.dwarf_entries.specs.Scopes.{Scope, ScopeSite, ParsedScope, Tree, tree_of}
-use Rattle.dwarf_entries.specs.Private.Passes.{parse_scope, all_sites}
+use Rattle.dwarf_entries.specs.Order.{AreNested}
 use Rattle.dwarf_entries.proofs.Results.SiteOrder.{sites-below, in-unit-of, before-later}
-use Rattle.dwarf_entries.proofs.Results.BelowLaws.{ends-within}
-use Rattle.dwarf_entries.proofs.Results.TreeParts.{after-tree, scope-at, scopes_in}
+use Rattle.dwarf_entries.proofs.{Results.BelowLaws.ends-within, Results.TreeParts.after-tree}
+use Rattle.dwarf_entries.proofs.Results.TreeParts.{scope-at, scopes_in}
 use Rattle.dwarf_entries.proofs.ScopePasses.SiteLaws.{IsSiteAt, first-all}
-use Rattle.dwarf_walk.specs.Sections.{Sections}
 
 numbered : (m total : ℕ) (ss : List Scope) → m + length ss ≡ total
     → ((i : ℕ) (s : Scope) → slice_get ss i ≡ Some s

@@ -1,24 +1,15 @@
 -- The order of scope sites and of their entries.
-use Rattle.std.proofs.Common.{◌≡◌, ◌⊎◌, inl, inr, ℕ, zero, suc, ◌+◌, ◌<◌, ◌≤◌, true, cond, List, []}
-use Rattle.std.proofs.Common.{◌∷◌, take, drop, get_or, ap, ◌∙◌, arith, ◌↔◌, refl}
-use Rattle.std.specs.Prelude.{Some, slice_get, is_some, count_by, nat_lt}
-use Rattle.std.specs.List.{prefix_len}
-use Rattle.std.proofs.lemmas.Bool.{cases_order}
-use Rattle.std.proofs.lemmas.List.{take-take}
-use Rattle.std.proofs.lemmas.List.Sums.{sum_by-take-le, sum_by-take-drop, count_by_more_yes}
-use Rattle.std.proofs.lemmas.Option.{get_or_from_slice_get, slice_get_within}
-use Rattle.dwarf_units.specs.Entries.{Die, below, IsBelow}
-use Rattle.dwarf_units.specs.Private.Rising.{RiseWithin}
-use Rattle.dwarf_walk.specs.ScopeEntries.{is_scope}
-use Rattle.dwarf_walk.specs.Sections.{Sections}
-use Rattle.dwarf_entries.specs.Units.{CompilationUnit}
-use Rattle.dwarf_entries.specs.Scopes.{ScopeSite}
-use Rattle.dwarf_entries.specs.Private.Passes.{number_of_scopes, first_number}
+use Rattle.dwarf_entries.proofs.Common
+use Common.{◌≡◌, ◌⊎◌, ℕ, zero, suc, ◌+◌, ◌<◌, ◌≤◌, true, cond, List, [], ◌∷◌, take, drop, get_or}
+use Common.{ap, ◌∙◌, arith, ◌↔◌, refl, Some, slice_get, is_some, count_by, nat_lt, prefix_len}
+use Common.{sum_by-take-le, count_by_more_yes, get_or_from_slice_get, slice_get_within, Die, below}
+use Common.{IsBelow, RiseWithin, is_scope, Sections, CompilationUnit, ScopeSite, first_number}
+use Common.{common_steps}
+use Rattle.std.proofs.{lemmas.List.take-take, lemmas.List.Sums.sum_by-take-drop}
 use Rattle.dwarf_entries.proofs.OriginChains.ReferenceLaws.{within-le}
 use Rattle.dwarf_entries.proofs.Results.BelowLaws.{counted-rises, scopes-between}
 use Rattle.dwarf_entries.proofs.ScopePasses.SiteLaws.{IsSiteAt, first-next}
 use Rattle.dwarf_entries.proofs.UnitPasses.UnitLaws.{AreUnitsIn, dies-rise}
-use Rattle.std.proofs.lemmas.Grind.{common_steps}
 
 -- ---- the order of numbers
 

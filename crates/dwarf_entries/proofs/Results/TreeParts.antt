@@ -1,27 +1,16 @@
 -- The units and scopes that a result was read from.
-use Rattle.std.proofs.Common.{◌≡◌, ℕ, ◌+◌, List, [], length, take, map, get_or, ap, sym, ◌∙◌, subst}
-use Rattle.std.proofs.Common.{arith, length-take, refl}
-use Rattle.std.specs.Prelude.{Result, Ok, Err, Some, All, Contains, slice_get}
-use Rattle.std.proofs.lemmas.List.Elements.{All-map}
-use Rattle.std.proofs.lemmas.Option.{slice_get-get_or, slice_get_within}
-use Rattle.dwarf_bytes.specs.declared.fault.Cause.{Cause}
-use Rattle.dwarf_bytes.specs.declared.fault.Section.TheVariants as names
-use Rattle.dwarf_bytes.specs.Bind.{◌>>=◌}
-use Rattle.dwarf_bytes.specs.Items.{with_offset}
-use Rattle.dwarf_bytes.specs.Refusals.{in_section}
-use Rattle.dwarf_bytes.proofs.Numbers.Advance.{bind_ok, after-bind}
-use Rattle.dwarf_bytes.proofs.Numbers.Moves.{same-ok}
-use Rattle.dwarf_units.proofs.TableLaws.{in_section-ok}
-use Rattle.dwarf_walk.specs.Sections.{Sections}
-use Rattle.dwarf_entries.specs.declared.origin_chains.EntryNames.{EntryNames}
-use Rattle.dwarf_entries.specs.Units.{CompilationUnit, units_read}
-use Rattle.dwarf_entries.specs.Names.{names_of}
+use Rattle.dwarf_entries.proofs.Common
+use Common.{◌≡◌, ℕ, ◌+◌, List, [], length, take, map, get_or, ap, sym, ◌∙◌, subst, arith}
+use Common.{length-take, refl, Result, Ok, Some, All, Contains, slice_get, All-map}
+use Common.{slice_get-get_or, slice_get_within, Cause, with_offset, in_section, bind_ok, same-ok}
+use Common.{in_section-ok, Sections, EntryNames, CompilationUnit, units_read, names_of, Tree, Scope}
+use Common.{ScopeSite, ParsedScope, scope_at, tree_of, scope_of_site, roots_from, stmt_list_of}
+use Common.{parse_scope, all_sites, all_scopes}
 use Rattle.dwarf_ranges.specs.Ranges.{Covering}
-use Rattle.dwarf_entries.specs.Scopes.{Tree, Scope, ScopeSite, ParsedScope, scope_at, tree_of}
-use Rattle.dwarf_entries.specs.Scopes.{scope_of_site, covers_there, roots_from, stmt_list_of}
-use Rattle.dwarf_entries.specs.Private.Passes.{parse_scope, all_sites, all_scopes}
+use Rattle.dwarf_entries.specs.Scopes.{covers_there}
 use Rattle.dwarf_entries.proofs.ScopePasses.SiteLaws.{IsSiteAt, site-at}
 use Rattle.dwarf_entries.proofs.UnitPasses.PassLaws.{each-at, from-map}
+use Rattle.dwarf_bytes.specs.declared.fault.Section.TheVariants as names
 
 -- ---- the passes of a read
 

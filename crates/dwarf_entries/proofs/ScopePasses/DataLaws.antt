@@ -1,10 +1,9 @@
 -- The data of scopes: in the scope itself, and through the list of scopes.
-use Rattle.std.proofs.Common.{◌≡◌, ℕ, zero, suc, ◌+◌, List, [], ◌∷◌, refl, ap, sym, ◌∙◌, arith}
-use Rattle.std.specs.Prelude.{Option, Some, None, length, slice_get, option_map, map}
-use Rattle.std.proofs.lemmas.Option.{slice_get-map, same_Some}
-use Rattle.dwarf_entries.specs.declared.scope.Scope.{Scope as StoredScope}
-use Rattle.dwarf_entries.specs.Scopes.{Scope, Own, own, own_of}
-use Rattle.dwarf_entries.specs.Order.{AreNumbered, AreInOrder, HasDataOf}
+use Rattle.dwarf_entries.proofs.Common
+use Common.{◌≡◌, ℕ, zero, suc, ◌+◌, List, [], ◌∷◌, refl, ap, sym, ◌∙◌, arith, Option, Some, None}
+use Common.{length, slice_get, option_map, map, slice_get-map, same_Some, Scope, Own, own, own_of}
+use Common.{AreNumbered, AreInOrder}
+use Rattle.dwarf_entries.specs.{declared.scope.Scope.Scope as StoredScope, Order.HasDataOf}
 
 -- The number of the scope at an index.
 number-at : (first total i : ℕ) (ss : List Scope) (s : Scope) → AreNumbered first total ss

@@ -1,23 +1,14 @@
 -- The scopes of a result in the lists that they share, and one more scope after them.
-use Rattle.std.proofs.Common.{◌≡◌, ℕ, zero, suc, ◌-◌, List, [], ◌∷◌, length, take, drop, refl, ap}
-use Rattle.std.proofs.Common.{sym, ◌∙◌, arith, ◌+◌, ◌≤◌, ◌++◌, length-append}
-use Rattle.std.specs.Prelude.{slice_get, option_map, None}
-use Rattle.dwarf_entries.specs.declared.calls.CallSite.{CallSite}
-use Rattle.dwarf_ranges.specs.declared.range.Range.{Range}
-use Rattle.dwarf_entries.specs.declared.scope.Root.{Root}
-use Rattle.dwarf_entries.specs.declared.scope.Scope.{Scope as StoredScope}
-use Rattle.dwarf_entries.specs.Scopes.{scope_of, scopes_from, Scope, call_site, scopes_of}
-use Rattle.dwarf_entries.specs.Scopes.{wide_index}
-use Rattle.dwarf_entries.specs.Private.Shared.{ranges_start, IsInList, AreConsecutive, facts_of}
-use Rattle.dwarf_entries.specs.Private.Shared.{IsPushed}
-use Rattle.std.proofs.lemmas.Grind.{common_steps}
-use Rattle.std.proofs.lemmas.List.{take-append-le, drop-append-le, get_or_append_left, length-drop}
-use Rattle.std.proofs.lemmas.List.{take_all}
-use Rattle.std.proofs.lemmas.Option.{unwrap_or-slice_get}
-use Rattle.std.proofs.Math.Seq.{drop-append_seam}
+use Rattle.dwarf_entries.proofs.Common
+use Common.{◌≡◌, ℕ, zero, suc, ◌-◌, List, [], ◌∷◌, length, take, drop, refl, ap, sym, ◌∙◌, arith}
+use Common.{◌+◌, ◌≤◌, ◌++◌, length-append, slice_get, option_map, None, CallSite, Range, Root}
+use Common.{scopes_from, Scope, facts_of, IsPushed, common_steps, take_all, ScopeFacts, ScopeLists}
+use Rattle.dwarf_entries.specs.{declared.scope.Scope.Scope as StoredScope, Scopes.scope_of}
+use Rattle.dwarf_entries.specs.Scopes.{call_site, scopes_of, wide_index}
+use Rattle.dwarf_entries.specs.Private.Shared.{ranges_start, IsInList, AreConsecutive}
 use Rattle.dwarf_entries.specs.declared.calls.Calls.{Calls}
-use Rattle.dwarf_entries.specs.declared.scope.ScopeFacts.{ScopeFacts}
-use Rattle.dwarf_entries.specs.declared.scope_lists.ScopeLists.{ScopeLists}
+use Rattle.std.proofs.lemmas.List.{take-append-le, drop-append-le, get_or_append_left, length-drop}
+use Rattle.std.proofs.{lemmas.Option.unwrap_or-slice_get, Math.Seq.drop-append_seam}
 
 -- ---- the scope at an index
 

@@ -1,29 +1,17 @@
 -- The roots of units: the loop that returns them, their order, and the root of a scope.
-use Rattle.std.proofs.Common.{◌≡◌, ℕ, zero, suc, ◌+◌, ◌<◌, ◌≤◌, List, [], ◌∷◌, ◌++◌, length, take}
-use Rattle.std.proofs.Common.{get_or, refl, ap, sym, ◌∙◌, arith, append_assoc, append-nil, subst}
-use Rattle.std.proofs.Common.{Bool}
-use Rattle.std.specs.Prelude.{Option, Some, None, All, count_by, slice_get, nat_lt}
-use Rattle.std.specs.List.Sorted.{IsNonDecreasingBy, IsPartitionPoint}
-use Rattle.std.proofs.lemmas.List.Elements.{All-nil, All-cons, All-weaker}
-use Rattle.std.proofs.lemmas.List.{take_more}
-use Rattle.std.proofs.lemmas.List.Sums.{sum_by-cons, sum_by-take-le, position_or_len_is}
-use Rattle.std.proofs.lemmas.Option.{slice_get_within, get_or_from_slice_get}
-use Rattle.dwarf_units.specs.Entries.{Die}
-use Rattle.dwarf_walk.specs.declared.unit_entries.RootEntry.{RootEntry}
-use Rattle.dwarf_walk.specs.declared.unit_entries.UnitEntries.{UnitEntries}
-use Rattle.dwarf_walk.specs.ScopeEntries.{is_scope}
-use Rattle.dwarf_walk.specs.Stored.{StoredUnit, root_in}
-use Rattle.dwarf_entries.specs.declared.scope.Root.{Root}
-use Rattle.dwarf_entries.specs.Units.{CompilationUnit}
-use Rattle.dwarf_entries.specs.Scopes.{root_of, roots_from, stmt_list_of, stmt_list_by_number}
-use Rattle.dwarf_entries.specs.Private.Passes.{number_of_scopes, first_number}
+use Rattle.dwarf_entries.proofs.Common
+use Common.{◌≡◌, ℕ, zero, suc, ◌+◌, ◌<◌, ◌≤◌, List, [], ◌∷◌, ◌++◌, length, take, get_or, refl, ap}
+use Common.{sym, ◌∙◌, arith, append_assoc, append-nil, Bool, Option, Some, None, All, count_by}
+use Common.{slice_get, nat_lt, IsNonDecreasingBy, IsPartitionPoint, All-nil, All-cons, All-weaker}
+use Common.{take_more, sum_by-cons, sum_by-take-le, slice_get_within, get_or_from_slice_get, Die}
+use Common.{UnitEntries, is_scope, StoredUnit, Root, CompilationUnit, root_of, roots_from}
+use Common.{stmt_list_of, number_of_scopes, first_number, ArePartsFrom, find_at}
+use Rattle.std.proofs.{lemmas.List.Sums.position_or_len_is, lemmas.Bool.{lt-ltb, le-ltb}}
+use Rattle.dwarf_walk.specs.{declared.unit_entries.RootEntry.RootEntry, Stored.root_in}
+use Rattle.dwarf_entries.specs.Scopes.{stmt_list_by_number}
 use Rattle.dwarf_entries.proofs.ScopePasses.SiteLaws.{sites-count, first-next}
-use Rattle.dwarf_entries.proofs.UnitPasses.RereadLaws.{sites-stored}
-use Rattle.dwarf_entries.proofs.UnitPasses.UnitLaws.{StoredFor}
-use Rattle.dwarf_entries.specs.TreeLaws.{ArePartsFrom}
+use Rattle.dwarf_entries.proofs.{UnitPasses.RereadLaws.sites-stored, UnitPasses.UnitLaws.StoredFor}
 use Rattle.std.specs.List.{find}
-use Rattle.std.proofs.lemmas.Bool.{lt-ltb, le-ltb}
-use Rattle.std.proofs.lemmas.List.Folds.{find_at}
 
 -- The root of a unit, if there is one.
 abbrev pub root_list : ℕ → ℕ → Option RootEntry → List Root

@@ -1,19 +1,11 @@
 -- The scope sites of units, by their numbers.
-use Rattle.std.specs.Prelude.{is_some}
-use Rattle.std.proofs.Common.{◌≡◌, ℕ, zero, suc, ◌+◌, ◌-◌, ◌<◌, ◌≤◌, ◌⊎◌, inl, inr, cond, List, []}
-use Rattle.std.proofs.Common.{◌∷◌, ◌++◌, length, take, drop, refl, ap, sym, ◌∙◌, arith}
-use Rattle.std.proofs.Common.{length-append}
-use Rattle.std.proofs.lemmas.List.{take_all}
-use Rattle.std.specs.Prelude.{Option, Some, None, count_by, slice_get}
-use Rattle.std.proofs.lemmas.Bool.{cases_lt}
-use Rattle.std.proofs.lemmas.List.Sums.{sum_by-cons, sum_by_more}
-use Rattle.std.proofs.lemmas.Option.{slice_get_within, get_or_from_slice_get}
-use Rattle.dwarf_units.specs.Entries.{Die, below}
-use Rattle.dwarf_walk.specs.declared.scope_kind.ScopeKind.{ScopeKind}
-use Rattle.dwarf_walk.specs.ScopeEntries.{kind_of, is_scope}
-use Rattle.dwarf_entries.specs.Units.{CompilationUnit}
-use Rattle.dwarf_entries.specs.Scopes.{ScopeSite, site_of, sites_in}
-use Rattle.dwarf_entries.specs.Private.Passes.{number_of_scopes, first_number, all_sites}
+use Rattle.dwarf_entries.proofs.Common
+use Common.{is_some, ◌≡◌, ℕ, zero, suc, ◌+◌, ◌-◌, ◌<◌, ◌≤◌, ◌⊎◌, inl, inr, cond, List, [], ◌∷◌}
+use Common.{◌++◌, length, take, drop, refl, ap, sym, ◌∙◌, arith, length-append, take_all, Option}
+use Common.{Some, None, count_by, slice_get, cases_lt, sum_by-cons, sum_by_more, slice_get_within}
+use Common.{get_or_from_slice_get, Die, below, ScopeKind, kind_of, is_scope, CompilationUnit}
+use Common.{ScopeSite, sites_in, number_of_scopes, first_number, all_sites}
+use Rattle.dwarf_entries.specs.Scopes.{site_of}
 use Rattle.dwarf_entries.proofs.UnitPasses.PassLaws.{element}
 
 -- ---- the sites of a unit

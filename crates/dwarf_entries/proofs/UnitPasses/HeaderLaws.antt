@@ -1,26 +1,17 @@
 -- The units of .debug_info are contiguous, and their headers have bounds.
-use Rattle.std.proofs.Common.{◌≡◌, ℕ, ◌+◌, ◌<◌, ◌≤◌, List, [], ◌∷◌, ◌++◌, length, take, subst}
-use Rattle.std.proofs.Common.{arith}
-use Rattle.std.specs.Prelude.{Ok, All, nat_le, ◌==◌, not, ok_or, filter, nat_lt}
-use Rattle.std.specs.List.{AllPairs}
-use Rattle.std.proofs.lemmas.List.Elements.{All-nil, All-cons, All-weaker, All-filter}
-use Rattle.std.proofs.lemmas.List.Kept.{AllPairs-cons, AllPairs-filter}
-use Rattle.dwarf_bytes.specs.declared.fault.Cause.TheVariants as causes
-use Rattle.dwarf_bytes.specs.declared.format.Format.{Format}
-use Rattle.dwarf_bytes.specs.Numbers.{u8_at, u16_at, initial_length_at, offset_at}
-use Rattle.dwarf_bytes.specs.Items.{Item, End, Lists, reading, items_from}
+use Rattle.dwarf_entries.proofs.Common
+use Common.{◌≡◌, ℕ, ◌+◌, ◌<◌, ◌≤◌, List, [], ◌∷◌, ◌++◌, length, arith, Ok, All, AllPairs, All-nil}
+use Common.{All-cons, All-weaker, AllPairs-cons, Format, Lists, bind_ok, same-ok, UnitHeader}
+use Common.{units_of, length-take}
+use Rattle.std.proofs.{Common.{not, filter}, lemmas.List.Elements.All-filter}
+use Rattle.std.proofs.lemmas.List.Kept.{AllPairs-filter}
+use Rattle.dwarf_bytes.specs.Items.{items_from}
 use Rattle.dwarf_bytes.proofs.Numbers.LengthLaws.{initial_length_at-moves}
-use Rattle.dwarf_bytes.proofs.Numbers.Advance.{after-bind, after-test, chosen, reading-ok, bind_ok}
-use Rattle.dwarf_bytes.proofs.Numbers.Advance.{refuse_if-ok}
 use Rattle.dwarf_bytes.proofs.Items.ItemLaws.{Lists-within}
-use Rattle.dwarf_bytes.proofs.Numbers.Moves.{same-ok, same-item}
-use Rattle.dwarf_units.specs.declared.unit_headers.UnitHeader.{UnitHeader}
-use Rattle.dwarf_units.specs.Units.{unit_type_of, is_read_type, is_read, header_in, unit_at}
-use Rattle.dwarf_units.specs.Units.{header_at, headers_of, units_of}
-use Rattle.dwarf_units.proofs.EntryMoves.{fixed-stays, offset-stays}
-use Rattle.dwarf_units.proofs.UnitLaws.{header_in-places, unit_at-moves}
+use Rattle.dwarf_units.specs.Units.{is_read, header_in, unit_at, header_at, headers_of}
+use Rattle.dwarf_units.proofs.{EntryMoves.{fixed-stays, offset-stays}, UnitLaws.header_in-places}
+use Rattle.dwarf_units.proofs.UnitLaws.{unit_at-moves}
 use Rattle.dwarf_entries.specs.TreeLaws.{AreContiguous}
-use Rattle.std.proofs.Common.{length-take}
 
 -- ---- the bounds of a unit
 

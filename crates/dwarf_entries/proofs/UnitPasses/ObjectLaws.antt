@@ -1,13 +1,10 @@
 -- What the program stores for the units of an object.
-use Rattle.std.proofs.Common.{◌≡◌, List}
+use Rattle.dwarf_entries.proofs.Common
+use Common.{◌≡◌, List, UnitEntries, NameCache, AreStored, IsCacheOf, ObjectUnits}
 use Rattle.dwarf_walk.specs.declared.entry_reader.EntryReader.{EntryReader}
-use Rattle.dwarf_walk.specs.declared.unit_entries.UnitEntries.{UnitEntries}
-use Rattle.dwarf_entries.specs.declared.name_cache.NameCache.{NameCache}
-use Rattle.dwarf_entries.specs.declared.units.Units.TheInside.{Inside}
 use Rattle.dwarf_walk.specs.Private.Rereading.{IsReaderOf}
-use Rattle.dwarf_entries.specs.Private.EntryOffsets.{AreStored}
-use Rattle.dwarf_entries.specs.Private.NameCache.{IsCacheOf}
-use Rattle.dwarf_entries.specs.Private.ObjectUnits.{ObjectUnits, AreUnitsOf}
+use Rattle.dwarf_entries.specs.declared.units.Units.TheInside.{Inside}
+use Rattle.dwarf_entries.specs.Private.ObjectUnits.{AreUnitsOf}
 
 -- The same for the object that contracts name.
 pub seen : {v w : ObjectUnits} {u : Inside} → AreUnitsOf v u → v ≡ w → AreUnitsOf w u

@@ -1,20 +1,15 @@
 -- A pass over a list, which stops at the first element that is refused.
-use Rattle.std.proofs.Common.{◌≡◌, ◌⊎◌, ℕ, zero, suc, ◌+◌, ◌<◌, ◌≤◌, List, [], ◌∷◌, ◌++◌, length}
-use Rattle.std.proofs.Common.{map, take, drop, get_or, refl, ap, sym, ◌∙◌, subst, arith}
-use Rattle.std.proofs.Common.{length-append, drop-cons}
-use Rattle.std.specs.Prelude.{Some, None, Result, Ok, Err, slice_get}
-use Rattle.std.proofs.lemmas.List.{take_more, take_all, take-append-drop}
-use Rattle.std.proofs.lemmas.Option.{slice_get_within, get_or_from_slice_get, slice_get_read}
-use Rattle.std.proofs.lemmas.Option.{slice_get_past}
-use Rattle.dwarf_bytes.specs.declared.fault.Cause.{Cause}
-use Rattle.dwarf_bytes.specs.declared.fault.Section.TheVariants as names
-use Rattle.dwarf_bytes.specs.declared.fault.LoadFault.{LoadFault}
-use Rattle.dwarf_bytes.specs.Bind.{◌>>=◌}
-use Rattle.dwarf_bytes.specs.Items.{At, each, each_from, with_offset}
-use Rattle.dwarf_bytes.specs.Refusals.{Fails, memory_fault, at_item, in_section}
-use Rattle.dwarf_bytes.proofs.Items.EachPlaces.{each-append, each-length, each-place}
-use Rattle.dwarf_entries.specs.Private.Passes.{PassedTo}
+use Rattle.dwarf_entries.proofs.Common
+use Common.{◌≡◌, ◌⊎◌, ℕ, zero, suc, ◌+◌, ◌<◌, ◌≤◌, List, [], ◌∷◌, ◌++◌, length, map, take, drop}
+use Common.{get_or, refl, ap, sym, ◌∙◌, arith, length-append, Some, None, Result, Ok, Err}
+use Common.{slice_get, take_more, take_all, slice_get_within, get_or_from_slice_get, slice_get_read}
+use Common.{Cause, LoadFault, ◌>>=◌, At, each_from, with_offset, Fails, memory_fault, at_item}
+use Common.{in_section, each-length, PassedTo}
+use Rattle.std.proofs.{Common.drop-cons, lemmas.List.take-append-drop, lemmas.Option.slice_get_past}
+use Rattle.dwarf_bytes.specs.Items.{each}
+use Rattle.dwarf_bytes.proofs.Items.EachPlaces.{each-append, each-place}
 use Rattle.std.specs.Result.{IsErrAnd}
+use Rattle.dwarf_bytes.specs.declared.fault.Section.TheVariants as names
 
 -- ---- elements by index
 

@@ -1,43 +1,26 @@
 -- Re-reading the entries of a unit at their offsets, and the scope sites of a unit from its stored
 -- data.
-use Rattle.std.proofs.Common.{◌≡◌, ℕ, ◌≤◌, List, length, take, true, refl, ap, sym, ◌∙◌, arith}
-use Rattle.std.proofs.Common.{subst, [], ◌∷◌, get_or, map}
-use Rattle.std.specs.Prelude.{Some, Result, Ok, slice_get}
+use Rattle.dwarf_entries.proofs.Common
+use Common.{◌≡◌, ℕ, ◌≤◌, List, length, take, true, refl, ap, sym, ◌∙◌, arith, subst, [], ◌∷◌}
+use Common.{get_or, map, Some, Result, Ok, slice_get, Cause, Format, Declaration, UnitHeader, Die}
+use Common.{ScopeKind, Sections, UnitPlace, CompilationUnit, Member, UnitEntries, AreStored}
+use Common.{stored_unit_of, IsPlaceOf, kind_of, StoredUnit, named_entry, scope_entry, stored_of}
+use Common.{length-map, slice_get_within, get_or_from_slice_get, ScopeSite, sites_in}
 use Rattle.dwarf_bytes.specs.declared.constants.TheConstants.{DW_AT_CALL_FILE, DW_AT_CALL_LINE}
 use Rattle.dwarf_bytes.specs.declared.constants.TheConstants.{DW_AT_HIGH_PC, DW_AT_LOW_PC}
 use Rattle.dwarf_bytes.specs.declared.constants.TheConstants.{DW_AT_RANGES}
-use Rattle.dwarf_bytes.specs.declared.fault.Cause.{Cause}
-use Rattle.dwarf_bytes.specs.declared.format.Format.{Format}
-use Rattle.dwarf_bytes.specs.Items.{reading}
-use Rattle.dwarf_bytes.specs.Numbers.{uleb_at}
-use Rattle.dwarf_bytes.proofs.Numbers.Advance.{after-bind}
 use Rattle.dwarf_bytes.proofs.Numbers.Moves.{uleb-moves}
-use Rattle.dwarf_forms.specs.Declarations.{Declaration}
-use Rattle.dwarf_units.specs.declared.attributes.Attribute.{Attribute}
-use Rattle.dwarf_units.specs.declared.unit_headers.UnitHeader.{UnitHeader}
-use Rattle.dwarf_units.specs.Entries.{Die, entry_at}
+use Rattle.dwarf_units.specs.{declared.attributes.Attribute.Attribute, Entries.entry_at}
 use Rattle.dwarf_units.specs.Private.StoredAttributes.{stored_attributes}
-use Rattle.dwarf_walk.specs.declared.scope_kind.ScopeKind.{ScopeKind}
-use Rattle.dwarf_walk.specs.Sections.{Sections}
-use Rattle.dwarf_entries.specs.declared.references.UnitPlace.{UnitPlace}
-use Rattle.dwarf_entries.specs.Units.{CompilationUnit}
-use Rattle.dwarf_entries.specs.Names.{Member}
-use Rattle.dwarf_walk.specs.declared.unit_entries.UnitEntries.{UnitEntries}
-use Rattle.dwarf_entries.specs.Private.EntryOffsets.{AreStored, stored_unit_of}
-use Rattle.dwarf_entries.specs.Private.Members.{IsPlaceOf}
 use Rattle.dwarf_entries.proofs.UnitPasses.UnitLaws.{stored-index, IsUnitIn, AreUnitsIn}
-use Rattle.dwarf_walk.specs.ScopeEntries.{kind_of}
-use Rattle.dwarf_walk.specs.Stored.{StoredUnit, named_entry, scope_entry, stored_of, scope_places}
-use Rattle.dwarf_walk.specs.Private.Rereading.{scope_entry_at}
-use Rattle.dwarf_units.proofs.RereadLaws.{entries-again}
+use Rattle.dwarf_entries.proofs.ScopePasses.SiteLaws.{site-in}
+use Rattle.dwarf_walk.specs.{Stored.scope_places, Private.Rereading.scope_entry_at}
 use Rattle.dwarf_walk.specs.Private.Named.{used_at, named_entry_at}
+use Rattle.dwarf_walk.specs.declared.unit_entries.ScopePlace.{ScopePlace}
+use Rattle.dwarf_units.proofs.RereadLaws.{entries-again}
 use Rattle.dwarf_walk.proofs.StoredNodes.{value-stored, stored_die, names_at-stored}
 use Rattle.dwarf_walk.proofs.RereadLaws.{without_place, inside-is}
-use Rattle.std.proofs.lemmas.List.{get_or-map, length-map}
-use Rattle.std.proofs.lemmas.Option.{slice_get_within, get_or_from_slice_get}
-use Rattle.dwarf_walk.specs.declared.unit_entries.ScopePlace.{ScopePlace}
-use Rattle.dwarf_entries.specs.Scopes.{ScopeSite, sites_in}
-use Rattle.dwarf_entries.proofs.ScopePasses.SiteLaws.{site-in}
+use Rattle.std.proofs.lemmas.List.{get_or-map}
 
 -- ---- the used attributes
 

@@ -1,41 +1,20 @@
 -- The units of an object, as they were read from its sections, and what is stored for them.
-use Rattle.std.proofs.Common.{◌≡◌, ℕ, zero, suc, ◌<◌, ◌≤◌, List, [], ◌∷◌, length, map, false, Bool}
-use Rattle.std.proofs.Common.{◌==◌, ◌||◌, refl, ap, sym, ◌∙◌, subst, arith, subst₂, get_or, ◌+◌}
-use Rattle.std.proofs.Common.{◌++◌}
-use Rattle.std.specs.Prelude.{Some, Result, Ok, Err, zip, slice_get, flat_map, Option, None}
-use Rattle.std.specs.Prelude.{option_map}
-use Rattle.std.specs.List.{list_any}
-use Rattle.std.proofs.lemmas.Option.{slice_get_within, get_or_from_slice_get, slice_get-map}
-use Rattle.std.proofs.lemmas.Option.{slice_get_read, same_Some}
-use Rattle.dwarf_bytes.specs.declared.fault.Section.TheVariants as names
-use Rattle.dwarf_bytes.specs.declared.fault.LoadFault.{LoadFault}
-use Rattle.dwarf_bytes.specs.Refusals.{in_section}
-use Rattle.dwarf_bytes.proofs.Numbers.Advance.{bind_ok, after-bind}
-use Rattle.dwarf_bytes.proofs.Numbers.Moves.{same-ok}
-use Rattle.dwarf_forms.specs.Declarations.{Declaration}
-use Rattle.dwarf_forms.specs.Tables.{declarations_of}
-use Rattle.dwarf_units.specs.declared.unit_headers.UnitHeader.{UnitHeader}
-use Rattle.dwarf_units.specs.Units.{declarations_limit, units_of, tables_of}
-use Rattle.dwarf_units.specs.Entries.{Die, entries_of}
-use Rattle.dwarf_units.specs.Private.Rising.{RiseWithin}
+use Rattle.dwarf_entries.proofs.Common
+use Common.{◌≡◌, ℕ, zero, suc, ◌<◌, ◌≤◌, List, [], ◌∷◌, length, map, false, Bool, ◌==◌, ◌||◌, refl}
+use Common.{ap, sym, ◌∙◌, arith, get_or, ◌+◌, ◌++◌, Some, Result, Ok, Err, zip, slice_get, list_any}
+use Common.{slice_get_within, get_or_from_slice_get, slice_get-map, slice_get_read, LoadFault}
+use Common.{in_section, bind_ok, same-ok, Declaration, declarations_of, UnitHeader}
+use Common.{declarations_limit, units_of, tables_of, Die, entries_of, RiseWithin, table_is}
+use Common.{in_section-ok, EntryBitmap, has_entry, AddsOffsets, offsets_of, Sections}
+use Common.{CompilationUnit, with_bases, unit_of, units_read, IsBitmapOf, all_offsets, dies_of}
+use Common.{AreStored, stored_unit_of, ObjectUnits, all_entries, all_bases, length-map, UnitEntries}
+use Common.{stored_of, each_from}
+use Rattle.std.proofs.Common.{subst₂, flat_map}
 use Rattle.dwarf_units.proofs.EntryOrder.{entries-rise}
-use Rattle.dwarf_units.proofs.TableLaws.{table_is, in_section-ok}
-use Rattle.dwarf_walk.specs.declared.entry_bitmap.EntryBitmap.{EntryBitmap}
-use Rattle.dwarf_walk.specs.EntryBitmap.{has_entry, AddsOffsets, offsets_of}
-use Rattle.dwarf_walk.specs.Sections.{Sections}
-use Rattle.dwarf_entries.specs.Units.{CompilationUnit, with_bases, unit_of, units_read}
-use Rattle.dwarf_entries.specs.Units.{bases_of_first}
-use Rattle.dwarf_ranges.specs.Bases.{no_bases}
-use Rattle.dwarf_entries.specs.Private.EntryOffsets.{IsBitmapOf, all_offsets, dies_of, AreStored}
-use Rattle.dwarf_entries.specs.Private.EntryOffsets.{stored_unit_of}
-use Rattle.dwarf_entries.specs.Private.ObjectUnits.{ObjectUnits, units_or_none, units_of_object}
-use Rattle.dwarf_entries.specs.Private.Passes.{all_entries, all_bases}
+use Rattle.dwarf_entries.specs.Private.ObjectUnits.{units_or_none, units_of_object}
 use Rattle.dwarf_entries.proofs.UnitPasses.HeaderLaws.{HasBounds, headers-in}
 use Rattle.dwarf_entries.proofs.UnitPasses.PassLaws.{each-at, from-map}
-use Rattle.std.proofs.lemmas.List.{length-map}
-use Rattle.dwarf_walk.specs.declared.unit_entries.UnitEntries.{UnitEntries}
-use Rattle.dwarf_walk.specs.Stored.{stored_of}
-use Rattle.dwarf_bytes.specs.Items.{each_from}
+use Rattle.dwarf_bytes.specs.declared.fault.Section.TheVariants as names
 
 -- ---- the headers and the entries of units, which their bases do not change
 

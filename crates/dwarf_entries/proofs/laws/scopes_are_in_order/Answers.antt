@@ -1,4 +1,5 @@
-use Rattle.dwarf_entries.proofs.Results.ScopePlaces.{scopes-in-order}
+use Rattle.dwarf_entries.proofs
+use proofs.{scopes-in-order}
 use Rattle.dwarf_entries.proofs.laws.scopes_are_in_order.Goals as goal
 
 pub returns : goal.returns

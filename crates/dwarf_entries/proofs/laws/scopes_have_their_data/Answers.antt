@@ -1,4 +1,5 @@
-use Rattle.dwarf_entries.proofs.ScopePasses.DataLaws.{data-of}
+use Rattle.dwarf_entries.proofs
+use proofs.{data-of}
 use Rattle.dwarf_entries.proofs.laws.scopes_have_their_data.Goals as goal
 
 pub returns : goal.returns

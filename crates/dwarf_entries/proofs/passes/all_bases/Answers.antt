@@ -1,25 +1,11 @@
-use Rattle.std.proofs.Common.{arith}
-use Rattle.std.proofs.Common.{◌≡◌, ℕ, ◌+◌, List, [], ◌∷◌, ◌++◌, refl, ap, sym, ◌∙◌}
-use Rattle.std.specs.Prelude.{Ok}
-use Rattle.std.proofs.lemmas.List.{map_push}
-use Rattle.dwarf_bytes.specs.declared.fault.Section.TheVariants as names
-use Rattle.dwarf_bytes.specs.declared.fault.LoadFault.{LoadFault}
-use Rattle.dwarf_bytes.specs.declared.format.Format.{Format}
-use Rattle.dwarf_bytes.specs.Refusals.{in_section}
-use Rattle.dwarf_units.specs.Entries.{Die}
-use Rattle.dwarf_units.proofs.TableLaws.{in_section-ok}
-use Rattle.dwarf_walk.specs.declared.unit_entries.UnitEntries.{UnitEntries}
-use Rattle.dwarf_walk.specs.Sections.{Sections}
-use Rattle.dwarf_walk.specs.Stored.{StoredUnit, root_in, stored_of}
-use Rattle.dwarf_ranges.specs.declared.bases.Bases.{Bases}
-use Rattle.dwarf_entries.specs.Units.{CompilationUnit, bases_of_first}
-use Rattle.dwarf_entries.specs.Private.EntryOffsets.{stored_unit_of}
-use Rattle.dwarf_entries.specs.Private.Passes.{bases_in, bases_of, all_bases}
-use Rattle.dwarf_entries.proofs.UnitPasses.PassLaws.{Faults, first-fault, pass-next, pass-fault}
-use Rattle.dwarf_entries.proofs.UnitPasses.PassLaws.{pass-none, exit}
-use Rattle.dwarf_entries.proofs.UnitPasses.UnitLaws.{StoredFor, stored-at}
+use Rattle.dwarf_entries.proofs
+use proofs.{arith, ◌≡◌, ℕ, ◌+◌, List, [], ◌∷◌, ◌++◌, refl, ap, sym, ◌∙◌, Ok, map_push, LoadFault}
+use proofs.{in_section, in_section-ok, UnitEntries, Sections, StoredUnit, stored_of, Bases}
+use proofs.{CompilationUnit, stored_unit_of, bases_of, all_bases, slice_get_read, Faults}
+use proofs.{first-fault, pass-next, pass-fault, pass-none, exit, StoredFor, stored-at}
+use Rattle.dwarf_entries.specs.{Units.bases_of_first, Private.Passes.bases_in}
 use Rattle.dwarf_entries.proofs.passes.all_bases.Invariants.{BasesSoFar}
-use Rattle.std.proofs.lemmas.Option.{slice_get_read}
+use Rattle.dwarf_bytes.specs.declared.fault.Section.TheVariants as names
 use Rattle.dwarf_entries.proofs.passes.all_bases.Goals as goal
 
 bases-same : (s : Sections) (u : CompilationUnit) (unit : UnitEntries)

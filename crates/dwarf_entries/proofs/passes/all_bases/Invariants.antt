@@ -1,10 +1,7 @@
-use Rattle.std.proofs.Common.{List, ◌≡◌, ℕ, map}
-use Rattle.dwarf_walk.specs.Sections.{sections_of, Sections}
-use Rattle.dwarf_entries.specs.Units.{CompilationUnit, with_bases}
-use Rattle.dwarf_entries.specs.Private.EntryOffsets.{AreStored}
+use Rattle.dwarf_entries.proofs
+use proofs.{List, ◌≡◌, ℕ, map, sections_of, Sections, CompilationUnit, with_bases, AreStored, Bases}
+use proofs.{PassedTo, bases_of}
 use Rattle.dwarf_entries.proofs.passes.all_bases.Given as goal
-use Rattle.dwarf_ranges.specs.declared.bases.Bases.{Bases}
-use Rattle.dwarf_entries.specs.Private.Passes.{PassedTo, bases_of}
 
 -- The units before the index, and the bases that their roots define.
 pub record BasesSoFar (s : Sections) (us : List CompilationUnit) (index : ℕ) (all : List Bases)

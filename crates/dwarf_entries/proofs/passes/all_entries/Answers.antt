@@ -1,35 +1,20 @@
-use Rattle.std.proofs.Common.{◌≡◌, ◌⊎◌, ℕ, ◌+◌, ◌<◌, ◌≤◌, List, [], ◌∷◌, ◌++◌, length, map, get_or}
-use Rattle.std.proofs.Common.{refl, sym, ◌∙◌, arith, append-nil, zero, suc, ap, inl}
-use Rattle.std.specs.Prelude.{Some, Ok, Err, zip, slice_get, Result}
-use Rattle.std.proofs.lemmas.List.{map_push}
-use Rattle.std.proofs.lemmas.List.Concat.{flat_map-append}
-use Rattle.std.proofs.lemmas.Option.{slice_get-get_or, same_Some, slice_get_within}
-use Rattle.std.proofs.lemmas.Slice.Zip.{length-zip, get_or-zip}
-use Rattle.dwarf_bytes.specs.declared.fault.Section.TheVariants as names
-use Rattle.dwarf_bytes.specs.declared.fault.LoadFault.{LoadFault}
-use Rattle.dwarf_bytes.specs.Items.{At}
-use Rattle.dwarf_bytes.specs.Refusals.{memory_fault, in_section}
-use Rattle.dwarf_bytes.proofs.Items.EachPlaces.{each-length}
-use Rattle.dwarf_bytes.proofs.Numbers.Moves.{same-ok}
-use Rattle.dwarf_forms.specs.Declarations.{Declaration}
-use Rattle.dwarf_forms.specs.Tables.{declarations_of}
-use Rattle.dwarf_units.specs.declared.unit_headers.UnitHeader.{UnitHeader}
-use Rattle.dwarf_units.specs.Units.{declarations_limit, tables_of}
-use Rattle.dwarf_units.specs.Entries.{Die, entries_of}
-use Rattle.dwarf_units.proofs.TableLaws.{table_for, table_is, in_section-ok}
-use Rattle.dwarf_walk.specs.declared.unit_entries.UnitEntries.{UnitEntries}
-use Rattle.dwarf_walk.specs.declared.entry_bitmap.EntryBitmap.{EntryBitmap}
-use Rattle.dwarf_walk.specs.EntryBitmap.{AddsOffsets, offsets_of}
-use Rattle.dwarf_walk.specs.Stored.{stored_unit, stored_entries, stored_of}
+use Rattle.dwarf_entries.proofs
+use proofs.{◌≡◌, ◌⊎◌, ℕ, ◌+◌, ◌<◌, ◌≤◌, List, [], ◌∷◌, ◌++◌, length, map, get_or, refl, sym, ◌∙◌}
+use proofs.{arith, append-nil, ap, inl, Some, Ok, Err, zip, slice_get, Result, map_push}
+use proofs.{slice_get-get_or, same_Some, slice_get_within, LoadFault, At, memory_fault, in_section}
+use proofs.{each-length, same-ok, Declaration, declarations_of, UnitHeader, declarations_limit}
+use proofs.{tables_of, Die, entries_of, table_is, in_section-ok, UnitEntries, EntryBitmap}
+use proofs.{AddsOffsets, offsets_of, stored_unit, stored_of, CompilationUnit, stored_unit_of}
+use proofs.{all_offsets, dies_of, all_entries, ◌>>=◌, Faults, after-done, pass-none, pass-next}
+use proofs.{pass-end, pass-fault, done, exit}
+use Rattle.std.proofs.{lemmas.List.Concat.flat_map-append, lemmas.Slice.Zip.length-zip}
+use Rattle.std.proofs.lemmas.Slice.Zip.{get_or-zip}
+use Rattle.dwarf_units.proofs.TableLaws.{table_for}
+use Rattle.dwarf_walk.specs.Stored.{stored_entries}
 use Rattle.dwarf_walk.proofs.BitmapLaws.{adds-none, adds-more}
-use Rattle.dwarf_entries.specs.Units.{CompilationUnit}
 use Rattle.dwarf_ranges.specs.Bases.{no_bases}
-use Rattle.dwarf_entries.specs.Private.EntryOffsets.{stored_unit_of, all_offsets, dies_of}
-use Rattle.dwarf_entries.specs.Private.Passes.{all_entries}
-use Rattle.dwarf_entries.proofs.UnitPasses.PassLaws.{Faults, after-done, pass-none, pass-next}
-use Rattle.dwarf_entries.proofs.UnitPasses.PassLaws.{pass-end, pass-fault, done, exit}
-use Rattle.dwarf_bytes.specs.Bind.{◌>>=◌}
 use Rattle.dwarf_entries.proofs.passes.all_entries.Invariants.{EntriesSoFar}
+use Rattle.dwarf_bytes.specs.declared.fault.Section.TheVariants as names
 use Rattle.dwarf_entries.proofs.passes.all_entries.Goals as goal
 
 entries-none : {info : List ℕ} {headers : List UnitHeader} {tables : List (List Declaration)}

@@ -1,15 +1,7 @@
-use Rattle.std.proofs.Common.{◌≡◌, List, Ok, ℕ}
-use Rattle.dwarf_forms.specs.Declarations.{Declaration}
-use Rattle.dwarf_units.specs.Units.{tables_of}
+use Rattle.dwarf_entries.proofs
+use proofs.{◌≡◌, List, Ok, ℕ, Declaration, tables_of, zip, UnitHeader, UnitEntries, EntryBitmap}
+use proofs.{AddsOffsets, CompilationUnit, unit_of, AreStored, all_offsets, PassedTo}
 use Rattle.dwarf_entries.proofs.passes.all_entries.Given as goal
-use Rattle.std.specs.Prelude.{Ok, zip}
-use Rattle.dwarf_units.specs.declared.unit_headers.UnitHeader.{UnitHeader}
-use Rattle.dwarf_walk.specs.declared.unit_entries.UnitEntries.{UnitEntries}
-use Rattle.dwarf_walk.specs.declared.entry_bitmap.EntryBitmap.{EntryBitmap}
-use Rattle.dwarf_walk.specs.EntryBitmap.{AddsOffsets}
-use Rattle.dwarf_entries.specs.Units.{CompilationUnit, unit_of}
-use Rattle.dwarf_entries.specs.Private.EntryOffsets.{AreStored, all_offsets}
-use Rattle.dwarf_entries.specs.Private.Passes.{PassedTo}
 
 -- The units before the index, the data that is stored for them, and the bits of their entries.
 pub record EntriesSoFar (info : List ℕ) (headers : List UnitHeader)

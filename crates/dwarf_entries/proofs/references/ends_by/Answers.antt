@@ -1,8 +1,6 @@
-use Rattle.std.proofs.Common.{rules}
-use Rattle.std.specs.Prelude.{nat_le}
-use Rattle.std.proofs.lemmas.Bool.{leb-true, leb-false}
-use Rattle.std.proofs.lemmas.List.Sorted.{IsPartitionedBy-leb, IsPartitionPoint-from_clause}
-use Rattle.dwarf_walk.specs.declared.unit_entries.UnitEntries.{UnitEntries}
+use Rattle.dwarf_entries.proofs
+use proofs.{rules, nat_le, leb-true, leb-false, IsPartitionedBy-leb, IsPartitionPoint-from_clause}
+use proofs.{UnitEntries}
 use Rattle.dwarf_entries.proofs.references.ends_by.Goals as goal
 
 pub returns-clause-parts : goal.returns-clause-parts

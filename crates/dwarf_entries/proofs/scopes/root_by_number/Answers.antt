@@ -1,9 +1,6 @@
-use Rattle.std.proofs.Common.{rules}
-use Rattle.std.specs.Prelude.{nat_le}
-use Rattle.std.proofs.lemmas.Bool.{leb-true, leb-false}
-use Rattle.std.proofs.lemmas.List.Sorted.{IsPartitionedBy-leb, IsPartitionPoint-from_clause}
-use Rattle.dwarf_entries.specs.declared.scope.Root.{Root}
-use Rattle.dwarf_entries.proofs.ScopePasses.RootsPass.{by_partition}
+use Rattle.dwarf_entries.proofs
+use proofs.{rules, nat_le, leb-true, leb-false, IsPartitionedBy-leb, IsPartitionPoint-from_clause}
+use proofs.{Root, by_partition}
 use Rattle.dwarf_entries.proofs.scopes.root_by_number.Goals as goal
 
 pub returns : goal.returns

@@ -1,18 +1,8 @@
-use Rattle.std.proofs.Common.{◌≡◌, ◌↔◌, ℕ, suc, ◌+◌, ◌<◌, List, take, drop, refl, ap, sym, ◌∙◌}
-use Rattle.std.proofs.Common.{arith}
-use Rattle.std.specs.Prelude.{Ok, Contains, count_by}
-use Rattle.std.proofs.lemmas.Option.{same_Some}
-use Rattle.dwarf_units.specs.Entries.{IsBelow}
-use Rattle.dwarf_walk.specs.ScopeEntries.{is_scope}
-use Rattle.dwarf_walk.specs.Sections.{Sections}
-use Rattle.dwarf_entries.specs.Units.{CompilationUnit}
-use Rattle.dwarf_entries.specs.Scopes.{Scope, ScopeSite, ParsedScope}
-use Rattle.dwarf_entries.specs.Private.Passes.{first_number, all_scopes}
-use Rattle.dwarf_entries.specs.TreeLaws.{IsEntry}
-use Rattle.dwarf_entries.proofs.Results.SiteOrder.{sites-rise, sites-below}
-use Rattle.dwarf_entries.proofs.Results.TreeParts.{with-units, scope-at, contained, scopes_in}
-use Rattle.dwarf_entries.proofs.ScopePasses.SiteLaws.{IsSiteAt, site_at, site-of-entry}
-use Rattle.dwarf_entries.proofs.UnitPasses.UnitLaws.{AreUnitsIn, units-in}
+use Rattle.dwarf_entries.proofs
+use proofs.{◌≡◌, ◌↔◌, ℕ, suc, ◌+◌, ◌<◌, List, take, drop, refl, ap, sym, ◌∙◌, arith, Ok, Contains}
+use proofs.{count_by, same_Some, IsBelow, is_scope, Sections, CompilationUnit, Scope, ScopeSite}
+use proofs.{ParsedScope, first_number, all_scopes, IsEntry, sites-rise, sites-below, with-units}
+use proofs.{scope-at, contained, scopes_in, IsSiteAt, site_at, site-of-entry, AreUnitsIn, units-in}
 use Rattle.dwarf_entries.proofs.tree_laws.ends_follow_descendants.Goals as goal
 
 -- The site of an entry.

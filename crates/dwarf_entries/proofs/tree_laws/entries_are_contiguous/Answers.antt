@@ -1,20 +1,14 @@
-use Rattle.std.proofs.Common.{◌≡◌, ℕ, ◌+◌, ◌≤◌, List, [], ◌∷◌, ◌++◌, length, take, ◌∙◌, subst}
-use Rattle.std.proofs.Common.{arith, length-take}
-use Rattle.std.specs.Prelude.{Ok, nat_le}
-use Rattle.std.specs.List.{filter_map, list_any}
-use Rattle.std.proofs.lemmas.Bool.{leb-true}
-use Rattle.std.proofs.lemmas.List.Elements.{All-contains}
-use Rattle.dwarf_bytes.specs.declared.format.Format.{Format}
-use Rattle.dwarf_bytes.specs.Items.{End, Lists}
-use Rattle.dwarf_bytes.proofs.Numbers.Advance.{after-bind, chosen}
+use Rattle.dwarf_entries.proofs
+use proofs.{◌≡◌, ℕ, ◌+◌, ◌≤◌, List, [], ◌∷◌, ◌++◌, length, take, ◌∙◌, subst, arith, length-take, Ok}
+use proofs.{nat_le, list_any, leb-true, All-contains, Format, Lists, after-bind, chosen}
+use proofs.{Declaration, HasBounds, headers-in}
+use Rattle.std.specs.List.{filter_map}
+use Rattle.dwarf_bytes.specs.Items.{End}
 use Rattle.dwarf_bytes.proofs.Numbers.Moves.{same-end}
-use Rattle.dwarf_forms.specs.Declarations.{Declaration}
 use Rattle.dwarf_units.specs.Entries.{LocatedNode, is_root, depth_after, node_at_depth, node_at}
 use Rattle.dwarf_units.specs.Entries.{die_of}
-use Rattle.dwarf_units.proofs.NodeLaws.{node_at-facts}
-use Rattle.dwarf_units.proofs.EntryOrder.{list-in}
+use Rattle.dwarf_units.proofs.{NodeLaws.node_at-facts, EntryOrder.list-in}
 use Rattle.dwarf_entries.specs.TreeLaws.{FillsUnit}
-use Rattle.dwarf_entries.proofs.UnitPasses.HeaderLaws.{HasBounds, headers-in}
 use Rattle.dwarf_entries.proofs.tree_laws.entries_are_contiguous.Goals as goal
 
 -- The last node ends where the unit ends.

@@ -1,29 +1,18 @@
-use Rattle.dwarf_bytes.proofs.Numbers.Advance.{bind_ok}
-use Rattle.std.proofs.Common.{◌≡◌, ℕ, ◌+◌, List, length, refl, subst, arith}
-use Rattle.std.specs.Prelude.{Option, Some, None, Ok, IfSome, All, ◌==◌}
-use Rattle.dwarf_bytes.specs.declared.constants.TheConstants.{DW_AT_LINKAGE_NAME, DW_AT_NAME}
+use Rattle.dwarf_entries.proofs
+use proofs.{bind_ok, ◌≡◌, ℕ, ◌+◌, List, length, refl, arith, Option, Some, None, Ok, All, ◌==◌}
+use proofs.{DW_AT_LINKAGE_NAME, DW_AT_NAME, after-bind, chosen, same-ok, AttributeValue, EntryNames}
+use proofs.{TextOffset, Sections, CompilationUnit, Member, chain_within, first_on, name_on}
+use proofs.{names_of, references_limit, Scope, Tree, tree_of, after-tree, all-are, parsed-at}
+use Rattle.std.proofs.Common.{IfSome}
 use Rattle.dwarf_bytes.specs.declared.constants.TheConstants.{DW_FORM_LINE_STRP, DW_FORM_STRING}
 use Rattle.dwarf_bytes.specs.declared.constants.TheConstants.{DW_FORM_STRP}
 use Rattle.dwarf_bytes.specs.declared.fault.Section.{Section}
-use Rattle.dwarf_bytes.specs.declared.fault.Section.TheVariants as sections
-use Rattle.dwarf_bytes.specs.declared.tables.TableKind.TheVariants.{StrOffsets}
-use Rattle.dwarf_bytes.specs.Items.{reading}
+use Rattle.dwarf_bytes.specs.{declared.tables.TableKind.TheVariants.StrOffsets, Items.reading}
 use Rattle.dwarf_bytes.specs.Numbers.{cstr_at, text_at}
-use Rattle.dwarf_bytes.proofs.Numbers.Advance.{after-bind, chosen, reading-ok}
-use Rattle.dwarf_bytes.proofs.Numbers.Moves.{same-ok}
-use Rattle.dwarf_bytes.proofs.Strings.StringLaws.{text-encoded}
-use Rattle.dwarf_units.specs.declared.attributes.AttributeValue.{AttributeValue}
-use Rattle.dwarf_ranges.specs.declared.bases.Table.{Table}
-use Rattle.dwarf_entries.specs.declared.origin_chains.EntryNames.{EntryNames}
-use Rattle.dwarf_entries.specs.declared.text_offset.TextOffset.{TextOffset}
-use Rattle.dwarf_walk.specs.Sections.{Sections}
-use Rattle.dwarf_entries.specs.Units.{CompilationUnit}
-use Rattle.dwarf_ranges.specs.Bases.{item_at, optional}
-use Rattle.dwarf_entries.specs.Names.{Member, chain_within, text_in, text_of, first_on, name_on}
-use Rattle.dwarf_entries.specs.Names.{names_of, references_limit}
-use Rattle.dwarf_entries.specs.Scopes.{Scope, Tree, ParsedScope, tree_of}
-use Rattle.dwarf_entries.specs.TreeLaws.{section_bytes, IsTextOf}
-use Rattle.dwarf_entries.proofs.Results.TreeParts.{after-tree, all-are, parsed-at}
+use Rattle.dwarf_bytes.proofs.{Numbers.Advance.reading-ok, Strings.StringLaws.text-encoded}
+use Rattle.dwarf_ranges.specs.{declared.bases.Table.Table, Bases.{item_at, optional}}
+use Rattle.dwarf_entries.specs.{Names.{text_in, text_of}, TreeLaws.{section_bytes, IsTextOf}}
+use Rattle.dwarf_bytes.specs.declared.fault.Section.TheVariants as sections
 use Rattle.dwarf_entries.proofs.tree_laws.names_are_strings.Goals as goal
 
 -- ---- a string that is found in a section

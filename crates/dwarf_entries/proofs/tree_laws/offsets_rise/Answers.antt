@@ -1,25 +1,12 @@
-use Rattle.std.proofs.Common.{◌≡◌, ℕ, suc, ◌+◌, ◌<◌, ◌≤◌, List, [], ◌∷◌, length, map, refl, ap}
-use Rattle.std.proofs.Common.{arith, get_or}
-use Rattle.std.specs.Prelude.{Some, All, slice_get, count_by}
-use Rattle.std.specs.List.{AllPairs}
+use Rattle.dwarf_entries.proofs
+use proofs.{◌≡◌, ℕ, suc, ◌+◌, ◌<◌, ◌≤◌, List, [], ◌∷◌, length, map, refl, ap, arith, get_or, Some}
+use proofs.{All, slice_get, AllPairs, All-nil, All-cons, All-weaker, All-map, AllPairs-cons}
+use proofs.{slice_get-get_or, get_or_from_slice_get, slice_get_within, Die, RiseWithin, Root}
+use proofs.{Sections, CompilationUnit, Scope, root_of, roots_from, within-le, sites-rise}
+use proofs.{site-within, after-tree, scope-at, scopes_in, AreUnitsIn, dies-rise, units-in}
+use proofs.{units-after, from-map}
 use Rattle.std.specs.List.Sorted.{IsStrictlyIncreasing}
-use Rattle.std.proofs.lemmas.List.Elements.{All-nil, All-cons, All-weaker, All-map}
-use Rattle.std.proofs.lemmas.List.Kept.{AllPairs-cons}
-use Rattle.std.proofs.lemmas.Option.{slice_get-get_or, get_or_from_slice_get, slice_get_within}
-use Rattle.dwarf_units.specs.Entries.{Die}
-use Rattle.dwarf_units.specs.Private.Rising.{RiseWithin}
-use Rattle.dwarf_entries.specs.declared.scope.Root.{Root}
-use Rattle.dwarf_walk.specs.ScopeEntries.{is_scope}
-use Rattle.dwarf_walk.specs.Sections.{Sections}
-use Rattle.dwarf_entries.specs.Units.{CompilationUnit}
-use Rattle.dwarf_entries.specs.Scopes.{Scope, root_of, roots_from}
 use Rattle.dwarf_entries.specs.TreeLaws.{RiseBelow}
-use Rattle.dwarf_entries.proofs.OriginChains.ReferenceLaws.{within-le}
-use Rattle.dwarf_entries.proofs.Results.SiteOrder.{sites-rise, site-within}
-use Rattle.dwarf_entries.proofs.Results.TreeParts.{after-tree, scope-at, scopes_in}
-use Rattle.dwarf_entries.proofs.UnitPasses.UnitLaws.{IsUnitIn, AreUnitsIn, dies-rise, units-in}
-use Rattle.dwarf_entries.proofs.UnitPasses.UnitLaws.{units-after}
-use Rattle.dwarf_entries.proofs.UnitPasses.PassLaws.{from-map}
 use Rattle.dwarf_entries.proofs.tree_laws.offsets_rise.Goals as goal
 
 increasing : {X : Type 0} (key : X → ℕ) (xs : List X) → ((i j : ℕ) (x y : X)

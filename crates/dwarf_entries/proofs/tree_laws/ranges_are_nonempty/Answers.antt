@@ -1,19 +1,11 @@
-use Rattle.std.proofs.Common.{◌≡◌, ℕ, zero, suc, ◌+◌, ◌-◌, ◌≤◌, List, length, take, ap, subst}
-use Rattle.std.proofs.Common.{arith, ◌<◌}
-use Rattle.std.specs.Prelude.{Some, Ok, All, sum_by, slice_get}
-use Rattle.std.proofs.lemmas.List.{take_all}
-use Rattle.std.proofs.lemmas.List.Folds.{fold-map}
-use Rattle.std.proofs.lemmas.List.Sums.{sum_by_more}
-use Rattle.std.proofs.lemmas.Option.{get_or_from_slice_get}
-use Rattle.dwarf_walk.specs.Sections.{Sections}
-use Rattle.dwarf_entries.specs.Units.{CompilationUnit}
-use Rattle.dwarf_entries.specs.Scopes.{Scope, ParsedScope, items_limit}
-use Rattle.dwarf_entries.specs.Private.Passes.{all_scopes}
+use Rattle.dwarf_entries.proofs
+use proofs.{◌≡◌, ℕ, zero, suc, ◌+◌, ◌-◌, ◌≤◌, List, length, take, ap, subst, arith, ◌<◌, Some, Ok}
+use proofs.{All, slice_get, take_all, sum_by_more, get_or_from_slice_get, Sections, CompilationUnit}
+use proofs.{Scope, ParsedScope, all_scopes, after-tree, all-are, parsed-at, element}
+use Rattle.std.proofs.{Common.sum_by, lemmas.List.Folds.fold-map}
+use Rattle.dwarf_entries.specs.Scopes.{items_limit}
 use Rattle.dwarf_ranges.specs.Ranges.{IsValidRange}
-use Rattle.dwarf_ranges.proofs.EntryLaws.{AllHold}
-use Rattle.dwarf_ranges.proofs.ScopeBudget.{Fits, covers-fits}
-use Rattle.dwarf_entries.proofs.Results.TreeParts.{after-tree, all-are, parsed-at}
-use Rattle.dwarf_entries.proofs.UnitPasses.PassLaws.{element}
+use Rattle.dwarf_ranges.proofs.{EntryLaws.AllHold, ScopeBudget.{Fits, covers-fits}}
 use Rattle.dwarf_entries.proofs.tree_laws.ranges_are_nonempty.Goals as goal
 
 -- The ranges of a scope are valid, and it took as many range items as the budget allows.

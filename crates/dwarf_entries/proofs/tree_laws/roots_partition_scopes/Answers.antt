@@ -1,26 +1,13 @@
-use Rattle.std.proofs.Common.{◌≡◌, ℕ, zero, suc, ◌+◌, ◌<◌, ◌≤◌, List, [], ◌∷◌, length, take, refl}
-use Rattle.std.proofs.Common.{subst, arith}
-use Rattle.std.specs.Prelude.{Some, All, Contains, slice_get, count_by}
-use Rattle.std.proofs.lemmas.List.{length-map}
-use Rattle.std.proofs.lemmas.List.Elements.{All-nil, All-cons, All-contains, All-weaker}
-use Rattle.std.proofs.lemmas.List.Sums.{sum_by-cons}
-use Rattle.dwarf_bytes.proofs.Items.EachPlaces.{each-length}
-use Rattle.dwarf_units.specs.Entries.{Die}
-use Rattle.dwarf_walk.specs.ScopeEntries.{is_scope}
-use Rattle.dwarf_walk.specs.Sections.{Sections}
-use Rattle.dwarf_entries.specs.declared.scope.Root.{Root}
-use Rattle.dwarf_entries.specs.Units.{CompilationUnit}
-use Rattle.dwarf_entries.specs.Scopes.{Scope, ParsedScope, stmt_list_of, root_of, roots_from}
-use Rattle.dwarf_entries.specs.Private.Passes.{first_number, parse_scope, all_sites}
-use Rattle.dwarf_entries.specs.Private.Passes.{number_of_scopes}
-use Rattle.dwarf_entries.specs.TreeLaws.{ArePartsFrom, IsOfUnit}
-use Rattle.dwarf_entries.proofs.Results.SiteOrder.{first-rises, before-later, rise-order}
-use Rattle.dwarf_entries.proofs.Results.TreeParts.{IsScopeAt, after-tree, scope-at, contained}
-use Rattle.dwarf_entries.proofs.Results.TreeParts.{scopes_in}
-use Rattle.dwarf_entries.proofs.ScopePasses.SiteLaws.{first-next, all-sites-count}
-use Rattle.dwarf_entries.proofs.UnitPasses.UnitLaws.{AreUnitsIn, dies-rise, units-in}
+use Rattle.dwarf_entries.proofs
+use proofs.{◌≡◌, ℕ, zero, suc, ◌+◌, ◌<◌, ◌≤◌, List, [], ◌∷◌, length, take, refl, arith, Some, All}
+use proofs.{Contains, slice_get, count_by, length-map, All-nil, All-cons, All-contains, All-weaker}
+use proofs.{sum_by-cons, each-length, Die, is_scope, Sections, Root, CompilationUnit, Scope}
+use proofs.{ParsedScope, stmt_list_of, root_of, roots_from, first_number, parse_scope, all_sites}
+use proofs.{number_of_scopes, ArePartsFrom, first-rises, before-later, rise-order, IsScopeAt}
+use proofs.{after-tree, scope-at, contained, scopes_in, first-next, all-sites-count, AreUnitsIn}
+use proofs.{dies-rise, units-in, roots-part}
+use Rattle.dwarf_entries.specs.TreeLaws.{IsOfUnit}
 use Rattle.dwarf_entries.proofs.tree_laws.roots_partition_scopes.Goals as goal
-use Rattle.dwarf_entries.proofs.ScopePasses.RootsPass.{roots-part}
 
 -- Each root belongs to a unit with entries.
 record IsRootOf (us : List CompilationUnit) (number : ℕ) (root : Root) : Type 0 where

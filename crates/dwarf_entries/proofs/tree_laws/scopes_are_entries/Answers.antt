@@ -1,20 +1,11 @@
-use Rattle.std.proofs.Common.{◌≡◌, ℕ, suc, ◌+◌, true, List, [], drop, take, refl, ap, arith, sym}
-use Rattle.std.proofs.Common.{◌∙◌}
-use Rattle.std.specs.Prelude.{Option, Some, None, Ok, Contains, is_some, count_by}
-use Rattle.std.proofs.lemmas.Option.{slice_get_within, get_or_from_slice_get}
-use Rattle.dwarf_bytes.proofs.Items.EachPlaces.{each-length}
-use Rattle.dwarf_walk.specs.declared.scope_kind.ScopeKind.{ScopeKind}
-use Rattle.dwarf_walk.specs.ScopeEntries.{kind_of, is_scope}
-use Rattle.dwarf_entries.specs.Units.{CompilationUnit, units_read}
-use Rattle.dwarf_entries.specs.Scopes.{Scope, ScopeSite, ParsedScope, roots_from}
-use Rattle.dwarf_entries.specs.Private.Passes.{first_number, all_sites, parse_scope, all_scopes}
-use Rattle.dwarf_entries.specs.TreeLaws.{IsEntry}
-use Rattle.dwarf_entries.proofs.Results.TreeParts.{after-tree, with-units, scope-at, contained}
-use Rattle.dwarf_entries.proofs.Results.TreeParts.{scopes_in}
-use Rattle.dwarf_entries.proofs.ScopePasses.SiteLaws.{site_at, site-of-entry}
-use Rattle.dwarf_entries.proofs.UnitPasses.PassLaws.{element}
+use Rattle.dwarf_entries.proofs
+use proofs.{◌≡◌, ℕ, suc, ◌+◌, true, List, [], drop, take, refl, ap, arith, sym, ◌∙◌, Option, Some}
+use proofs.{None, Ok, Contains, is_some, count_by, slice_get_within, get_or_from_slice_get}
+use proofs.{each-length, ScopeKind, kind_of, is_scope, CompilationUnit, units_read, Scope}
+use proofs.{ScopeSite, ParsedScope, roots_from, first_number, all_sites, parse_scope, all_scopes}
+use proofs.{IsEntry, length-map, after-tree, with-units, scope-at, contained, scopes_in, site_at}
+use proofs.{site-of-entry, element}
 use Rattle.dwarf_entries.proofs.tree_laws.scopes_are_entries.Goals as goal
-use Rattle.std.proofs.lemmas.List.{length-map}
 
 pub returns-clause-units : goal.returns-clause-units
 returns-clause-units c s tree h = after-tree s tree h (λ tree. (units : List CompilationUnit)

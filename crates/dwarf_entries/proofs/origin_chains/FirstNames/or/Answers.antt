@@ -1,7 +1,5 @@
-use Rattle.std.proofs.Common.{ap}
-use Rattle.dwarf_bytes.specs.declared.constants.TheConstants.{DW_AT_LINKAGE_NAME, DW_AT_NAME}
-use Rattle.dwarf_walk.specs.declared.unit_entries.NamedEntry.{NamedEntry}
-use Rattle.dwarf_entries.proofs.OriginChains.ChainLaws.{first-more}
+use Rattle.dwarf_entries.proofs
+use proofs.{ap, DW_AT_LINKAGE_NAME, DW_AT_NAME, NamedEntry, first-more}
 use Rattle.dwarf_entries.proofs.origin_chains.FirstNames.or.Goals as goal
 
 pub returns : goal.returns

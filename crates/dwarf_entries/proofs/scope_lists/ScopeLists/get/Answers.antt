@@ -1,6 +1,5 @@
-use Rattle.std.proofs.Common.{refl}
-use Rattle.dwarf_entries.proofs.ScopePasses.PushedScopes.{scopes-at}
-use Rattle.dwarf_entries.proofs.UnitPasses.PassLaws.{found-at, not-at}
+use Rattle.dwarf_entries.proofs
+use proofs.{refl, scopes-at, found-at, not-at}
 use Rattle.dwarf_entries.proofs.scope_lists.ScopeLists.get.Goals as goal
 
 pub returns-in_err-scope : goal.returns-in_err-scope

@@ -1,12 +1,8 @@
-use Rattle.std.proofs.Common.{List, [], length, ap, arith, refl}
-use Rattle.std.proofs.lemmas.List.{length-map}
-use Rattle.dwarf_bytes.proofs.Items.EachPlaces.{each-length}
-use Rattle.dwarf_entries.specs.Scopes.{Scope, ParsedScope, roots_from, tree_of}
-use Rattle.dwarf_entries.specs.Private.Passes.{parse_scope, all_sites}
-use Rattle.dwarf_entries.proofs.ScopePasses.PushedScopes.{scopes-length}
-use Rattle.dwarf_entries.proofs.ScopePasses.SiteLaws.{all-sites-count}
+use Rattle.dwarf_entries.proofs
+use proofs.{List, [], length, ap, arith, refl, length-map, each-length, Scope, ParsedScope}
+use proofs.{roots_from, tree_of, parse_scope, all_sites, scopes-length, all-sites-count, exit}
+use proofs.{step-fault}
 use Rattle.dwarf_entries.proofs.scopes.Scopes.read.Goals as goal
-use Rattle.dwarf_entries.proofs.UnitPasses.PassLaws.{exit, step-fault}
 
 pub returns-in_err-units : goal.returns-in_err-units
 unfolding tree_of

@@ -1,9 +1,7 @@
-use Rattle.std.proofs.Common.{◌≡◌, ℕ, List, [], ◌∷◌, map, refl, ap}
-use Rattle.dwarf_entries.specs.declared.calls.CallSite.{CallSite}
-use Rattle.dwarf_ranges.specs.declared.range.Range.{Range}
-use Rattle.dwarf_entries.specs.declared.scope.Root.{Root}
+use Rattle.dwarf_entries.proofs
+use proofs.{◌≡◌, ℕ, List, [], ◌∷◌, map, refl, ap, CallSite, Range, Root, Own, own, own_of}
+use proofs.{scopes_from}
 use Rattle.dwarf_entries.specs.declared.scope.Scope.{Scope as StoredScope}
-use Rattle.dwarf_entries.specs.Scopes.{Own, own, own_of, scopes_from}
 use Rattle.dwarf_entries.proofs.scopes.Scopes.scopes.Goals as goal
 
 own-stored : (roots : List Root) (wide : List CallSite) (ranges : List Range) (first : ℕ)

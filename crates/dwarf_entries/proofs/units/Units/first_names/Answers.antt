@@ -1,9 +1,8 @@
-use Rattle.std.proofs.Common.{[], inl, inr, refl, arith, ◌∙◌}
+use Rattle.dwarf_entries.proofs
+use proofs.{[], inl, inr, refl, arith, ◌∙◌, followed-none, followed-next, followed-end}
+use proofs.{followed-deep, followed-lost, target-there, exit}
 use Rattle.dwarf_bytes.proofs.Items.Turns.{None-from-no-Some}
-use Rattle.dwarf_entries.proofs.OriginChains.ChainLaws.{followed-none, followed-next, followed-end}
-use Rattle.dwarf_entries.proofs.OriginChains.ChainLaws.{followed-deep, followed-lost, target-there}
 use Rattle.dwarf_entries.proofs.units.Units.first_names.Goals as goal
-use Rattle.dwarf_entries.proofs.UnitPasses.PassLaws.{exit}
 
 pub loop-last-init : goal.loop-last-init
 loop-last-init c = record {

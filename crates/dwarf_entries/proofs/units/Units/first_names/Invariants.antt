@@ -1,7 +1,5 @@
-use Rattle.std.proofs.Common.{◌≡◌}
-use Rattle.dwarf_entries.specs.Names.{Member}
-use Rattle.dwarf_entries.specs.Private.Members.{IsMember}
-use Rattle.dwarf_entries.proofs.OriginChains.ChainLaws.{Followed}
+use Rattle.dwarf_entries.proofs
+use proofs.{◌≡◌, Member, IsMember, Followed}
 use Rattle.dwarf_entries.proofs.units.Units.first_names.Given as goal
 
 abbrev pub invariant-loop-last : goal.invariant-loop-last

@@ -1,27 +1,12 @@
+use Rattle.dwarf_entries.proofs
+use proofs.{find_at, sym, ◌≡◌, ℕ, List, [], ◌∷◌, Bool, true, cond, ◌==◌, ◌||◌, refl, ◌∙◌, arith}
+use proofs.{Option, Some, None, is_some, find, option_map, ok_or, option_or, list_any, Die}
+use proofs.{EntryBitmap, has_entry, offsets_of, Sections, UnitPlace, CompilationUnit, members_of}
+use proofs.{IsBitmapOf, all_offsets, IsWithin, Finds, member_in, AreUnitsIn, object-units}
+use proofs.{is_at_offset, member_of, die_at, find-units, member-is, in-own, seen}
 use Rattle.std.specs.List.{position_or_len}
-use Rattle.std.proofs.lemmas.List.Folds.{find_at}
-use Rattle.std.proofs.Common.{sym}
-use Rattle.std.proofs.Common.{◌≡◌, ℕ, suc, List, [], ◌∷◌, Bool, true, false, cond, ◌==◌, ◌||◌, refl}
-use Rattle.std.proofs.Common.{ap, ◌∙◌, arith}
-use Rattle.std.specs.Prelude.{Option, Some, None, is_some, find, slice_get, option_map, ok_or}
-use Rattle.std.specs.Option.{option_or}
-use Rattle.std.specs.List.{list_any}
-use Rattle.std.proofs.lemmas.Bool.{eqb-true}
-use Rattle.std.proofs.lemmas.List.Folds.{list_any-append}
+use Rattle.std.proofs.{lemmas.Bool.eqb-true, lemmas.List.Folds.list_any-append}
 use Rattle.dwarf_bytes.specs.declared.fault.Cause.TheVariants as causes
-use Rattle.dwarf_units.specs.Entries.{Die}
-use Rattle.dwarf_walk.specs.declared.entry_bitmap.EntryBitmap.{EntryBitmap}
-use Rattle.dwarf_walk.specs.EntryBitmap.{has_entry, offsets_of}
-use Rattle.dwarf_walk.specs.Sections.{Sections}
-use Rattle.dwarf_entries.specs.declared.references.UnitPlace.{UnitPlace}
-use Rattle.dwarf_entries.specs.Units.{CompilationUnit}
-use Rattle.dwarf_entries.specs.Names.{Member, members_of}
-use Rattle.dwarf_entries.specs.Private.EntryOffsets.{IsBitmapOf, all_offsets}
-use Rattle.dwarf_entries.specs.Private.Members.{IsWithin, Finds, member_in}
-use Rattle.dwarf_entries.proofs.UnitPasses.UnitLaws.{AreUnitsIn, object-units}
-use Rattle.dwarf_entries.proofs.OriginChains.ReferenceLaws.{is_at_offset, member_of, die_at}
-use Rattle.dwarf_entries.proofs.OriginChains.ReferenceLaws.{find-units, member-is, in-own}
-use Rattle.dwarf_entries.proofs.UnitPasses.ObjectLaws.{seen}
 use Rattle.dwarf_entries.proofs.units.Units.has_entry.Goals as goal
 
 any-dies : (u : CompilationUnit) (offset : ℕ) (dies : List Die)

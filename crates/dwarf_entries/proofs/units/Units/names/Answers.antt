@@ -1,9 +1,5 @@
-use Rattle.std.proofs.Common.{subst, sym}
-use Rattle.std.specs.Prelude.{Result}
-use Rattle.dwarf_bytes.specs.declared.fault.Cause.{Cause}
-use Rattle.dwarf_bytes.specs.Refusals.{Gives}
-use Rattle.dwarf_entries.specs.declared.origin_chains.EntryNames.{EntryNames}
-use Rattle.dwarf_entries.proofs.OriginChains.ChainStrings.{names-by-reference}
+use Rattle.dwarf_entries.proofs
+use proofs.{names-by-reference}
 use Rattle.dwarf_entries.proofs.units.Units.names.Goals as goal
 
 pub returns-in-Some-clause-names : goal.returns-in-Some-clause-names

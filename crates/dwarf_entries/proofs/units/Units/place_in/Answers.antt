@@ -1,11 +1,5 @@
-use Rattle.std.proofs.Common.{refl, sym, subst}
-use Rattle.std.specs.Prelude.{Option}
-use Rattle.dwarf_entries.specs.declared.references.UnitPlace.{UnitPlace}
-use Rattle.dwarf_entries.specs.Private.Members.{LeadsTo, member_in}
-use Rattle.dwarf_entries.proofs.OriginChains.ReferenceLaws.{outside, within-stored}
-use Rattle.dwarf_entries.proofs.UnitPasses.ObjectLaws.{seen-units}
-use Rattle.dwarf_entries.proofs.UnitPasses.PassLaws.{found-at}
-use Rattle.dwarf_entries.proofs.UnitPasses.UnitLaws.{object-units}
+use Rattle.dwarf_entries.proofs
+use proofs.{refl, outside, within-stored, seen-units, found-at, object-units}
 use Rattle.dwarf_entries.proofs.units.Units.place_in.Goals as goal
 
 pub returns-in_err-offset-clause-leads : goal.returns-in_err-offset-clause-leads

@@ -1,14 +1,8 @@
-use Rattle.std.proofs.Common.{sym, ◌∙◌, List, refl}
+use Rattle.dwarf_entries.proofs
+use proofs.{sym, ◌∙◌, List, refl, Die, in_section-ok, stored_unit, sections_of, units_read}
+use proofs.{cache-none, bases-stay, all-marked, exit, step-fault}
 use Rattle.dwarf_bytes.specs.declared.fault.Section.TheVariants as names
-use Rattle.dwarf_units.specs.Entries.{Die}
-use Rattle.dwarf_units.proofs.TableLaws.{in_section-ok}
-use Rattle.dwarf_walk.specs.Stored.{stored_unit}
-use Rattle.dwarf_walk.specs.Sections.{sections_of}
-use Rattle.dwarf_entries.proofs.OriginChains.ChainStrings.{cache-none}
-use Rattle.dwarf_entries.proofs.UnitPasses.UnitLaws.{bases-stay, all-marked}
 use Rattle.dwarf_entries.proofs.units.Units.read.Goals as goal
-use Rattle.dwarf_entries.proofs.UnitPasses.PassLaws.{exit, step-fault}
-use Rattle.dwarf_entries.specs.Units.{units_read}
 
 pub returns-in_err-headers-clause-units : goal.returns-in_err-headers-clause-units
 unfolding units_read

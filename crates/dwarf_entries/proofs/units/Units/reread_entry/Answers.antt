@@ -1,11 +1,6 @@
-use Rattle.std.proofs.Common.{refl, sym, ◌∙◌}
-use Rattle.dwarf_bytes.proofs.Numbers.Moves.{same-ok}
-use Rattle.dwarf_walk.specs.Stored.{named_entry}
-use Rattle.dwarf_walk.proofs.RereadLaws.{again-memory}
-use Rattle.dwarf_entries.proofs.UnitPasses.ObjectLaws.{seen, seen-units, with-parts}
-use Rattle.dwarf_entries.proofs.UnitPasses.PassLaws.{found-at, exit}
-use Rattle.dwarf_entries.proofs.UnitPasses.RereadLaws.{reread}
-use Rattle.dwarf_entries.proofs.UnitPasses.UnitLaws.{object-units}
+use Rattle.dwarf_entries.proofs
+use proofs.{refl, sym, ◌∙◌, same-ok, named_entry, again-memory, seen, seen-units, with-parts}
+use proofs.{found-at, exit, reread, object-units}
 use Rattle.dwarf_entries.proofs.units.Units.reread_entry.Goals as goal
 
 pub invariant_of-self : goal.invariant_of-self

@@ -1,13 +1,8 @@
-use Rattle.std.proofs.Common.{◌+◌, ap, ◌∙◌, append-nil, arith, refl}
-use Rattle.std.specs.Prelude.{Some, None}
-use Rattle.std.proofs.lemmas.List.{take_all}
-use Rattle.std.proofs.lemmas.Option.{slice_get_read}
-use Rattle.dwarf_entries.specs.Scopes.{roots_from}
-use Rattle.dwarf_entries.proofs.ScopePasses.RootsPass.{past-is, roots-next, ends-rise}
-use Rattle.dwarf_entries.proofs.UnitPasses.ObjectLaws.{seen-units}
-use Rattle.dwarf_entries.proofs.UnitPasses.UnitLaws.{stored-at, stored-length}
-use Rattle.dwarf_entries.proofs.units.Units.roots.Goals as goal
+use Rattle.dwarf_entries.proofs
+use proofs.{◌+◌, ap, ◌∙◌, append-nil, arith, refl, Some, None, take_all, slice_get_read, roots_from}
+use proofs.{past-is, roots-next, ends-rise, seen-units, stored-at, stored-length}
 use Rattle.dwarf_entries.proofs.units.Units.roots.Goals.{in-Some+in_ok-push, in_default}
+use Rattle.dwarf_entries.proofs.units.Units.roots.Goals as goal
 
 pub loop-unit-preserved : goal.loop-unit-preserved
 loop-unit-preserved c =

@@ -1,6 +1,5 @@
-use Rattle.std.proofs.Common.{◌≡◌, take}
-use Rattle.dwarf_entries.specs.Scopes.{roots_from}
-use Rattle.dwarf_entries.specs.Private.Passes.{first_number}
+use Rattle.dwarf_entries.proofs
+use proofs.{◌≡◌, take, roots_from, first_number}
 use Rattle.dwarf_entries.proofs.units.Units.roots.Given as goal
 
 abbrev pub invariant-loop-unit : goal.invariant-loop-unit

@@ -1,26 +1,12 @@
-use Rattle.std.proofs.Common.{◌≡◌, ℕ, ◌+◌, List, length, map, get_or, refl, ap, ◌∙◌, arith}
-use Rattle.std.specs.Prelude.{Ok, Some, slice_get}
-use Rattle.std.proofs.lemmas.Option.{get_or_from_slice_get, slice_get-map}
-use Rattle.dwarf_bytes.specs.declared.fault.Cause.{Cause}
-use Rattle.dwarf_bytes.specs.Bind.{◌>>=◌}
-use Rattle.dwarf_bytes.specs.Refusals.{Fails}
-use Rattle.dwarf_walk.specs.declared.unit_entries.ScopeEntry.{ScopeEntry}
-use Rattle.dwarf_walk.specs.Sections.{Sections, sections_of}
-use Rattle.dwarf_ranges.specs.declared.bases.Bases.{Bases}
-use Rattle.dwarf_entries.specs.declared.origin_chains.EntryNames.{EntryNames}
-use Rattle.dwarf_ranges.specs.declared.range.Range.{Range}
-use Rattle.dwarf_entries.specs.declared.unit_scopes.ScopeNumbers.{ScopeNumbers}
-use Rattle.dwarf_entries.specs.Units.{CompilationUnit}
-use Rattle.dwarf_entries.specs.Names.{names_of}
+use Rattle.dwarf_entries.proofs
+use proofs.{◌≡◌, ℕ, ◌+◌, List, length, map, get_or, refl, ap, ◌∙◌, arith, Ok, Some, slice_get}
+use proofs.{get_or_from_slice_get, slice_get-map, Cause, ◌>>=◌, Fails, ScopeEntry, Sections}
+use proofs.{sections_of, Bases, EntryNames, Range, ScopeNumbers, CompilationUnit, names_of}
+use proofs.{ParsedScope, ScopeSite, scope_at, scope_of_site, roots_from, IsMember, IsScopeSite}
+use proofs.{bases_of, AddsFacts, ObjectUnits, first-fails, exit, seen}
 use Rattle.dwarf_ranges.specs.Ranges.{covers_by, covers_of, AddsRanges}
-use Rattle.dwarf_entries.specs.Scopes.{ParsedScope, ScopeSite, scope_at, scope_of_site, roots_from}
-use Rattle.dwarf_entries.specs.Private.Members.{IsMember}
-use Rattle.dwarf_entries.specs.Private.Passes.{IsScopeSite, scope_facts, bases_of}
-use Rattle.dwarf_entries.specs.Private.Shared.{AddsFacts}
-use Rattle.dwarf_entries.proofs.UnitPasses.PassLaws.{first-fails, exit}
-use Rattle.dwarf_entries.specs.Private.ObjectUnits.{ObjectUnits}
+use Rattle.dwarf_entries.specs.Private.Passes.{scope_facts}
 use Rattle.dwarf_ranges.proofs.ScopeBudget.{budget-left}
-use Rattle.dwarf_entries.proofs.UnitPasses.ObjectLaws.{seen}
 use Rattle.dwarf_entries.proofs.units.Units.scope.Goals as goal
 
 -- The bases of a unit.

@@ -1,6 +1,5 @@
-use Rattle.std.proofs.Common.{[], refl, arith}
-use Rattle.dwarf_entries.proofs.ScopePasses.SiteLaws.{first-all}
-use Rattle.dwarf_entries.proofs.UnitPasses.PassLaws.{pass-none, pass-end}
+use Rattle.dwarf_entries.proofs
+use proofs.{[], refl, arith, first-all, pass-none, pass-end}
 use Rattle.dwarf_entries.proofs.units.Units.scopes.Goals as goal
 
 pub loop-unit-init : goal.loop-unit-init

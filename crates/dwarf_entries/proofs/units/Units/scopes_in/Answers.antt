@@ -1,7 +1,5 @@
-use Rattle.std.proofs.Common.{◌∙◌}
-use Rattle.dwarf_entries.proofs.UnitPasses.RereadLaws.{sites-stored}
-use Rattle.dwarf_entries.proofs.UnitPasses.ObjectLaws.{seen}
-use Rattle.dwarf_entries.proofs.UnitPasses.UnitLaws.{stored-there}
+use Rattle.dwarf_entries.proofs
+use proofs.{◌∙◌, sites-stored, seen, stored-there}
 use Rattle.dwarf_entries.proofs.units.Units.scopes_in.Goals as goal
 
 pub returns : goal.returns

@@ -1,17 +1,8 @@
-use Rattle.std.proofs.Common.{sym, ap, ◌∙◌, arith}
-use Rattle.dwarf_bytes.specs.declared.fault.Cause.{Cause}
+use Rattle.dwarf_entries.proofs
+use proofs.{sym, ap, ◌∙◌, arith, Cause, at_item, same-ok, scope_entry, again-memory, sites_in, refl}
+use proofs.{sites-stored, site-read, seen, with-parts, element, stored-there, object-units}
 use Rattle.dwarf_bytes.specs.declared.fault.Section.TheVariants as names
-use Rattle.dwarf_bytes.specs.Refusals.{at_item}
-use Rattle.dwarf_bytes.proofs.Numbers.Moves.{same-ok}
-use Rattle.dwarf_walk.specs.Stored.{scope_entry}
-use Rattle.dwarf_walk.proofs.RereadLaws.{again-memory}
-use Rattle.dwarf_entries.specs.Scopes.{sites_in}
-use Rattle.dwarf_entries.proofs.UnitPasses.RereadLaws.{sites-stored, site-read, stored-in}
-use Rattle.dwarf_entries.proofs.UnitPasses.ObjectLaws.{seen, with-parts}
-use Rattle.dwarf_entries.proofs.UnitPasses.PassLaws.{element}
-use Rattle.dwarf_entries.proofs.UnitPasses.UnitLaws.{stored-there, object-units}
 use Rattle.dwarf_entries.proofs.units.Units.site.Goals as goal
-use Rattle.std.proofs.Common.{refl}
 
 pub index-place-requires : goal.index-place-requires
 index-place-requires c =

@@ -1,9 +1,6 @@
-use Rattle.std.proofs.Common.{inl, sym, ◌∙◌}
-use Rattle.dwarf_entries.proofs.OriginChains.ChainStrings.{cache-more, packed-cache}
-use Rattle.dwarf_entries.proofs.UnitPasses.ObjectLaws.{seen, with-parts}
+use Rattle.dwarf_entries.proofs
+use proofs.{inl, sym, ◌∙◌, refl, cache-more, packed-cache, seen, with-parts, exit}
 use Rattle.dwarf_entries.proofs.units.Units.target_names.Goals as goal
-use Rattle.dwarf_entries.proofs.UnitPasses.PassLaws.{exit}
-use Rattle.std.proofs.Common.{refl}
 
 pub returns-in-Some-get-clause-names : goal.returns-in-Some-get-clause-names
 returns-in-Some-get-clause-names c u is =

@@ -1,14 +1,6 @@
-use Rattle.std.proofs.Common.{◌+◌, refl, subst, sym, ap, arith}
-use Rattle.std.specs.Prelude.{Result}
-use Rattle.std.proofs.lemmas.Option.{slice_get_within}
-use Rattle.dwarf_bytes.specs.declared.fault.Cause.{Cause}
-use Rattle.dwarf_entries.specs.Names.{Member}
-use Rattle.dwarf_entries.specs.Private.Members.{LeadsTo}
-use Rattle.dwarf_walk.specs.Stored.{StoredUnit}
-use Rattle.dwarf_entries.proofs.OriginChains.ReferenceLaws.{anywhere, within-unit}
-use Rattle.dwarf_entries.proofs.UnitPasses.ObjectLaws.{seen-units}
-use Rattle.dwarf_entries.proofs.UnitPasses.PassLaws.{found-at}
-use Rattle.dwarf_entries.proofs.UnitPasses.UnitLaws.{stored-length, stored-index, object-units}
+use Rattle.dwarf_entries.proofs
+use proofs.{◌+◌, refl, sym, ap, arith, slice_get_within, StoredUnit, anywhere, within-unit}
+use proofs.{seen-units, found-at, stored-length, stored-index, object-units}
 use Rattle.dwarf_entries.proofs.units.Units.target_place.Goals as goal
 
 pub returns-then-reference-eq-DW_FORM_REF_ADDR-clause-leads :

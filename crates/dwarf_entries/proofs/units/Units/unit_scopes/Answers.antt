@@ -1,32 +1,14 @@
-use Rattle.std.proofs.Common.{◌<◌}
-use Rattle.std.proofs.Common.{◌≡◌, ℕ, ◌+◌, List, [], ◌∷◌, ◌++◌, length, ap, arith, refl, inl, ◌∙◌}
-use Rattle.std.proofs.Common.{subst}
-use Rattle.std.specs.Prelude.{Ok, Some, slice_get}
-use Rattle.std.proofs.lemmas.List.{map_push, length-map}
+use Rattle.dwarf_entries.proofs
+use proofs.{◌<◌, ◌≡◌, ℕ, ◌+◌, List, [], ◌∷◌, ◌++◌, length, ap, arith, refl, inl, ◌∙◌, Ok, Some}
+use proofs.{slice_get, map_push, length-map, Cause, LoadFault, Fails, at_item, ScopeEntry, Sections}
+use proofs.{Root, ScopeFacts, ScopeLists, ScopeNumbers, CompilationUnit, ParsedScope, ScopeSite}
+use proofs.{Scope, scope_at, sites_in, roots_from, IsScopeSite, AreParsedTo, first_number}
+use proofs.{all_sites, all_scopes, AddsFacts, facts_of, IsPushed, by_number, pushed, scopes-length}
+use proofs.{site-in, sites-count, first-next, all-sites-at, Faults, item-fault, pass-next}
+use proofs.{pass-fault, element, exit}
 use Rattle.std.proofs.lemmas.List.Sums.{sum_by_push}
-use Rattle.std.proofs.lemmas.Option.{slice_get_within}
-use Rattle.dwarf_bytes.specs.declared.fault.Cause.{Cause}
+use Rattle.dwarf_entries.specs.Private.Passes.{IsSiteRead}
 use Rattle.dwarf_bytes.specs.declared.fault.Section.TheVariants as names
-use Rattle.dwarf_bytes.specs.declared.fault.LoadFault.{LoadFault}
-use Rattle.dwarf_bytes.specs.Refusals.{Fails, at_item}
-use Rattle.dwarf_walk.specs.declared.unit_entries.ScopeEntry.{ScopeEntry}
-use Rattle.dwarf_walk.specs.Sections.{Sections}
-use Rattle.dwarf_entries.specs.declared.scope.Root.{Root}
-use Rattle.dwarf_entries.specs.declared.scope.ScopeFacts.{ScopeFacts}
-use Rattle.dwarf_entries.specs.declared.scope_lists.ScopeLists.{ScopeLists}
-use Rattle.dwarf_entries.specs.declared.unit_scopes.ScopeNumbers.{ScopeNumbers}
-use Rattle.dwarf_entries.specs.Units.{CompilationUnit}
-use Rattle.dwarf_entries.specs.Scopes.{ParsedScope, ScopeSite, Scope, scope_at, sites_in}
-use Rattle.dwarf_entries.specs.Scopes.{roots_from}
-use Rattle.dwarf_entries.specs.Private.Passes.{IsScopeSite, IsSiteRead, AreParsedTo, first_number}
-use Rattle.dwarf_entries.specs.Private.Passes.{all_sites, all_scopes}
-use Rattle.dwarf_entries.specs.Private.Shared.{AddsFacts, facts_of, IsPushed}
-use Rattle.dwarf_entries.proofs.ScopePasses.RootsPass.{by_number}
-use Rattle.dwarf_entries.proofs.ScopePasses.PushedScopes.{pushed, scopes-length}
-use Rattle.dwarf_entries.proofs.ScopePasses.SiteLaws.{site-in, sites-count, first-next}
-use Rattle.dwarf_entries.proofs.ScopePasses.SiteLaws.{all-sites-at}
-use Rattle.dwarf_entries.proofs.UnitPasses.PassLaws.{Faults, item-fault, pass-next, pass-fault}
-use Rattle.dwarf_entries.proofs.UnitPasses.PassLaws.{element, exit}
 use Rattle.dwarf_entries.proofs.units.Units.unit_scopes.Goals as goal
 
 module _ {s : Sections} {us : List CompilationUnit} {number : ℕ} {lists : ScopeLists} {left : ℕ}

@@ -1,5 +1,5 @@
-use Rattle.std.proofs.Common.{◌≡◌, ◌+◌}
-use Rattle.dwarf_entries.specs.Private.Passes.{AreParsedTo, first_number}
+use Rattle.dwarf_entries.proofs
+use proofs.{◌≡◌, ◌+◌, AreParsedTo, first_number}
 use Rattle.dwarf_entries.proofs.units.Units.unit_scopes.Given as goal
 
 abbrev pub invariant-loop-index : goal.invariant-loop-index
