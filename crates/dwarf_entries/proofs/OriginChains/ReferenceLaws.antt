@@ -3,9 +3,9 @@ use Rattle.dwarf_entries.proofs.Common
 use Common.{◌≡◌, ◌⊎◌, inl, inr, ℕ, zero, suc, ◌+◌, ◌<◌, ◌≤◌, List, [], ◌∷◌, length, map, get_or}
 use Common.{Bool, true, ◌==◌, refl, sym, ap, ◌∙◌, arith, Option, Some, None, Err, find, slice_get}
 use Common.{option_map, ok_or, option_or, IsNonDecreasingBy, IsPartitionPoint, cases_lt}
-use Common.{slice_get-get_or, slice_get_within, get_or_from_slice_get, AttributeValue, Die}
-use Common.{RiseWithin, UnitEntries, StoredUnit, Sections, CompilationUnit, Member, members_of}
-use Common.{target_of, AreStored, IsWithin, member_in}
+use Common.{slice_get-get_or, slice_get_within, AttributeValue, Die, RiseWithin, UnitEntries}
+use Common.{StoredUnit, Sections, CompilationUnit, Member, members_of, target_of, AreStored}
+use Common.{IsWithin, member_in}
 use Rattle.std.proofs.{Common.{eq-eqb, option_to_list}, lemmas.Bool.ne_eqb}
 use Rattle.std.proofs.lemmas.List.Folds.{find-append}
 use Rattle.dwarf_bytes.specs.declared.constants.TheConstants.{DW_FORM_REF_ADDR}
@@ -119,20 +119,19 @@ module _ {s : Sections} {us : List CompilationUnit} (are : AreUnitsIn s us) wher
         → (k : UnitEntries) × (i < length stored) × ((get_or stored i k).header.end ≡ u.header.end)
     end-at i u found =
         let within = slice_get_within us i u found in
-        let sizes = stored-length stored us same in
-        let k = element stored i (omega (arith, within, sizes)) in (
-          k.0,
-          omega (arith, within, sizes),
-          ap (λ (x : UnitEntries). x.header.end) (get_or_from_slice_get stored i k.0 k.0 k.1)
-              ∙ ap (λ (x : StoredUnit). x.header.end)
-              (stored-index stored us i k.0 same k.1 u found),
+        let inside : i < length stored = omega (arith, within, stored-length stored us same) in
+        let d = (element stored i inside).0 in (
+          d,
+          inside,
+          ap (λ (x : StoredUnit). x.header.end) (stored-index stored us same i (get_or stored i d) u
+              (slice_get-get_or stored i d inside) found),
         )
 
     ends-rise : IsNonDecreasingBy (λ (k : UnitEntries). k.header.end) stored
     ends-rise i j d le lt =
-        let a = stored-at stored us i (get_or stored i d) same
+        let a = stored-at stored us same i (get_or stored i d)
         (slice_get-get_or stored i d (omega (arith, le, lt))) in
-        let b = stored-at stored us j (get_or stored j d) same (slice_get-get_or stored j d lt) in
+        let b = stored-at stored us same j (get_or stored j d) (slice_get-get_or stored j d lt) in
         let bounds = (are.each_is j b.unit b.is).bounds in
         let first = ap (λ (x : StoredUnit). x.header.end) a.stored in
         let second = ap (λ (x : StoredUnit). x.header.end) b.stored in
@@ -158,7 +157,7 @@ module _ {s : Sections} {us : List CompilationUnit} (are : AreUnitsIn s us) wher
         → (offset < k.header.start) ⊎ (k.header.end ≤ offset)
         → member_in us n offset ≡ Err causes.Reference
     outside n offset k found out =
-        let at = stored-at stored us n k same found in
+        let at = stored-at stored us same n k found in
         let u = at.unit in
         rw (
           member-is us n offset u at.is,
@@ -170,7 +169,7 @@ module _ {s : Sections} {us : List CompilationUnit} (are : AreUnitsIn s us) wher
         → k.header.start ≤ offset → offset < k.header.end
         → IsWithin us (record { unit = n; offset = offset })
     within-stored n offset k found low high =
-        let at = stored-at stored us n k same found in
+        let at = stored-at stored us same n k found in
         let header = ap (λ (x : StoredUnit). x.header) at.stored in
         record { of = at.unit; of_is = at.is; low = rw header at low; high = rw header at high }
 

@@ -1,10 +1,9 @@
 -- The order of scope sites and of their entries.
 use Rattle.dwarf_entries.proofs.Common
-use Common.{◌≡◌, ◌⊎◌, ℕ, zero, suc, ◌+◌, ◌<◌, ◌≤◌, true, cond, List, [], ◌∷◌, take, drop, get_or}
-use Common.{ap, ◌∙◌, arith, ◌↔◌, refl, Some, slice_get, is_some, count_by, nat_lt, prefix_len}
-use Common.{sum_by-take-le, count_by_more_yes, get_or_from_slice_get, slice_get_within, Die, below}
-use Common.{IsBelow, RiseWithin, is_scope, Sections, CompilationUnit, ScopeSite, first_number}
-use Common.{common_steps}
+use Common.{◌≡◌, ◌⊎◌, ℕ, zero, suc, ◌+◌, ◌<◌, ◌≤◌, cond, List, [], ◌∷◌, take, drop, ap, ◌∙◌, arith}
+use Common.{◌↔◌, refl, Some, slice_get, is_some, count_by, nat_lt, prefix_len, sum_by-take-le}
+use Common.{count_by_more_yes, get_or_from_slice_get, slice_get_within, Die, below, IsBelow}
+use Common.{RiseWithin, is_scope, Sections, CompilationUnit, ScopeSite, first_number, common_steps}
 use Rattle.std.proofs.{lemmas.List.take-take, lemmas.List.Sums.sum_by-take-drop}
 use Rattle.dwarf_entries.proofs.OriginChains.ReferenceLaws.{within-le}
 use Rattle.dwarf_entries.proofs.Results.BelowLaws.{counted-rises, scopes-between}
@@ -29,21 +28,27 @@ pub before-later : {us : List CompilationUnit} {n : ℕ} {p : ScopeSite} (at : I
     → (n < first_number us j) × (n + 1 + p.inside ≤ first_number us j)
 before-later {us} {n} {p} at j lt =
     let dies : List Die = p.member.unit.dies in
-    let die : Die = p.member.die in
     let k : ℕ = at.is.index in
-    let within = slice_get_within dies k die at.is.there in
-    let scope-is : is_scope (get_or dies k die) ≡ true =
-    ap is_scope (get_or_from_slice_get dies k die die at.is.there) ∙ ap is_some at.is.kind_is in
-    let more = count_by_more_yes is_scope dies k die within scope-is in
+    let here = get_or_from_slice_get dies k p.member.die p.member.die at.is.there in
+    let more = count_by_more_yes is_scope dies k p.member.die
+    (slice_get_within dies k p.member.die at.is.there)
+    (ap is_scope here ∙ ap is_some at.is.kind_is) in
     let whole = sum_by-take-drop (λ (x : Die). cond (is_scope x) 1 0) dies (k + 1) in
-    let one : suc k ≡ k + 1 = omega arith in
-    let inside : p.inside ≡ count_by is_scope (below die (drop (k + 1) dies)) =
-    rw (← one) at.is.inside_is in
-    let few = few-below die (drop (k + 1) dies) in
+    let few = few-below p.member.die (drop (k + 1) dies) in
     let next = first-next us at.unit p.member.unit at.unit_is in
     let rises = first-rises us (at.unit + 1) j (omega (arith, lt)) in (
       omega (arith, at.number_is, at.is.number_is, more, whole, next, rises),
-      omega (arith, at.number_is, at.is.number_is, more, whole, next, rises, inside, few),
+      omega (
+        arith,
+        at.number_is,
+        at.is.number_is,
+        more,
+        whole,
+        next,
+        rises,
+        at.is.inside_is,
+        few,
+      ),
     )
 
 -- A site of the same unit as another.
@@ -58,12 +63,11 @@ pub record IsInUnitOf {us : List CompilationUnit} {n m : ℕ} {p q : ScopeSite}
 pub in-unit-of : {us : List CompilationUnit} {n m : ℕ} {p q : ScopeSite} (a : IsSiteAt us n p)
     (b : IsSiteAt us m q) → a.unit ≡ b.unit → IsInUnitOf a b
 in-unit-of {us} {n} {m} {p} {q} a b e =
-    let one : suc b.is.index ≡ b.is.index + 1 = omega arith in
     let same : p.member.unit ≡ q.member.unit = grind (arith, a.unit_is, b.unit_is) in
     record {
       there = rw same b.is.there;
       number_is = rw same (omega (arith, b.number_is, b.is.number_is, ap (first_number us) e));
-      inside_is = rw (same, ← one) b.is.inside_is;
+      inside_is = rw same b.is.inside_is;
     }
 
 -- ---- the sites below another

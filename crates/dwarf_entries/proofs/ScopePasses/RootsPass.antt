@@ -1,11 +1,11 @@
 -- The roots of units: the loop that returns them, their order, and the root of a scope.
 use Rattle.dwarf_entries.proofs.Common
 use Common.{◌≡◌, ℕ, zero, suc, ◌+◌, ◌<◌, ◌≤◌, List, [], ◌∷◌, ◌++◌, length, take, get_or, refl, ap}
-use Common.{sym, ◌∙◌, arith, append_assoc, append-nil, Bool, Option, Some, None, All, count_by}
-use Common.{slice_get, nat_lt, IsNonDecreasingBy, IsPartitionPoint, All-nil, All-cons, All-weaker}
-use Common.{take_more, sum_by-cons, sum_by-take-le, slice_get_within, get_or_from_slice_get, Die}
-use Common.{UnitEntries, is_scope, StoredUnit, Root, CompilationUnit, root_of, roots_from}
-use Common.{stmt_list_of, number_of_scopes, first_number, ArePartsFrom, find_at}
+use Common.{sym, ◌∙◌, arith, append_assoc, append-nil, Bool, Option, Some, None, count_by}
+use Common.{slice_get, nat_lt, IsNonDecreasingBy, IsPartitionPoint, take_more, sum_by-cons}
+use Common.{sum_by-take-le, slice_get_within, get_or_from_slice_get, Die, UnitEntries, is_scope}
+use Common.{StoredUnit, Root, CompilationUnit, root_of, roots_from, stmt_list_of, number_of_scopes}
+use Common.{first_number, ArePartsFrom, find_at}
 use Rattle.std.proofs.{lemmas.List.Sums.position_or_len_is, lemmas.Bool.{lt-ltb, le-ltb}}
 use Rattle.dwarf_walk.specs.{declared.unit_entries.RootEntry.RootEntry, Stored.root_in}
 use Rattle.dwarf_entries.specs.Scopes.{stmt_list_by_number}
@@ -75,25 +75,19 @@ module _ {us : List CompilationUnit} {index : ℕ} {unit : UnitEntries}
       ) (sym (roots-push 0 (take index us) here.unit first past (omega (arith, first_is))
       (omega (arith, past_is, count, sites, unit.scopes.ok.0))))
 
--- The scopes of the roots end in order.
-rising-cons : (root : Root) (roots : List Root) → All (λ r. root.past ≤ r.past) roots
-    → IsNonDecreasingBy (λ r. r.past) roots → IsNonDecreasingBy (λ r. r.past) (root ∷ roots)
-rising-cons root roots after rise i zero d le lt = grind arith
-rising-cons root roots after rise zero (suc j) d le lt = after j d (omega (arith, lt))
-rising-cons root roots after rise (suc i) (suc j) d le lt =
-    rise i j d (omega (arith, le)) (omega (arith, lt))
-
-parts-rise : (number end : ℕ) (roots : List Root) → ArePartsFrom number end roots
-    → All (λ r. number ≤ r.past) roots × IsNonDecreasingBy (λ r. r.past) roots
-parts-rise number end [] parts = (All-nil _, λ i j d le lt. absurd (omega (arith, lt)))
-parts-rise number end (root ∷ roots) parts =
-    let rest = parts-rise root.past end roots parts.2 in
-    let le = parts.1 in (
-      All-cons (λ (r : Root). number ≤ r.past) root roots le (All-weaker
-          (λ (r : Root). root.past ≤ r.past) (λ (r : Root). number ≤ r.past)
-          (λ r after. omega (arith, after, le)) roots rest.0),
-      rising-cons root roots rest.0 rest.1,
-    )
+-- The scopes of the roots end in order, after a lower bound.
+parts-rise : (number end : ℕ) (roots : List Root) → ArePartsFrom number end roots → (i j : ℕ)
+    (d : Root) → i ≤ j → j < length roots
+    → (number ≤ (get_or roots j d).past) × ((get_or roots i d).past ≤ (get_or roots j d).past)
+parts-rise number end [] parts i j d le lt = absurd (omega (arith, lt))
+parts-rise number end (root ∷ roots) parts zero zero d le lt = (parts.1, omega arith)
+parts-rise number end (root ∷ roots) parts (suc i) zero d le lt = absurd (omega (arith, le))
+parts-rise number end (root ∷ roots) parts zero (suc j) d le lt =
+    let later = parts-rise root.past end roots parts.2 j j d (omega arith) (omega (arith, lt)) in
+    (omega (arith, parts.1, later.0), later.0)
+parts-rise number end (root ∷ roots) parts (suc i) (suc j) d le lt =
+    let later = parts-rise root.past end roots parts.2 i j d (omega (arith, le)) (omega (arith, lt))
+    in (omega (arith, parts.1, later.0), later.1)
 
 -- The root of a unit in front.
 parts-cons : (number past end : ℕ) (dies : List Die) (roots : List Root)
@@ -117,8 +111,8 @@ roots-part number (unit ∷ units) =
 
 pub ends-rise : (us : List CompilationUnit) (roots : List Root) → roots ≡ roots_from 0 us
     → IsNonDecreasingBy (λ r. r.past) roots
-ends-rise us roots are =
-    rw are (parts-rise 0 (0 + number_of_scopes us) (roots_from 0 us) (roots-part 0 us)).1
+ends-rise us roots are = rw are (λ i j d le lt.
+    (parts-rise 0 (0 + number_of_scopes us) (roots_from 0 us) (roots-part 0 us) i j d le lt).1)
 
 -- ---- the roots
 

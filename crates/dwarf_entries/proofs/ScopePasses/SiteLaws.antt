@@ -1,8 +1,8 @@
 -- The scope sites of units, by their numbers.
 use Rattle.dwarf_entries.proofs.Common
-use Common.{is_some, ◌≡◌, ℕ, zero, suc, ◌+◌, ◌-◌, ◌<◌, ◌≤◌, ◌⊎◌, inl, inr, cond, List, [], ◌∷◌}
-use Common.{◌++◌, length, take, drop, refl, ap, sym, ◌∙◌, arith, length-append, take_all, Option}
-use Common.{Some, None, count_by, slice_get, cases_lt, sum_by-cons, sum_by_more, slice_get_within}
+use Common.{is_some, ◌≡◌, ℕ, zero, suc, ◌+◌, ◌-◌, ◌≤◌, inl, inr, cond, List, [], ◌∷◌, ◌++◌, length}
+use Common.{take, drop, refl, ap, sym, ◌∙◌, arith, length-append, take_all, Option, Some, None}
+use Common.{count_by, slice_get, cases_lt, sum_by-cons, sum_by_more, slice_get_within}
 use Common.{get_or_from_slice_get, Die, below, ScopeKind, kind_of, is_scope, CompilationUnit}
 use Common.{ScopeSite, sites_in, number_of_scopes, first_number, all_sites}
 use Rattle.dwarf_entries.specs.Scopes.{site_of}
@@ -33,7 +33,7 @@ pub record IsSiteIn (u : CompilationUnit) (dies : List Die) (n : ℕ) (p : Scope
   pub index : ℕ
   pub there : slice_get dies index ≡ Some p.member.die
   pub number_is : n ≡ count_by is_scope (take index dies)
-  pub inside_is : p.inside ≡ count_by is_scope (below p.member.die (drop (suc index) dies))
+  pub inside_is : p.inside ≡ count_by is_scope (below p.member.die (drop (index + 1) dies))
 
 pub site-in : (u : CompilationUnit) (dies : List Die) (n : ℕ) (p : ScopeSite)
     → slice_get (sites_in u dies) n ≡ Some p → IsSiteIn u dies n p
@@ -54,7 +54,8 @@ site-in u (die ∷ rest) n p h = by_kind (kind_of die.tag) refl n h (λ m found.
         at.number_is,
         sum_by-cons (λ x. cond (is_scope x) 1 0) die (take at.index rest),
       );
-      inside_is = at.inside_is;
+      inside_is = let e : suc at.index + 1 ≡ suc (at.index + 1) = omega arith in
+          rw e at.inside_is;
     }
 
     by_kind : (kind : Option ScopeKind) → kind_of die.tag ≡ kind → (n : ℕ)
@@ -84,13 +85,16 @@ skipped u d rest found sites n = grind arith
 site-of : (u : CompilationUnit) (dies : List Die) (k : ℕ) (die : Die) (kind : ScopeKind)
     → slice_get dies k ≡ Some die → kind_of die.tag ≡ Some kind
     → slice_get (sites_in u dies) (count_by is_scope (take k dies))
-    ≡ Some (site_at u die (drop (suc k) dies) kind)
+    ≡ Some (site_at u die (drop (k + 1) dies) kind)
 site-of u [] k die kind h is = cc
 site-of u (d ∷ rest) zero die kind h is = grind arith
-site-of u (d ∷ rest) (suc k) die kind h is = rw (
-  sum_by-cons (λ x. cond (is_scope x) 1 0) d (take k rest),
-  skipped u d rest (kind_of d.tag) (sites_in u rest),
-) (site-of u rest k die kind h is)
+site-of u (d ∷ rest) (suc k) die kind h is =
+    let next : suc k + 1 ≡ suc (k + 1) = omega arith in
+    rw (
+      next,
+      sum_by-cons (λ x. cond (is_scope x) 1 0) d (take k rest),
+      skipped u d rest (kind_of d.tag) (sites_in u rest),
+    ) (site-of u rest k die kind h is)
 
 -- ---- the sites of all units
 
@@ -151,43 +155,40 @@ pub record IsSiteAt (us : List CompilationUnit) (n : ℕ) (p : ScopeSite) : Type
 pub site-at : (us : List CompilationUnit) (n : ℕ) (p : ScopeSite) → slice_get (all_sites us) n
     ≡ Some p → IsSiteAt us n p
 site-at [] n p h = cc
-site-at (u ∷ us) n p h = by_order (cases_lt n (length (sites_in u u.dies)))
-    (λ m found. site-at us m p found)
-  where
-    by_order : (n < length (sites_in u u.dies)) ⊎ (length (sites_in u u.dies) ≤ n)
-        → ((m : ℕ) → slice_get (all_sites us) m ≡ Some p → IsSiteAt us m p) → IsSiteAt (u ∷ us) n p
-    by_order (inl lt) later =
-        let q = element (sites_in u u.dies) n lt in
-        let is = site-in u u.dies n p (q.1
-        ∙ (sym (at-left (sites_in u u.dies) (all_sites us) n q.0 q.1) ∙ h)) in
-        let none : first_number (u ∷ us) zero ≡ 0 = refl in
-        record {
-          unit = zero;
-          unit_is = rw is.unit_is refl;
-          number = n;
-          number_is = omega (arith, none);
-          is = rw (← is.unit_is) at is;
-        }
-    by_order (inr ge) later =
-        let m : ℕ = n - length (sites_in u u.dies) in
-        let at = later m (sym (at-right (sites_in u u.dies) (all_sites us) n m (omega (arith, ge)))
-        ∙ h) in
-        let sum = sum_by-cons (λ (w : CompilationUnit). count_by is_scope w.dies) u
-        (take at.unit us) in
-        record {
-          unit = suc at.unit;
-          unit_is = at.unit_is;
-          number = at.number;
-          number_is = omega (arith, ge, at.number_is, sum, sites-count u u.dies);
-          is = at.is;
-        }
+site-at (u ∷ us) n p h = elim (cases_lt n (length (sites_in u u.dies))) [
+  | inl lt ↦ (
+      let q = element (sites_in u u.dies) n lt in
+      let is = site-in u u.dies n p (q.1
+      ∙ (sym (at-left (sites_in u u.dies) (all_sites us) n q.0 q.1) ∙ h)) in
+      let none : first_number (u ∷ us) zero ≡ 0 = refl in
+      record {
+        unit = zero;
+        unit_is = rw is.unit_is refl;
+        number = n;
+        number_is = omega (arith, none);
+        is = rw (← is.unit_is) at is;
+      })
+  | inr ge ↦ (
+      let m : ℕ = n - length (sites_in u u.dies) in
+      let at = site-at us m p
+      (sym (at-right (sites_in u u.dies) (all_sites us) n m (omega (arith, ge))) ∙ h) in
+      let sum = sum_by-cons (λ (w : CompilationUnit). count_by is_scope w.dies) u
+      (take at.unit us) in
+      record {
+        unit = suc at.unit;
+        unit_is = at.unit_is;
+        number = at.number;
+        number_is = omega (arith, ge, at.number_is, sum, sites-count u u.dies);
+        is = at.is;
+      })
+]
 
 -- The site of an entry of a unit.
 pub site-of-entry : (us : List CompilationUnit) (i k : ℕ) (u : CompilationUnit) (die : Die)
     (kind : ScopeKind) → slice_get us i ≡ Some u → slice_get u.dies k ≡ Some die
     → kind_of die.tag ≡ Some kind
     → slice_get (all_sites us) (first_number us i + count_by is_scope (take k u.dies))
-    ≡ Some (site_at u die (drop (suc k) u.dies) kind)
+    ≡ Some (site_at u die (drop (k + 1) u.dies) kind)
 site-of-entry us i k u die kind found there is =
     all-sites-at us i (count_by is_scope (take k u.dies)) _ u _ found
     (site-of u u.dies k die kind there is) refl

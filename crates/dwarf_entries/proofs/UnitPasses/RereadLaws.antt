@@ -27,13 +27,14 @@ use Rattle.std.proofs.lemmas.List.{get_or-map}
 scope-stored : (die : Die) (kind : ScopeKind) → scope_entry (stored_die die) kind
     ≡ scope_entry die kind
 scope-stored die kind =
+    let value = value-stored die.attributes in
     rw (
       names_at-stored die,
-      value-stored die.attributes DW_AT_LOW_PC refl,
-      value-stored die.attributes DW_AT_HIGH_PC refl,
-      value-stored die.attributes DW_AT_RANGES refl,
-      value-stored die.attributes DW_AT_CALL_FILE refl,
-      value-stored die.attributes DW_AT_CALL_LINE refl,
+      value DW_AT_LOW_PC refl,
+      value DW_AT_HIGH_PC refl,
+      value DW_AT_RANGES refl,
+      value DW_AT_CALL_FILE refl,
+      value DW_AT_CALL_LINE refl,
     ) refl
 
 -- ---- the entries that were read before
@@ -85,7 +86,7 @@ pub reread : (s : Sections) (us : List CompilationUnit) (stored : List UnitEntri
     ≡ Ok (named_entry m.die))
 reread s us stored place m k are same found at =
     let read = stored-in s m.unit k
-    (stored-index stored us place.unit k same found m.unit at.unit_is)
+    (stored-index stored us same place.unit k m.unit found at.unit_is)
     (are.each_is place.unit m.unit at.unit_is) in (
       read,
       rw (← at.offset_is)

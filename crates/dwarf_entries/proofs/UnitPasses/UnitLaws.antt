@@ -154,30 +154,29 @@ pub record StoredFor (us : List CompilationUnit) (n : ℕ) (k : UnitEntries) : T
   pub is : slice_get us n ≡ Some unit
   pub stored : stored_of k ≡ stored_unit_of unit
 
-pub stored-length : (stored : List UnitEntries) (us : List CompilationUnit) → AreStored stored us
-    → length stored ≡ length us
-stored-length stored us same =
-    rw (← length-map stored stored_of, same) (length-map us stored_unit_of)
+module _ (stored : List UnitEntries) (us : List CompilationUnit) (same : AreStored stored us) where
+  pub stored-length : length stored ≡ length us
+  stored-length = rw (← length-map stored stored_of, same) (length-map us stored_unit_of)
 
-pub stored-at : (stored : List UnitEntries) (us : List CompilationUnit) (n : ℕ) (k : UnitEntries)
-    → AreStored stored us → slice_get stored n ≡ Some k → StoredFor us n k
-stored-at stored us n k same found =
-    let x = from-map stored_unit_of us n (stored_of k)
-    (rw (← same, slice_get-map stored_of stored n, found) refl) in
-    record { unit = x.0; is = x.1; stored = sym x.2 }
+  pub stored-at : (n : ℕ) (k : UnitEntries) → slice_get stored n ≡ Some k → StoredFor us n k
+  stored-at n k found =
+      let x = from-map stored_unit_of us n (stored_of k)
+      (rw (← same, slice_get-map stored_of stored n, found) refl) in
+      record { unit = x.0; is = x.1; stored = sym x.2 }
 
-pub stored-index : (stored : List UnitEntries) (us : List CompilationUnit) (n : ℕ) (k : UnitEntries)
-    → AreStored stored us → slice_get stored n ≡ Some k → (u : CompilationUnit)
-    → slice_get us n ≡ Some u → stored_of k ≡ stored_unit_of u
-stored-index stored us n k same found u is =
-    let at = stored-at stored us n k same found in grind (arith, at.is, at.stored)
+  -- The same for an element as a loop reads it.
+  pub stored-item : (n : ℕ) (k : UnitEntries) → n < length stored → k ≡ get_or stored n k
+      → StoredFor us n k
+  stored-item n k within is = stored-at n k (slice_get_read stored _ n k refl within is)
 
--- The element at an index of the program is stored for the unit at that index.
-pub stored-there : (stored : List UnitEntries) (us : List CompilationUnit) (n : ℕ)
-    (k : UnitEntries) (u : CompilationUnit) → AreStored stored us → slice_get us n ≡ Some u
-    → k ≡ get_or stored n k → stored_of k ≡ stored_unit_of u
-stored-there stored us n k u same found is =
-    let sizes = stored-length stored us same in
-    let within = slice_get_within us n u found in
-    stored-index stored us n k same
-    (slice_get_read stored (length stored) n k refl (omega (arith, sizes, within)) is) u found
+  pub stored-index : (n : ℕ) (k : UnitEntries) (u : CompilationUnit) → slice_get stored n ≡ Some k
+      → slice_get us n ≡ Some u → stored_of k ≡ stored_unit_of u
+  stored-index n k u found is = let at = stored-at n k found in grind (arith, at.is, at.stored)
+
+  -- The element at an index of the program is stored for the unit at that index.
+  pub stored-there : (n : ℕ) (k : UnitEntries) (u : CompilationUnit) → slice_get us n ≡ Some u
+      → k ≡ get_or stored n k → stored_of k ≡ stored_unit_of u
+  stored-there n k u found is =
+      let within = slice_get_within us n u found in
+      let inside : n < length stored = omega (arith, stored-length, within) in
+      stored-index n k u (slice_get_read stored _ n k refl inside is) found

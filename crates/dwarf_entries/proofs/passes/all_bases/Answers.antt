@@ -1,8 +1,8 @@
 use Rattle.dwarf_entries.proofs
 use proofs.{arith, ◌≡◌, ℕ, ◌+◌, List, [], ◌∷◌, ◌++◌, refl, ap, sym, ◌∙◌, Ok, map_push, LoadFault}
 use proofs.{in_section, in_section-ok, UnitEntries, Sections, StoredUnit, stored_of, Bases}
-use proofs.{CompilationUnit, stored_unit_of, bases_of, all_bases, slice_get_read, Faults}
-use proofs.{first-fault, pass-next, pass-fault, pass-none, exit, StoredFor, stored-at}
+use proofs.{CompilationUnit, stored_unit_of, bases_of, all_bases, Faults, first-fault, pass-next}
+use proofs.{pass-fault, pass-none, exit, StoredFor, stored-item}
 use Rattle.dwarf_entries.specs.{Units.bases_of_first, Private.Passes.bases_in}
 use Rattle.dwarf_entries.proofs.passes.all_bases.Invariants.{BasesSoFar}
 use Rattle.dwarf_bytes.specs.declared.fault.Section.TheVariants as names
@@ -45,13 +45,11 @@ loop-unit-init c us same = rw c.new-all.ensures.items
 pub returns-in_err-unit_bases : goal.returns-in_err-unit_bases
 returns-in_err-unit_bases c us same =
     rw (exit _ c.from_residual.ensures.1) (bases-fault (c.loop-unit.invariant us same)
-    (stored-at c.args.units.now us c.loop-unit.unit-index c.unit-item.result same
-    (slice_get_read c.args.units.now _ c.loop-unit.unit-index c.unit-item.result refl
-    c.loop-unit-test.true c.unit-item.is)) c.in_err-unit_bases.ensures)
+    (stored-item c.args.units.now us same c.loop-unit.unit-index c.unit-item.result
+    c.loop-unit-test.true c.unit-item.is) c.in_err-unit_bases.ensures)
 
 pub loop-unit-preserved : goal.loop-unit-preserved
 loop-unit-preserved c us same = rw c.in_ok-push.ensures.items
     (bases-next (c.loop-unit.invariant us same)
-    (stored-at c.args.units.now us c.loop-unit.unit-index c.unit-item.result same
-    (slice_get_read c.args.units.now _ c.loop-unit.unit-index c.unit-item.result refl
-    c.loop-unit-test.true c.unit-item.is)) c.in_ok-unit_bases.field-0 c.in_ok-unit_bases.ensures)
+    (stored-item c.args.units.now us same c.loop-unit.unit-index c.unit-item.result
+    c.loop-unit-test.true c.unit-item.is) c.in_ok-unit_bases.field-0 c.in_ok-unit_bases.ensures)

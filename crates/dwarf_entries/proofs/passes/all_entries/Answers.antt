@@ -1,12 +1,12 @@
 use Rattle.dwarf_entries.proofs
-use proofs.{◌≡◌, ◌⊎◌, ℕ, ◌+◌, ◌<◌, ◌≤◌, List, [], ◌∷◌, ◌++◌, length, map, get_or, refl, sym, ◌∙◌}
-use proofs.{arith, append-nil, ap, inl, Some, Ok, Err, zip, slice_get, Result, map_push}
-use proofs.{slice_get-get_or, same_Some, slice_get_within, LoadFault, At, memory_fault, in_section}
-use proofs.{each-length, same-ok, Declaration, declarations_of, UnitHeader, declarations_limit}
-use proofs.{tables_of, Die, entries_of, table_is, in_section-ok, UnitEntries, EntryBitmap}
-use proofs.{AddsOffsets, offsets_of, stored_unit, stored_of, CompilationUnit, stored_unit_of}
-use proofs.{all_offsets, dies_of, all_entries, ◌>>=◌, Faults, after-done, pass-none, pass-next}
-use proofs.{pass-end, pass-fault, done, exit}
+use proofs.{◌≡◌, ◌⊎◌, ℕ, ◌+◌, ◌<◌, List, [], ◌∷◌, ◌++◌, length, map, get_or, refl, sym, ◌∙◌, arith}
+use proofs.{append-nil, ap, inl, Some, Ok, Err, zip, slice_get, Result, map_push, slice_get-get_or}
+use proofs.{same_Some, slice_get_within, LoadFault, At, memory_fault, in_section, each-length}
+use proofs.{same-ok, Declaration, declarations_of, UnitHeader, declarations_limit, tables_of, Die}
+use proofs.{entries_of, table_is, in_section-ok, UnitEntries, EntryBitmap, AddsOffsets, offsets_of}
+use proofs.{stored_unit, stored_of, CompilationUnit, stored_unit_of, all_offsets, dies_of}
+use proofs.{all_entries, ◌>>=◌, Faults, after-done, pass-none, pass-next, pass-end, pass-fault}
+use proofs.{done, exit}
 use Rattle.std.proofs.{lemmas.List.Concat.flat_map-append, lemmas.Slice.Zip.length-zip}
 use Rattle.std.proofs.lemmas.Slice.Zip.{get_or-zip}
 use Rattle.dwarf_units.proofs.TableLaws.{table_for}
@@ -16,19 +16,6 @@ use Rattle.dwarf_ranges.specs.Bases.{no_bases}
 use Rattle.dwarf_entries.proofs.passes.all_entries.Invariants.{EntriesSoFar}
 use Rattle.dwarf_bytes.specs.declared.fault.Section.TheVariants as names
 use Rattle.dwarf_entries.proofs.passes.all_entries.Goals as goal
-
-entries-none : {info : List ℕ} {headers : List UnitHeader} {tables : List (List Declaration)}
-    {bitmap : EntryBitmap} → EntriesSoFar info headers tables bitmap bitmap 0 []
-entries-none {bitmap = bitmap} =
-    record { made = []; passed = pass-none; stored_are = refl; marked_so = adds-none bitmap }
-
-offsets-push : (made : List CompilationUnit) (u : CompilationUnit)
-    → all_offsets made ++ offsets_of u.dies ≡ all_offsets (made ++ u ∷ [])
-offsets-push made u = rw (
-  map_push dies_of made u,
-  flat_map-append offsets_of (map dies_of made) (u.dies ∷ []),
-  append-nil (offsets_of u.dies),
-) refl
 
 module _ {info : List ℕ} {headers : List UnitHeader} {tables : List (List Declaration)}
     {bitmap marked : EntryBitmap} {index : ℕ} {stored : List UnitEntries}
@@ -69,6 +56,11 @@ module _ {info : List ℕ} {headers : List UnitHeader} {tables : List (List Decl
         let found = after-done (entries_of info header table) (stored_unit header)
         (stored_of unit) unit_read in
         let u : CompilationUnit = record { header = header; dies = found.0; bases = no_bases } in
+        let offsets : all_offsets made ++ offsets_of found.0 ≡ all_offsets (made ++ u ∷ []) = rw (
+          map_push dies_of made u,
+          flat_map-append offsets_of (map dies_of made) (found.0 ∷ []),
+          append-nil (offsets_of found.0),
+        ) refl in
         record {
           made = made ++ u ∷ [];
           passed = pass-next so_far.passed (header, table) u pair-at
@@ -80,7 +72,7 @@ module _ {info : List ℕ} {headers : List UnitHeader} {tables : List (List Decl
             so_far.stored_are,
             found.2,
           ) refl;
-          marked_so = rw (← offsets-push made u) (adds-more bitmap marked after (all_offsets made)
+          marked_so = rw (← offsets) (adds-more bitmap marked after (all_offsets made)
               (offsets_of found.0) so_far.marked_so (adds found.0 found.1));
         }
 
@@ -90,16 +82,12 @@ module _ {info : List ℕ} {headers : List UnitHeader} {tables : List (List Decl
     entries-fault bad =
         pass-fault so_far.passed (get_or headers index d, table) pair-at (grind arith)
 
-entries-end : {info : List ℕ} {headers : List UnitHeader} {tables : List (List Declaration)}
-    {bitmap marked : EntryBitmap} {index : ℕ} {stored : List UnitEntries}
-    → (so_far : EntriesSoFar info headers tables bitmap marked index stored)
-    → length headers ≤ index → all_entries info headers tables ≡ Ok so_far.made
-entries-end {headers = headers} {tables = tables} so_far past =
-    pass-end so_far.passed (omega (arith, past, length-zip headers tables))
-
 pub loop-header-init : goal.loop-header-init
-loop-header-init c = rw c.new-units.ensures.items
-    (record { so_far = λ tables all. entries-none; section = c.requires })
+loop-header-init c = rw c.new-units.ensures.items (record {
+  so_far = λ tables all.
+      record { made = []; passed = pass-none; stored_are = refl; marked_so = adds-none c.args.bitmap.now };
+  section = c.requires;
+})
 
 pub returns-in_err-number-clause-units : goal.returns-in_err-number-clause-units
 returns-in_err-number-clause-units c tables all =
@@ -138,6 +126,7 @@ pub returns-clause-units : goal.returns-clause-units
 returns-clause-units c tables all =
     let so_far = c.loop-header.invariant.so_far tables all in (
       so_far.made,
-      entries-end so_far c.loop-header-test.false,
+      pass-end so_far.passed
+          (omega (arith, c.loop-header-test.false, length-zip c.args.headers.now tables)),
       (so_far.stored_are, so_far.marked_so),
     )

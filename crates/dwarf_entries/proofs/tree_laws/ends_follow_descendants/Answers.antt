@@ -1,5 +1,5 @@
 use Rattle.dwarf_entries.proofs
-use proofs.{◌≡◌, ◌↔◌, ℕ, suc, ◌+◌, ◌<◌, List, take, drop, refl, ap, sym, ◌∙◌, arith, Ok, Contains}
+use proofs.{◌≡◌, ◌↔◌, ℕ, ◌+◌, ◌<◌, List, take, drop, refl, ap, sym, ◌∙◌, arith, Ok, Contains}
 use proofs.{count_by, same_Some, IsBelow, is_scope, Sections, CompilationUnit, Scope, ScopeSite}
 use proofs.{ParsedScope, first_number, all_scopes, IsEntry, sites-rise, sites-below, with-units}
 use proofs.{scope-at, contained, scopes_in, IsSiteAt, site_at, site-of-entry, AreUnitsIn, units-in}
@@ -8,7 +8,7 @@ use Rattle.dwarf_entries.proofs.tree_laws.ends_follow_descendants.Goals as goal
 -- The site of an entry.
 abbrev entry_site : (us : List CompilationUnit) (i k : ℕ) (scope : Scope) → IsEntry us i k scope
     → ScopeSite
-entry_site us i k scope at = site_at at.of at.die (drop (suc k) at.of.dies) scope.kind
+entry_site us i k scope at = site_at at.of at.die (drop (k + 1) at.of.dies) scope.kind
 
 abbrev entry_number : (us : List CompilationUnit) (i k : ℕ) (scope : Scope) → IsEntry us i k scope
     → ℕ

@@ -1,9 +1,9 @@
 use Rattle.dwarf_entries.proofs
-use proofs.{◌≡◌, ℕ, suc, ◌+◌, true, List, [], drop, take, refl, ap, arith, sym, ◌∙◌, Option, Some}
-use proofs.{None, Ok, Contains, is_some, count_by, slice_get_within, get_or_from_slice_get}
-use proofs.{each-length, ScopeKind, kind_of, is_scope, CompilationUnit, units_read, Scope}
-use proofs.{ScopeSite, ParsedScope, roots_from, first_number, all_sites, parse_scope, all_scopes}
-use proofs.{IsEntry, length-map, after-tree, with-units, scope-at, contained, scopes_in, site_at}
+use proofs.{◌≡◌, ℕ, ◌+◌, true, List, [], drop, take, refl, ap, arith, sym, ◌∙◌, Option, Some, None}
+use proofs.{Ok, Contains, is_some, count_by, slice_get_within, get_or_from_slice_get, each-length}
+use proofs.{ScopeKind, kind_of, is_scope, CompilationUnit, units_read, Scope, ScopeSite}
+use proofs.{ParsedScope, roots_from, first_number, all_sites, parse_scope, all_scopes, IsEntry}
+use proofs.{length-map, after-tree, with-units, scope-at, contained, scopes_in, site_at}
 use proofs.{site-of-entry, element}
 use Rattle.dwarf_entries.proofs.tree_laws.scopes_are_entries.Goals as goal
 
@@ -42,7 +42,7 @@ returns-clause-scopes c s tree us unit place of die h us_are of_is die_is is =
     by_kind None at is parsed parsed_are = absurd cc
     by_kind (Some kind) at is parsed parsed_are =
         let n : ℕ = first_number us unit + count_by is_scope (take place of.dies) in
-        let site = site_at of die (drop (suc place) of.dies) kind in
+        let site = site_at of die (drop (place + 1) of.dies) kind in
         let there = site-of-entry us unit place of die kind of_is die_is at in
         let within = slice_get_within (all_sites us) n site there in
         let size = each-length (parse_scope s us) [] (all_sites us) parsed parsed_are in

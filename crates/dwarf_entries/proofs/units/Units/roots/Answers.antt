@@ -1,6 +1,6 @@
 use Rattle.dwarf_entries.proofs
-use proofs.{◌+◌, ap, ◌∙◌, append-nil, arith, refl, Some, None, take_all, slice_get_read, roots_from}
-use proofs.{past-is, roots-next, ends-rise, seen-units, stored-at, stored-length}
+use proofs.{◌+◌, ap, ◌∙◌, append-nil, arith, Some, None, take_all, roots_from, past-is, roots-next}
+use proofs.{ends-rise, seen-units, stored-item, stored-length}
 use Rattle.dwarf_entries.proofs.units.Units.roots.Goals.{in-Some+in_ok-push, in_default}
 use Rattle.dwarf_entries.proofs.units.Units.roots.Goals as goal
 
@@ -9,8 +9,8 @@ loop-unit-preserved c =
     let first = c.loop-unit.first in
     let roots = c.loop-unit.roots.items in
     let are = seen-units c.self.invariant c.self.view_is c.deref-unit-items.ensures.value in
-    let here = stored-at _ c.args.self.now.units c.loop-unit.unit-index c.unit-item.result are
-    (slice_get_read _ _ _ _ refl c.loop-unit-test.true c.unit-item.is) in
+    let here = stored-item _ c.args.self.now.units are c.loop-unit.unit-index c.unit-item.result
+    c.loop-unit-test.true c.unit-item.is in
     let size = ap (λ n. first + n) c.len.ensures in
     let past = past-is here first (first + c.len.result) c.loop-unit.invariant.first_is size in
     let next = roots-next here first (first + c.len.result) c.loop-unit.invariant.first_is size in

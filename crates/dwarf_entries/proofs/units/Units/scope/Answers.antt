@@ -1,6 +1,6 @@
 use Rattle.dwarf_entries.proofs
-use proofs.{◌≡◌, ℕ, ◌+◌, List, length, map, get_or, refl, ap, ◌∙◌, arith, Ok, Some, slice_get}
-use proofs.{get_or_from_slice_get, slice_get-map, Cause, ◌>>=◌, Fails, ScopeEntry, Sections}
+use proofs.{[], Result, Err, ◌≡◌, ℕ, ◌+◌, List, length, map, get_or, refl, ap, ◌∙◌, arith, Ok, Some}
+use proofs.{slice_get, get_or_from_slice_get, slice_get-map, Cause, ◌>>=◌, ScopeEntry, Sections}
 use proofs.{sections_of, Bases, EntryNames, Range, ScopeNumbers, CompilationUnit, names_of}
 use proofs.{ParsedScope, ScopeSite, scope_at, scope_of_site, roots_from, IsMember, IsScopeSite}
 use proofs.{bases_of, AddsFacts, ObjectUnits, first-fails, exit, seen}
@@ -33,19 +33,14 @@ module _ (s : Sections) {us : List CompilationUnit} {before : List ParsedScope} 
     unfolding covers_of
     after-names = rw (names_are, bases_are, site.entry_is, site.budget_is) refl
 
-    -- The scope fails if its ranges cannot be read.
-    covers-fault : (cause : Cause)
-        → Fails cause (covers_by budget s bases entry.low_pc entry.high_pc entry.ranges)
-        → Fails cause (scope_at s us before p)
-    covers-fault cause bad = rw after-names (first-fails
-        (covers_by budget s bases entry.low_pc entry.high_pc entry.ranges) _ bad)
-
-    -- The data of the scope.
-    scope-is : (items : ℕ) (old new : List Range) → AddsRanges (Ok items) old new
+    -- The scope of a site, from the outcome of its ranges.
+    scope-adds : (r : Result ℕ Cause) (old new : List Range) → AddsRanges r old new
         (covers_by budget s bases entry.low_pc entry.high_pc entry.ranges)
-        → AddsFacts (roots_from 0 us) (Ok (scope_facts numbers entry names, items)) old new
-        (scope_at s us before p)
-    scope-is items old new (found, read, grown) =
+        → AddsFacts (roots_from 0 us) (r >>= λ items. Ok (scope_facts numbers entry names, items))
+        old new (scope_at s us before p)
+    scope-adds (Err cause) old new bad = rw after-names (first-fails
+        (covers_by budget s bases entry.low_pc entry.high_pc entry.ranges) _ bad)
+    scope-adds (Ok items) old new (found, read, grown) =
         let ending : numbers.number + numbers.inside + 1 ≡ length before + 1 + p.inside =
         omega (arith, site.number_is, site.descendants_are) in
         let whole = rw read at after-names in (
@@ -60,10 +55,10 @@ returns-in_err-items-clause-parsed c before p place =
     let are = seen c.self.invariant same in
     let us = c.args.self.now.units in
     rw (exit _ c.from_residual-in_err-items.ensures.1)
-    (covers-fault c.args.self.now.sections place c.in_ok-names.names
+    (scope-adds c.args.self.now.sections place c.in_ok-names.names
     (c.in_ok-names.ensures.names p.member (site-member c.args.self.now.sections place)) _
     (c.index-bases.ensures ∙ bases-there c.self.inside.bases.items us are.bases_are
-    c.args.numbers.unit p.member.unit place.unit_is _) c.in_err-items.field-0.0
+    c.args.numbers.unit p.member.unit place.unit_is _) (Err c.in_err-items.field-0.0) [] []
     (rw (ap (λ (v : ObjectUnits). v.sections) same) at c.in_err-items.ensures))
 
 pub returns-clause-parsed : goal.returns-clause-parsed
@@ -72,10 +67,10 @@ returns-clause-parsed c before p place =
     let are = seen c.self.invariant same in
     let us = c.args.self.now.units in
     rw c.facts.ensures
-    (scope-is c.args.self.now.sections place c.in_ok-names.names
+    (scope-adds c.args.self.now.sections place c.in_ok-names.names
     (c.in_ok-names.ensures.names p.member (site-member c.args.self.now.sections place)) _
     (c.index-bases.ensures ∙ bases-there c.self.inside.bases.items us are.bases_are
-    c.args.numbers.unit p.member.unit place.unit_is _) c.in_ok-items.items _ _
+    c.args.numbers.unit p.member.unit place.unit_is _) (Ok c.in_ok-items.items) _ _
     (rw (ap (λ (v : ObjectUnits). v.sections) same) at c.in_ok-items.ensures))
 
 pub returns-clause-budget : goal.returns-clause-budget

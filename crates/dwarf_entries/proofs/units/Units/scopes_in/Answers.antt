@@ -7,4 +7,4 @@ returns c u found =
     let k = c.index.result.now in
     let same = (seen c.self.invariant c.self.view_is).stored_are in
     c.len.ensures
-    ∙ (k.scopes.ok.0 ∙ sites-stored k u (stored-there _ _ _ k u same found c.index.ensures))
+    ∙ (k.scopes.ok.0 ∙ sites-stored k u (stored-there _ _ same _ k u found c.index.ensures))

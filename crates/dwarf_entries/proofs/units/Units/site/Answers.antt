@@ -13,8 +13,8 @@ index-place-requires c =
       arith,
       within,
       k.scopes.ok.0,
-      sites-stored k u.0 (stored-there _ _ _ k u.0
-          (seen c.self.invariant c.self.view_is).stored_are u.1 c.index-stored.ensures),
+      sites-stored k u.0 (stored-there _ _
+          (seen c.self.invariant c.self.view_is).stored_are _ k u.0 u.1 c.index-stored.ensures),
     )
 
 pub invariant_of-self : goal.invariant_of-self
@@ -28,7 +28,7 @@ returns-in-Err-clause-site c u found =
     let p = element (sites_in u u.dies) c.args.index (c.requires.index u found) in
     let k = c.index-stored.result.now in
     let r = site-read _ _ c.args.unit c.args.index u p.0 k _ (object-units _ _ c.self.view_is)
-    (stored-there _ _ _ k u are.stored_are found c.index-stored.ensures) found p.1
+    (stored-there _ _ are.stored_are _ k u found c.index-stored.ensures) found p.1
     c.index-place.ensures in
     c.at_item.ensures ∙ ap (λ (e : Cause). at_item names.DebugInfo e c.from-at.result)
     (again-memory c.in-Err.cause _ _ r.2
@@ -45,7 +45,7 @@ returns-clause-site c u found =
     let p = element (sites_in u u.dies) c.args.index (c.requires.index u found) in
     let k = c.index-stored.result.now in
     let r = site-read _ _ c.args.unit c.args.index u p.0 k _ (object-units _ _ c.self.view_is)
-    (stored-there _ _ _ k u are.stored_are found c.index-stored.ensures) found p.1
+    (stored-there _ _ are.stored_are _ k u found c.index-stored.ensures) found p.1
     c.index-place.ensures in
     rw p.1 (
       same-ok c.in-Ok.entry (scope_entry p.0.member.die p.0.kind)

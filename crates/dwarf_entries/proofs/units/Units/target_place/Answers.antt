@@ -26,8 +26,8 @@ returns-clause-leads c u at =
     let are = seen-units c.self.invariant c.self.view_is c.deref-2.ensures.value in
     let k = c.in_ok-start.field-0.now in
     let start = ap (λ (x : StoredUnit). x.header.start)
-    (stored-index c.deref-2.result.now us c.args.unit k are
-    (found-at _ _ c.args.unit k refl c.in_ok-start.ensures.lookup.3) u at) in
+    (stored-index c.deref-2.result.now us are c.args.unit k u
+    (found-at _ _ c.args.unit k refl c.in_ok-start.ensures.lookup.3) at) in
     let number = c.from-number.ensures in
     rw (← within-unit us c.args.unit (k.header.start + c.from-number.result) u c.args.reference
     c.if-reference-eq-DW_FORM_REF_ADDR.false at (omega (arith, start, number)))
