@@ -1,31 +1,20 @@
 -- References between entries (DWARF 5, 2.13 and 7.5.5) and the names of an entry (2.15, 3.3.8).
 use Rattle.std.specs.Prelude.{ℕ, zero, suc, ◌+◌, List, [], ◌∷◌, Option, Some, None, Result, Ok, Err}
 use Rattle.std.specs.Prelude.{◌==◌, if◌then◌else◌, find, ok_or, option_map, map, flat_map}
-use Rattle.dwarf_bytes.specs.declared.constants.TheConstants.{
-  DW_AT_LINKAGE_NAME,
-  DW_AT_NAME,
-  DW_FORM_LINE_STRP,
-  DW_FORM_REF_ADDR,
-  DW_FORM_STRING,
-  DW_FORM_STRP,
-}
-use Rattle.dwarf_bytes.specs.declared.fault.Cause.{Cause}
-use Rattle.dwarf_bytes.specs.declared.fault.Cause.TheVariants as causes
-use Rattle.dwarf_bytes.specs.declared.fault.Section.{Section}
-use Rattle.dwarf_bytes.specs.declared.fault.Section.TheVariants as sections
-use Rattle.dwarf_bytes.specs.declared.tables.TableKind.TheVariants.{StrOffsets}
-use Rattle.dwarf_bytes.specs.Bind.{◌>>=◌}
-use Rattle.dwarf_bytes.specs.Items.{reading}
-use Rattle.dwarf_bytes.specs.Numbers.{text_at}
-use Rattle.dwarf_ranges.specs.declared.bases.Table.{Table}
+use Rattle.dwarf_bytes.specs.declared.constants.TheConstants.{DW_AT_LINKAGE_NAME, DW_AT_NAME}
+use Rattle.dwarf_bytes.specs.declared.constants.TheConstants.{DW_FORM_LINE_STRP, DW_FORM_REF_ADDR}
+use Rattle.dwarf_bytes.specs.declared.constants.TheConstants.{DW_FORM_STRING, DW_FORM_STRP}
+use Rattle.dwarf_bytes.specs.{declared.fault.Cause.Cause, declared.fault.Section.Section}
+use Rattle.dwarf_bytes.specs.{declared.tables.TableKind.TheVariants.StrOffsets, Bind.◌>>=◌}
+use Rattle.dwarf_bytes.specs.{Items.reading, Numbers.text_at}
+use Rattle.dwarf_ranges.specs.{declared.bases.Table.Table, Bases.{item_at, optional}}
 use Rattle.dwarf_entries.specs.declared.origin_chains.EntryNames.{EntryNames}
-use Rattle.dwarf_entries.specs.declared.text_offset.TextOffset.{TextOffset}
-use Rattle.dwarf_units.specs.declared.attributes.AttributeValue.{AttributeValue}
-use Rattle.dwarf_units.specs.Entries.{Die, attribute}
-use Rattle.dwarf_walk.specs.Sections.{Sections}
-use Rattle.dwarf_walk.specs.References.{or_else, next_of}
-use Rattle.dwarf_entries.specs.Units.{CompilationUnit}
-use Rattle.dwarf_ranges.specs.Bases.{item_at, optional}
+use Rattle.dwarf_entries.specs.{declared.text_offset.TextOffset.TextOffset, Units.CompilationUnit}
+use Rattle.dwarf_units.specs.{declared.attributes.AttributeValue.AttributeValue, Entries.Die}
+use Rattle.dwarf_units.specs.Entries.{attribute}
+use Rattle.dwarf_walk.specs.{Sections.Sections, References.{or_else, next_of}}
+use Rattle.dwarf_bytes.specs.declared.fault.Cause.TheVariants as causes
+use Rattle.dwarf_bytes.specs.declared.fault.Section.TheVariants as sections
 
 -- An entry with its unit.
 pub record Member : Type 0 where

@@ -1,18 +1,13 @@
 -- The units of an object, each with its entries and its bases.
 use Rattle.std.specs.Prelude.{ℕ, List, [], ◌∷◌, Result, Ok, zip}
-use Rattle.dwarf_bytes.specs.declared.fault.LoadFault.{LoadFault}
-use Rattle.dwarf_bytes.specs.declared.fault.Section.TheVariants as names
-use Rattle.dwarf_bytes.specs.declared.format.Format.{Format}
-use Rattle.dwarf_bytes.specs.Bind.{◌>>=◌}
-use Rattle.dwarf_bytes.specs.Items.{At, each, with_offset}
-use Rattle.dwarf_bytes.specs.Refusals.{in_section}
+use Rattle.dwarf_bytes.specs.{declared.fault.LoadFault.LoadFault, declared.format.Format.Format}
+use Rattle.dwarf_bytes.specs.{Bind.◌>>=◌, Items.{At, each, with_offset}, Refusals.in_section}
 use Rattle.dwarf_forms.specs.Declarations.{Declaration}
-use Rattle.dwarf_units.specs.declared.unit_headers.UnitHeader.{UnitHeader}
-use Rattle.dwarf_units.specs.Units.{units_of, tables_of}
-use Rattle.dwarf_units.specs.Entries.{Die, entries_of}
+use Rattle.dwarf_units.specs.{declared.unit_headers.UnitHeader.UnitHeader, Units.units_of}
+use Rattle.dwarf_units.specs.{Units.tables_of, Entries.{Die, entries_of}}
 use Rattle.dwarf_walk.specs.Sections.{Sections}
-use Rattle.dwarf_ranges.specs.declared.bases.Bases.{Bases}
-use Rattle.dwarf_ranges.specs.Bases.{no_bases, bases_at}
+use Rattle.dwarf_ranges.specs.{declared.bases.Bases.Bases, Bases.{no_bases, bases_at}}
+use Rattle.dwarf_bytes.specs.declared.fault.Section.TheVariants as names
 
 -- A unit with its entries and with the bases that its root defines. The root is the first entry,
 -- if there is one.

@@ -2,9 +2,8 @@
 
 ghost use Rattle.std.specs.Prelude.{◌≡◌, ◌<◌, ◌++◌, ◌^◌, ℕ, List, length, IfOk, IfSome, IsSome};
 ghost use Rattle.std.specs.Prelude.{SomeIff};
-ghost use Rattle.dwarf_entries.specs.declared.calls.CallSite.{CallSite as Site};
-ghost use Rattle.dwarf_entries.specs.Scopes.{call_site, wide_index};
-ghost use Rattle.dwarf_entries.specs.Private.Shared.{IsInList, IsShort};
+ghost use Rattle.dwarf_entries.specs.{declared.calls.CallSite.CallSite as Site, Scopes.call_site};
+ghost use Rattle.dwarf_entries.specs.{Scopes.wide_index, Private.Shared.{IsInList, IsShort}};
 
 use dwarf_walk::narrow;
 use std::alloc::AllocError;

@@ -3,10 +3,8 @@
 ghost use Rattle.std.specs.Prelude.{◌≡◌, None, Some, IfSome, slice_get};
 ghost use Rattle.dwarf_bytes.specs.Refusals.{Gives};
 ghost use Rattle.dwarf_units.specs.declared.attributes.AttributeValue.{AttributeValue as Value};
-ghost use Rattle.dwarf_entries.specs.Units.{CompilationUnit};
-ghost use Rattle.dwarf_entries.specs.Names.{Member, names_of};
-ghost use Rattle.dwarf_entries.specs.Private.NameCache.{target_names};
-ghost use Rattle.dwarf_entries.specs.Private.Members.{IsMember};
+ghost use Rattle.dwarf_entries.specs.{Units.CompilationUnit, Names.{Member, names_of}};
+ghost use Rattle.dwarf_entries.specs.{Private.NameCache.target_names, Private.Members.IsMember};
 
 use crate::origin_chains::{EntryNames, REFERENCES_LIMIT, UnitEntry};
 use crate::units::Units;

@@ -3,11 +3,10 @@
 ghost use Rattle.std.specs.Prelude.{◌≡◌, ◌<◌, ◌+◌, ◌↔◌, ℕ, List, [], ◌∷◌, ◌++◌, Option, Some, Ok};
 ghost use Rattle.std.specs.Prelude.{true, map, take, drop, count_by, slice_get};
 ghost use Rattle.dwarf_units.specs.Entries.{Die, below, IsBelow};
-ghost use Rattle.dwarf_entries.specs.declared.scope.Scope.{Scope as StoredScope};
-ghost use Rattle.dwarf_walk.specs.ScopeEntries.{is_scope};
-ghost use Rattle.dwarf_entries.specs.Scopes.{own, own_of, Scope, Tree, tree_of};
-ghost use Rattle.dwarf_walk.specs.Sections.{Sections};
-ghost use Rattle.dwarf_entries.specs.Order.{AreInOrder, HasDataOf};
+ghost use Rattle.dwarf_entries.specs.{declared.scope.Scope.Scope as StoredScope, Scopes.own};
+ghost use Rattle.dwarf_entries.specs.{Scopes.{own_of, Scope, Tree, tree_of}, Order.AreInOrder};
+ghost use Rattle.dwarf_entries.specs.Order.{HasDataOf};
+ghost use Rattle.dwarf_walk.specs.{ScopeEntries.is_scope, Sections.Sections};
 
 pub use crate::tree_laws::{
     ends_follow_descendants, entries_are_contiguous, names_are_strings, offsets_rise,

@@ -1,8 +1,8 @@
 //! A cache of the names of reference targets. The origin chain after an entry is followed once for
 //! many references to the entry.
 
-ghost use Rattle.std.specs.Prelude.{◌≡◌, ◌==◌, ◌&&◌, ℕ, ◌<◌, length, None, Some, true, false};
-ghost use Rattle.std.specs.Prelude.{◌^◌, IfSome, OnOk, OnErr, SomeIff, MatchOption, if◌then◌else◌};
+ghost use Rattle.std.specs.Prelude.{◌≡◌, ◌==◌, ◌&&◌, ℕ, ◌<◌, length, None, Some, true, false, ◌^◌};
+ghost use Rattle.std.specs.Prelude.{IfSome, OnOk, OnErr, SomeIff, MatchOption, if◌then◌else◌};
 ghost use Rattle.dwarf_entries.specs.declared.origin_chains.EntryNames.{EntryNames as Names};
 ghost use Rattle.dwarf_entries.specs.Private.NameCache.{cached_names_of, slot_at, slot_of};
 ghost use Rattle.dwarf_entries.specs.Private.Narrow.{are_narrow};

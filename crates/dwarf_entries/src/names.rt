@@ -2,8 +2,8 @@
 
 ghost use Rattle.std.specs.Prelude.{◌≡◌};
 ghost use Rattle.dwarf_entries.specs.Names.{text_in, text_of};
-ghost use Rattle.dwarf_walk.specs.Sections.{sections_of};
 ghost use Rattle.dwarf_entries.specs.Private.StringSections.{AreStringSections};
+ghost use Rattle.dwarf_walk.specs.Sections.{sections_of};
 
 use crate::string_sections::{StringSection, StringSections};
 use crate::text_offset::TextOffset;

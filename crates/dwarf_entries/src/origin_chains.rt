@@ -3,10 +3,10 @@
 ghost use Rattle.std.specs.Prelude.{◌≡◌, ◌++◌, ◌∷◌, [], ℕ, List, Some, option_map, slice_get};
 ghost use Rattle.std.specs.Option.{option_or};
 ghost use Rattle.dwarf_bytes.specs.Refusals.{Gives};
-ghost use Rattle.dwarf_entries.specs.Units.{CompilationUnit};
-ghost use Rattle.dwarf_entries.specs.Names.{Member, chain_within, first_on, name_on, names_within};
-ghost use Rattle.dwarf_entries.specs.Private.Members.{IsMember, IsPlaceOf, IsRereadOf};
-ghost use Rattle.dwarf_entries.specs.Private.Members.{IsFirst, AreFirst, FindsFirst};
+ghost use Rattle.dwarf_entries.specs.{Units.CompilationUnit, Names.{Member, chain_within}};
+ghost use Rattle.dwarf_entries.specs.Names.{first_on, name_on, names_within};
+ghost use Rattle.dwarf_entries.specs.Private.Members.{IsMember, IsPlaceOf, IsRereadOf, IsFirst};
+ghost use Rattle.dwarf_entries.specs.Private.Members.{AreFirst, FindsFirst};
 
 use crate::names::text_of;
 use crate::references::UnitPlace;

@@ -1,10 +1,9 @@
 //! Resolution of references to entries (DWARF 5, 2.13 and 7.5.5).
 
 ghost use Rattle.std.specs.Prelude.{◌≡◌, ◌<◌, ◌≤◌, ◌⊎◌, Some, None, IfSome, MatchOption, length};
-ghost use Rattle.std.specs.Prelude.{slice_get, if◌then◌else◌};
-ghost use Rattle.std.specs.List.Sorted.{IsNonDecreasingBy, IsPartitionPoint};
-ghost use Rattle.dwarf_entries.specs.Units.{CompilationUnit};
-ghost use Rattle.dwarf_entries.specs.Names.{target_of};
+ghost use Rattle.std.specs.{Prelude.{slice_get, if◌then◌else◌}, List.Sorted.IsNonDecreasingBy};
+ghost use Rattle.std.specs.List.Sorted.{IsPartitionPoint};
+ghost use Rattle.dwarf_entries.specs.{Units.CompilationUnit, Names.target_of};
 ghost use Rattle.dwarf_entries.specs.Private.Members.{Finds, LeadsTo, IsWithin, member_in};
 
 use crate::units::Units;

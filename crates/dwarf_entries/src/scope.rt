@@ -2,8 +2,7 @@
 
 ghost use Rattle.std.specs.Prelude.{◌≡◌, IfOk};
 ghost use Rattle.dwarf_entries.specs.Scopes.{own_of, ranges_at, stmt_list_at, call_file_at};
-ghost use Rattle.dwarf_entries.specs.Scopes.{call_line_at};
-ghost use Rattle.dwarf_entries.specs.Private.Shared.{Packs};
+ghost use Rattle.dwarf_entries.specs.{Scopes.call_line_at, Private.Shared.Packs};
 
 use crate::calls::{CallSite, Calls};
 use crate::scopes::Scopes;

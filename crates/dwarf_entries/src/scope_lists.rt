@@ -2,8 +2,7 @@
 
 ghost use Rattle.std.specs.Prelude.{◌≡◌, ◌≤◌, ◌-◌, ℕ, [], List, length, take, drop, vec_capacity};
 ghost use Rattle.std.specs.Prelude.{None, Some, IfOk, MatchOption, slice_get};
-ghost use Rattle.dwarf_entries.specs.declared.scope.Root.{Root};
-ghost use Rattle.dwarf_entries.specs.Scopes.{scopes_of, ranges_at};
+ghost use Rattle.dwarf_entries.specs.{declared.scope.Root.Root, Scopes.{scopes_of, ranges_at}};
 ghost use Rattle.dwarf_entries.specs.Private.Shared.{ranges_start, scope_at_index, IsPushed};
 
 use crate::calls::CallSite;

@@ -1,7 +1,6 @@
 //! The subprograms and inlined subroutines of an object (DWARF 5, 3.3).
 
-ghost use Rattle.std.specs.Prelude.{◌≡◌, map, slice_get, nat_lt};
-ghost use Rattle.std.specs.List.{find};
+ghost use Rattle.std.specs.{Prelude.{◌≡◌, map, slice_get, nat_lt}, List.find};
 ghost use Rattle.std.specs.List.Sorted.{IsNonDecreasingBy};
 ghost use Rattle.dwarf_bytes.specs.Refusals.{Decodes};
 ghost use Rattle.dwarf_walk.specs.Sections.{sections_of};

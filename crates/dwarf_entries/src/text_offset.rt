@@ -1,8 +1,7 @@
 //! Locations of strings (DWARF 5, 7.5.5, class string).
 
 ghost use Rattle.std.specs.Prelude.{◌≡◌, true, false, MatchOption};
-ghost use Rattle.dwarf_entries.specs.Scopes.{text_by};
-ghost use Rattle.dwarf_entries.specs.Private.Narrow.{has_narrow_offset};
+ghost use Rattle.dwarf_entries.specs.{Scopes.text_by, Private.Narrow.has_narrow_offset};
 
 use dwarf_bytes::Section;
 

@@ -1,21 +1,18 @@
 //! Theorems about the result for a whole object.
 
 ghost use Rattle.std.specs.Prelude.{◌≡◌, ◌<◌, ◌≤◌, ◌↔◌, ℕ, List, Some, Ok, true, IfSome, All};
-ghost use Rattle.std.specs.Prelude.{Contains, map, length, slice_get, sum_by};
-ghost use Rattle.std.specs.List.{filter_map};
+ghost use Rattle.std.specs.{Prelude.{Contains, map, length, slice_get, sum_by}, List.filter_map};
 ghost use Rattle.dwarf_forms.specs.Declarations.{Declaration};
-ghost use Rattle.dwarf_units.specs.declared.unit_headers.UnitHeader.{UnitHeader};
-ghost use Rattle.dwarf_units.specs.Units.{headers_of, units_of};
-ghost use Rattle.dwarf_units.specs.Entries.{LocatedNode, Die, IsBelow, die_of, entries_of};
-ghost use Rattle.dwarf_entries.specs.declared.scope.Root.{Root};
-ghost use Rattle.dwarf_entries.specs.Units.{CompilationUnit, units_read};
-ghost use Rattle.dwarf_entries.specs.Scopes.{Scope, Tree, items_limit, roots_from, tree_of};
-ghost use Rattle.dwarf_walk.specs.ScopeEntries.{is_scope};
-ghost use Rattle.dwarf_walk.specs.Sections.{Sections};
-ghost use Rattle.dwarf_entries.specs.TreeLaws.{RiseBelow, ArePartsFrom, IsOfUnit};
+ghost use Rattle.dwarf_units.specs.{declared.unit_headers.UnitHeader.UnitHeader, Units.headers_of};
+ghost use Rattle.dwarf_units.specs.{Units.units_of, Entries.{LocatedNode, Die, IsBelow, die_of}};
+ghost use Rattle.dwarf_units.specs.Entries.{entries_of};
+ghost use Rattle.dwarf_entries.specs.{declared.scope.Root.Root, Units.CompilationUnit};
+ghost use Rattle.dwarf_entries.specs.{Units.units_read, Scopes.{Scope, Tree, items_limit}};
+ghost use Rattle.dwarf_entries.specs.{Scopes.{roots_from, tree_of}, TreeLaws.RiseBelow};
+ghost use Rattle.dwarf_entries.specs.TreeLaws.{ArePartsFrom, IsOfUnit, IsEntry, IsTextOf};
+ghost use Rattle.dwarf_entries.specs.TreeLaws.{AreContiguous, FillsUnit};
+ghost use Rattle.dwarf_walk.specs.{ScopeEntries.is_scope, Sections.Sections};
 ghost use Rattle.dwarf_ranges.specs.Ranges.{IsValidRange};
-ghost use Rattle.dwarf_entries.specs.TreeLaws.{IsEntry, IsTextOf, AreContiguous};
-ghost use Rattle.dwarf_entries.specs.TreeLaws.{FillsUnit};
 
 /// The offsets of the scopes are strictly increasing, and so are the offsets of the roots. All are
 /// within `.debug_info`.

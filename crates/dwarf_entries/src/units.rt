@@ -1,11 +1,9 @@
 //! The units of an object, with everything that is needed to look up their entries and names.
 
-ghost use Rattle.std.specs.Prelude.{◌≡◌, ◌<◌, ◌^◌, IfOk};
-ghost use Rattle.std.specs.List.Sorted.{IsNonDecreasingBy};
+ghost use Rattle.std.specs.{Prelude.{◌≡◌, ◌<◌, ◌^◌, IfOk}, List.Sorted.IsNonDecreasingBy};
 ghost use Rattle.dwarf_bytes.specs.Refusals.{Decodes, Builds};
 ghost use Rattle.dwarf_walk.specs.Sections.{sections_of};
-ghost use Rattle.dwarf_entries.specs.Units.{units_read};
-ghost use Rattle.dwarf_entries.specs.Scopes.{roots_from};
+ghost use Rattle.dwarf_entries.specs.{Units.units_read, Scopes.roots_from};
 ghost use Rattle.dwarf_entries.specs.Private.Passes.{number_of_scopes};
 
 use crate::name_cache::NameCache;

@@ -1,11 +1,9 @@
 -- Units after the walk over their entries, for the contracts of the passes.
-use Rattle.std.specs.Prelude.{◌≡◌, ℕ, ◌==◌, List, length, map, flat_map, sum_by}
-use Rattle.std.specs.List.{list_any}
+use Rattle.std.specs.{Prelude.{◌≡◌, ℕ, ◌==◌, List, length, map, flat_map, sum_by}, List.list_any}
 use Rattle.dwarf_units.specs.Entries.{Die}
 use Rattle.dwarf_walk.specs.declared.unit_entries.UnitEntries.{UnitEntries}
-use Rattle.dwarf_walk.specs.declared.entry_bitmap.EntryBitmap.{EntryBitmap}
-use Rattle.dwarf_walk.specs.EntryBitmap.{has_entry, offsets_of}
-use Rattle.dwarf_walk.specs.Stored.{StoredUnit, stored_unit, stored_of}
+use Rattle.dwarf_walk.specs.{declared.entry_bitmap.EntryBitmap.EntryBitmap, EntryBitmap.has_entry}
+use Rattle.dwarf_walk.specs.{EntryBitmap.offsets_of, Stored.{StoredUnit, stored_unit, stored_of}}
 use Rattle.dwarf_entries.specs.Units.{CompilationUnit}
 
 -- The number of scopes of the units of the program.

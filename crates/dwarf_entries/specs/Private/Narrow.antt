@@ -1,6 +1,5 @@
 -- Numbers of at most 32 bits, for the contracts of compact storage.
-use Rattle.std.specs.Prelude.{ℕ, ◌-◌, ◌^◌, ◌&&◌, Bool, true, Option, nat_lt}
-use Rattle.std.specs.Option.{option_map_or}
+use Rattle.std.specs.{Prelude.{ℕ, ◌-◌, ◌^◌, ◌&&◌, Bool, true, Option, nat_lt}, Option.option_map_or}
 use Rattle.dwarf_entries.specs.declared.origin_chains.EntryNames.{EntryNames}
 use Rattle.dwarf_entries.specs.declared.references.UnitPlace.{UnitPlace}
 use Rattle.dwarf_entries.specs.declared.text_offset.TextOffset.{TextOffset}

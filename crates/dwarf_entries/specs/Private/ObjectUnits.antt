@@ -1,14 +1,11 @@
 -- The units of an object, and what the program stores for them.
 use Rattle.std.specs.Prelude.{◌≡◌, List, [], map, Result, Ok, Err}
-use Rattle.dwarf_walk.specs.Sections.{Sections}
-use Rattle.dwarf_walk.specs.Private.Rereading.{IsReaderOf}
-use Rattle.dwarf_entries.specs.declared.units.Units.TheInside.{Inside}
-use Rattle.dwarf_bytes.specs.declared.fault.LoadFault.{LoadFault}
-use Rattle.dwarf_entries.specs.Units.{CompilationUnit, units_read}
-use Rattle.dwarf_entries.specs.Private.EntryOffsets.{AreStored, IsBitmapOf}
-use Rattle.dwarf_entries.specs.Private.NameCache.{IsCacheOf}
-use Rattle.dwarf_entries.specs.Private.Passes.{bases_of}
+use Rattle.dwarf_walk.specs.{Sections.Sections, Private.Rereading.IsReaderOf}
+use Rattle.dwarf_entries.specs.{declared.units.Units.TheInside.Inside, Units.CompilationUnit}
+use Rattle.dwarf_entries.specs.{Units.units_read, Private.EntryOffsets.{AreStored, IsBitmapOf}}
+use Rattle.dwarf_entries.specs.{Private.NameCache.IsCacheOf, Private.Passes.bases_of}
 use Rattle.dwarf_entries.specs.Private.StringSections.{AreStringSections}
+use Rattle.dwarf_bytes.specs.declared.fault.LoadFault.{LoadFault}
 
 -- The sections of an object, and its units.
 pub record ObjectUnits : Type 0 where

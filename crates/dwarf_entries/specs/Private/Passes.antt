@@ -1,30 +1,23 @@
 -- The results of the passes over all units, for their contracts.
-use Rattle.std.specs.Prelude.{◌≡◌, ◌⊎◌, ◌+◌, ◌-◌, ℕ, List, length, Option, Some, None}
-use Rattle.std.specs.Prelude.{Result, Ok, Err, map, flat_map, slice_get, sum_by, count_by, zip}
-use Rattle.std.specs.Prelude.{take}
-use Rattle.dwarf_bytes.specs.declared.fault.Section.TheVariants as names
-use Rattle.dwarf_bytes.specs.declared.fault.LoadFault.{LoadFault}
-use Rattle.dwarf_bytes.specs.declared.format.Format.{Format}
-use Rattle.dwarf_bytes.specs.Items.{At, with_offset, each}
-use Rattle.dwarf_bytes.specs.Refusals.{memory_fault, in_section}
+use Rattle.std.specs.Prelude.{◌≡◌, ◌⊎◌, ◌+◌, ◌-◌, ℕ, List, length, Option, Some, None, Result, Ok}
+use Rattle.std.specs.Prelude.{Err, map, flat_map, slice_get, sum_by, count_by, zip, take}
+use Rattle.dwarf_bytes.specs.{declared.fault.LoadFault.LoadFault, declared.format.Format.Format}
+use Rattle.dwarf_bytes.specs.{Items.{At, with_offset, each}, Refusals.{memory_fault, in_section}}
 use Rattle.dwarf_forms.specs.Declarations.{Declaration}
 use Rattle.dwarf_units.specs.declared.unit_headers.UnitHeader.{UnitHeader}
-use Rattle.dwarf_ranges.specs.declared.bases.Bases.{Bases}
-use Rattle.dwarf_walk.specs.declared.unit_entries.RootEntry.{RootEntry}
+use Rattle.dwarf_ranges.specs.{declared.bases.Bases.Bases, Bases.{no_bases, bases_by}}
+use Rattle.dwarf_walk.specs.{declared.unit_entries.RootEntry.RootEntry, Sections.Sections}
+use Rattle.dwarf_walk.specs.{declared.unit_entries.ScopeEntry.ScopeEntry, ScopeEntries.is_scope}
+use Rattle.dwarf_walk.specs.Stored.{scope_entry}
 use Rattle.dwarf_entries.specs.declared.scope.ScopeFacts.{ScopeFacts}
 use Rattle.dwarf_entries.specs.declared.scope_lists.ScopeLists.{ScopeLists}
 use Rattle.dwarf_entries.specs.declared.origin_chains.EntryNames.{EntryNames}
 use Rattle.dwarf_entries.specs.declared.unit_scopes.ScopeNumbers.{ScopeNumbers}
-use Rattle.dwarf_walk.specs.Sections.{Sections}
-use Rattle.dwarf_entries.specs.Units.{CompilationUnit, unit_of, with_bases}
-use Rattle.dwarf_ranges.specs.Bases.{no_bases, bases_by}
-use Rattle.dwarf_entries.specs.Scopes.{ParsedScope, ScopeSite, items_limit, sites_in}
-use Rattle.dwarf_entries.specs.Scopes.{roots_from, stmt_list_by_number, scopes_of, scope_at}
-use Rattle.dwarf_entries.specs.Scopes.{stmt_list_of}
-use Rattle.dwarf_walk.specs.declared.unit_entries.ScopeEntry.{ScopeEntry}
-use Rattle.dwarf_walk.specs.ScopeEntries.{is_scope}
-use Rattle.dwarf_walk.specs.Stored.{scope_entry}
+use Rattle.dwarf_entries.specs.{Units.{CompilationUnit, unit_of, with_bases}, Scopes.ParsedScope}
+use Rattle.dwarf_entries.specs.Scopes.{ScopeSite, items_limit, sites_in, roots_from}
+use Rattle.dwarf_entries.specs.Scopes.{stmt_list_by_number, scopes_of, scope_at, stmt_list_of}
 use Rattle.dwarf_entries.specs.Private.Shared.{AreConsecutive}
+use Rattle.dwarf_bytes.specs.declared.fault.Section.TheVariants as names
 
 -- The result of a pass, related to the outcome, or the fault of the outcome. The call may also fail
 -- because memory ran out.

@@ -1,8 +1,6 @@
 -- The sections that contain strings (DWARF 5, 7.5.5), for the contracts of names.
 use Rattle.std.specs.Prelude.{◌≡◌, ℕ, List, Result, Ok}
-use Rattle.dwarf_bytes.specs.declared.fault.ReadFault.{ReadFault}
-use Rattle.dwarf_bytes.specs.Bind.{◌>>=◌}
-use Rattle.dwarf_bytes.specs.Numbers.{text_at}
+use Rattle.dwarf_bytes.specs.{declared.fault.ReadFault.ReadFault, Bind.◌>>=◌, Numbers.text_at}
 use Rattle.dwarf_entries.specs.declared.string_sections.StringSections.{StringSections}
 use Rattle.dwarf_walk.specs.Sections.{Sections}
 
