@@ -4,7 +4,10 @@ pub use Rattle.dwarf_bytes.proofs.{Numbers.Advance.{bind_ok, chosen}, Numbers.Mo
 pub use Rattle.dwarf_bytes.specs.{Bind.◌>>=◌, Items.{At, Lists, with_offset}, Refusals.Fails}
 pub use Rattle.dwarf_bytes.specs.Refusals.{at_item, in_section, memory_fault}
 pub use Rattle.dwarf_bytes.specs.declared.constants.TheConstants.{DW_AT_LINKAGE_NAME, DW_AT_NAME}
-pub use Rattle.dwarf_bytes.specs.{declared.fault.Cause.Cause, declared.fault.LoadFault.LoadFault}
+pub use Rattle.dwarf_bytes.specs.declared.fault.Cause.{Cause}
+pub use Rattle.dwarf_bytes.specs.declared.fault.Cause.TheVariants.{Reference}
+pub use Rattle.dwarf_bytes.specs.declared.fault.LoadFault.{LoadFault}
+pub use Rattle.dwarf_bytes.specs.declared.fault.Section.TheVariants.{DebugAbbrev, DebugInfo}
 pub use Rattle.dwarf_bytes.specs.declared.format.Format.{Format}
 unfoldable pub use Rattle.dwarf_bytes.specs.Items.{each_from}
 pub use Rattle.dwarf_entries.specs.Names.{Member, first_on, members_of, name_on, names_of}
@@ -50,12 +53,12 @@ pub use Rattle.dwarf_walk.specs.declared.unit_entries.ScopeEntry.{ScopeEntry}
 pub use Rattle.dwarf_walk.specs.declared.unit_entries.UnitEntries.{UnitEntries}
 pub use Rattle.std.proofs.Common.{All, Bool, Contains, Err, List, None, Ok, Option, Result, Some}
 pub use Rattle.std.proofs.Common.{[], ap, append-nil, append_assoc, arith, cond, count_by, drop}
-pub use Rattle.std.proofs.Common.{false, find, get_or, inl, inr, is_some, length, length-append}
+pub use Rattle.std.proofs.Common.{false, get_or, inl, inr, is_some, length, length-append}
 pub use Rattle.std.proofs.Common.{length-take, map, nat_le, nat_lt, ok_or, option_map, refl, rules}
 pub use Rattle.std.proofs.Common.{slice_get, subst, suc, sym, take, true, zero, zip, ℕ, ◌++◌, ◌+◌}
 pub use Rattle.std.proofs.Common.{◌-◌, ◌<◌, ◌==◌, ◌||◌, ◌↔◌, ◌∙◌, ◌∷◌, ◌≡◌, ◌≤◌, ◌⊎◌}
 pub use Rattle.std.proofs.{lemmas.Bool.{cases_lt, leb-false, leb-true}, lemmas.Grind.common_steps}
-pub use Rattle.std.proofs.lemmas.List.{length-map, map_push, take_all, take_more}
+pub use Rattle.std.proofs.lemmas.List.{length-drop, length-map, map_push, take_all, take_more}
 pub use Rattle.std.proofs.lemmas.List.Elements.{All-cons, All-contains, All-map, All-nil}
 pub use Rattle.std.proofs.{lemmas.List.Elements.All-weaker, lemmas.List.Folds.find_at}
 pub use Rattle.std.proofs.lemmas.List.Kept.{AllPairs-cons}
@@ -64,5 +67,5 @@ pub use Rattle.std.proofs.lemmas.List.Sums.{count_by_more_yes, sum_by-cons, sum_
 pub use Rattle.std.proofs.{lemmas.List.Sums.sum_by_more, lemmas.Option.get_or_from_slice_get}
 pub use Rattle.std.proofs.lemmas.Option.{same_Some, slice_get-get_or, slice_get-map, slice_get_read}
 pub use Rattle.std.proofs.lemmas.Option.{slice_get_within}
-pub use Rattle.std.specs.{List.{AllPairs, list_any, prefix_len}, List.Sorted.IsNonDecreasingBy}
-pub use Rattle.std.specs.{List.Sorted.IsPartitionPoint, Option.option_or}
+pub use Rattle.std.specs.List.{AllPairs, find, list_any, prefix_len}
+pub use Rattle.std.specs.{List.Sorted.{IsNonDecreasingBy, IsPartitionPoint}, Option.option_or}

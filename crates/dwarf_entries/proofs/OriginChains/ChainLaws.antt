@@ -1,16 +1,16 @@
 -- The iterations of the loop that follows an origin chain, and the strings of the names that it
 -- finds.
 use Rattle.dwarf_entries.proofs.Common
-use Common.{◌≡◌, ℕ, zero, suc, ◌+◌, List, [], ◌∷◌, ◌++◌, refl, sym, ap, ◌∙◌, arith, append_assoc}
-use Common.{Option, Some, None, Result, Ok, Err, slice_get, option_map, ◌-◌, option_or, Cause}
-use Common.{◌>>=◌, AttributeValue, NamedEntry, UnitPlace, attribute, CompilationUnit, Member}
-use Common.{target_of, chain_within, first_on, IsMember, IsPlaceOf, Finds}
+use Common.{◌≡◌, ℕ, zero, suc, ◌+◌, List, [], ◌∷◌, ◌++◌, refl, sym, ap, ◌∙◌, arith, Option, Some}
+use Common.{None, Result, Ok, Err, slice_get, option_map, ◌-◌, option_or, Cause, ◌>>=◌}
+use Common.{AttributeValue, NamedEntry, UnitPlace, CompilationUnit, Member, target_of, chain_within}
+use Common.{IsMember, Reference, append_assoc, attribute, first_on, IsPlaceOf, Finds}
+use Rattle.dwarf_entries.specs.{Names.of_member, Private.Members.{IsFirst, AreFirst, FindsFirst}}
 use Rattle.dwarf_entries.specs.declared.origin_chains.UnitAttribute.{UnitAttribute}
 use Rattle.dwarf_entries.specs.declared.origin_chains.UnitEntry.{UnitEntry}
-use Rattle.dwarf_entries.specs.{declared.origin_chains.FirstNames.FirstNames, Names.of_member}
-use Rattle.dwarf_entries.specs.Private.Members.{IsFirst, AreFirst, FindsFirst}
+use Rattle.dwarf_entries.specs.declared.origin_chains.FirstNames.{FirstNames}
 use Rattle.dwarf_walk.specs.References.{or_else, next_of}
-use Rattle.dwarf_bytes.specs.declared.fault.Cause.TheVariants as causes
+use Rattle.dwarf_bytes.specs.declared.fault.Cause.TheVariants.{OriginDepth}
 
 -- ---- the first attribute with a name
 
@@ -69,7 +69,7 @@ ended units zero last is = rw (is, chain_within) refl
 ended units (suc left) last is = rw (is, chain_within) refl
 
 pub stopped : (units : List CompilationUnit) (last : Member) (reference : AttributeValue)
-    → next_of last.die ≡ Some reference → chain_within zero units last ≡ Err causes.OriginDepth
+    → next_of last.die ≡ Some reference → chain_within zero units last ≡ Err OriginDepth
 unfolding chain_within
 stopped units last reference is = rw (is, chain_within) refl
 
@@ -109,8 +109,8 @@ module _ {units : List CompilationUnit} {remaining : ℕ} {m : Member} {left : �
         rest-is _ (rw (one, ← target_is) (stepped units after so_far.last reference
         (next-is (Some reference) is)))
 
-    pub followed-deep : left ≡ 0 → chain_within remaining units m ≡ Err causes.OriginDepth
-    followed-deep none = rest-is (Err causes.OriginDepth)
+    pub followed-deep : left ≡ 0 → chain_within remaining units m ≡ Err OriginDepth
+    followed-deep none = rest-is (Err OriginDepth)
         (rw none (stopped units so_far.last reference (next-is (Some reference) is)))
 
     module _ (to : Option UnitPlace) (finds : (u : CompilationUnit) → slice_get units found.unit
@@ -122,8 +122,8 @@ module _ {units : List CompilationUnit} {remaining : ℕ} {m : Member} {left : �
       target-there place there = (rw there at finds) so_far.last.unit so_far.at.unit_is
 
       pub followed-lost : (left ≡ 0 → ⊥) → to ≡ None
-          → chain_within remaining units m ≡ Err causes.Reference
-      followed-lost some none = followed-on (left - 1) (Err causes.Reference) (omega (arith, some))
+          → chain_within remaining units m ≡ Err Reference
+      followed-lost some none = followed-on (left - 1) (Err Reference) (omega (arith, some))
           ((rw none at finds) so_far.last.unit so_far.at.unit_is)
 
       pub followed-next : (after : ℕ) (place : UnitPlace) (next : UnitEntry) (more : FirstNames)

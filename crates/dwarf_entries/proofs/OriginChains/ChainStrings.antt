@@ -1,11 +1,11 @@
 -- The names of an entry: the strings of the first names of its origin chain, and the cache of the
 -- names of reference targets.
 use Rattle.dwarf_entries.proofs.Common
-use Common.{◌≡◌, ℕ, List, refl, sym, suc, Bool, true, false, ◌==◌, ◌∙◌, arith, Option, Result, Ok}
-use Common.{Err, Some, None, DW_AT_LINKAGE_NAME, DW_AT_NAME, Cause, ◌>>=◌, TextOffset, EntryNames}
-use Common.{Sections, CompilationUnit, Member, chain_within, name_on, target_of, names_of}
-use Common.{references_limit, slot_at, IsCacheOf, IsMember, member_in, AttributeValue, attribute}
-use Common.{NamedEntry, NameCache, UnitPlace}
+use Common.{◌≡◌, ℕ, List, refl, sym, suc, Bool, true, ◌==◌, ◌∙◌, arith, Option, Result, Ok, Err}
+use Common.{Some, None, DW_AT_LINKAGE_NAME, DW_AT_NAME, Cause, ◌>>=◌, EntryNames, Sections}
+use Common.{CompilationUnit, Member, chain_within, target_of, names_of, IsMember, member_in}
+use Common.{AttributeValue, NamedEntry, UnitPlace, false, TextOffset, name_on, references_limit}
+use Common.{slot_at, IsCacheOf, NameCache, attribute}
 use Rattle.std.proofs.Common.{◌&&◌, if◌then◌else◌}
 use Rattle.dwarf_entries.specs.Private.NameCache.{CachedNames, slot_of, second_names, target_names}
 use Rattle.dwarf_entries.specs.{Private.Members.LeadsTo, Private.Narrow.are_narrow}

@@ -2,18 +2,17 @@
 use Rattle.dwarf_entries.proofs.Common
 use Common.{◌≡◌, ◌⊎◌, inl, inr, ℕ, zero, suc, ◌+◌, ◌<◌, ◌≤◌, List, [], ◌∷◌, length, map, get_or}
 use Common.{Bool, true, ◌==◌, refl, sym, ap, ◌∙◌, arith, Option, Some, None, Err, find, slice_get}
-use Common.{option_map, ok_or, option_or, IsNonDecreasingBy, IsPartitionPoint, cases_lt}
-use Common.{slice_get-get_or, slice_get_within, AttributeValue, Die, RiseWithin, UnitEntries}
-use Common.{StoredUnit, Sections, CompilationUnit, Member, members_of, target_of, AreStored}
-use Common.{IsWithin, member_in}
+use Common.{option_map, option_or, slice_get-get_or, slice_get_within, AttributeValue, Die}
+use Common.{RiseWithin, UnitEntries, StoredUnit, Sections, CompilationUnit, Member, target_of}
+use Common.{AreStored, member_in, Reference, ok_or, cases_lt, IsNonDecreasingBy, IsPartitionPoint}
+use Common.{members_of, IsWithin}
 use Rattle.std.proofs.{Common.{eq-eqb, option_to_list}, lemmas.Bool.ne_eqb}
 use Rattle.std.proofs.lemmas.List.Folds.{find-append}
-use Rattle.dwarf_bytes.specs.declared.constants.TheConstants.{DW_FORM_REF_ADDR}
 use Rattle.dwarf_entries.specs.Names.{member_at}
+use Rattle.dwarf_bytes.specs.declared.constants.TheConstants.{DW_FORM_REF_ADDR}
 use Rattle.dwarf_entries.proofs.{UnitPasses.PassLaws.element, UnitPasses.UnitLaws.stored-at}
 use Rattle.dwarf_entries.proofs.UnitPasses.UnitLaws.{stored-index, stored-length, AreUnitsIn}
 use Rattle.dwarf_entries.proofs.UnitPasses.UnitLaws.{dies-rise}
-use Rattle.dwarf_bytes.specs.declared.fault.Cause.TheVariants as causes
 
 -- ---- the entry at an offset of a unit
 
@@ -61,7 +60,7 @@ or-none o = grind arith
 -- The entry at an offset, in the unit at an index.
 pub member-is : (us : List CompilationUnit) (n offset : ℕ) (u : CompilationUnit)
     → slice_get us n ≡ Some u → member_in us n offset
-    ≡ ok_or (option_map (member_of u) (die_at u offset)) causes.Reference
+    ≡ ok_or (option_map (member_of u) (die_at u offset)) Reference
 member-is us n offset u is = rw (is, find-units u [] offset, or-none) refl
 
 -- ---- the unit that contains an offset
@@ -145,7 +144,7 @@ module _ {s : Sections} {us : List CompilationUnit} (are : AreUnitsIn s us) wher
     anywhere n offset search_is u reference form number =
         let parts = search_is ends-rise in
         let all : member_at (members_of us) offset ≡ member_in us n offset =
-        ap (λ (o : Option Member). ok_or o causes.Reference) (first-past n offset
+        ap (λ (o : Option Member). ok_or o Reference) (first-past n offset
         (λ i v found lt. let k = end-at i v found in
         omega (arith, parts.0 i k.0 (omega arith) lt, k.2))
         (λ i v found le. let k = end-at i v found in omega (arith, parts.1 i k.0 le k.1, k.2))) in
@@ -155,7 +154,7 @@ module _ {s : Sections} {us : List CompilationUnit} (are : AreUnitsIn s us) wher
 
     pub outside : (n offset : ℕ) (k : UnitEntries) → slice_get stored n ≡ Some k
         → (offset < k.header.start) ⊎ (k.header.end ≤ offset)
-        → member_in us n offset ≡ Err causes.Reference
+        → member_in us n offset ≡ Err Reference
     outside n offset k found out =
         let at = stored-at stored us same n k found in
         let u = at.unit in

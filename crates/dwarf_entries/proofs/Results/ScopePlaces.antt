@@ -3,10 +3,10 @@
 use Rattle.dwarf_entries.proofs.Common
 use Common.{◌≡◌, ℕ, suc, ◌+◌, ◌<◌, ◌≤◌, List, [], ◌∷◌, length, get_or, refl, ap, arith, Some}
 use Common.{slice_get, is_some, Ok, length-map, slice_get-get_or, slice_get_within, each-length}
-use Common.{CompilationUnit, AreNumbered, AreInOrder, Scope, ScopeSite, ParsedScope, Tree, tree_of}
-use Common.{parse_scope, all_sites, Sections}
-use Rattle.std.proofs.lemmas.List.Elements.{recursion_from_All}
+use Common.{CompilationUnit, Scope, ScopeSite, ParsedScope, Tree, tree_of, parse_scope, all_sites}
+use Common.{Sections, AreNumbered, AreInOrder}
 use Rattle.dwarf_entries.specs.Order.{AreNested}
+use Rattle.std.proofs.lemmas.List.Elements.{recursion_from_All}
 use Rattle.dwarf_entries.proofs.Results.SiteOrder.{sites-below, in-unit-of, before-later}
 use Rattle.dwarf_entries.proofs.{Results.BelowLaws.ends-within, Results.TreeParts.after-tree}
 use Rattle.dwarf_entries.proofs.Results.TreeParts.{scope-at, scopes_in}

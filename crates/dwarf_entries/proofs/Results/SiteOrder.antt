@@ -1,10 +1,10 @@
 -- The order of scope sites and of their entries.
 use Rattle.dwarf_entries.proofs.Common
 use Common.{◌≡◌, ◌⊎◌, ℕ, zero, suc, ◌+◌, ◌<◌, ◌≤◌, cond, List, [], ◌∷◌, take, drop, ap, ◌∙◌, arith}
-use Common.{◌↔◌, refl, Some, slice_get, is_some, count_by, nat_lt, prefix_len, sum_by-take-le}
-use Common.{count_by_more_yes, get_or_from_slice_get, slice_get_within, Die, below, IsBelow}
-use Common.{RiseWithin, is_scope, Sections, CompilationUnit, ScopeSite, first_number, common_steps}
-use Rattle.std.proofs.{lemmas.List.take-take, lemmas.List.Sums.sum_by-take-drop}
+use Common.{◌↔◌, refl, Some, slice_get, is_some, count_by, nat_lt, get_or_from_slice_get}
+use Common.{slice_get_within, Die, below, IsBelow, RiseWithin, is_scope, Sections, CompilationUnit}
+use Common.{ScopeSite, first_number, prefix_len, sum_by-take-le, count_by_more_yes, common_steps}
+use Rattle.std.proofs.{lemmas.List.Sums.sum_by-take-drop, lemmas.List.take-take}
 use Rattle.dwarf_entries.proofs.OriginChains.ReferenceLaws.{within-le}
 use Rattle.dwarf_entries.proofs.Results.BelowLaws.{counted-rises, scopes-between}
 use Rattle.dwarf_entries.proofs.ScopePasses.SiteLaws.{IsSiteAt, first-next}

@@ -1,16 +1,15 @@
 -- The units and scopes that a result was read from.
 use Rattle.dwarf_entries.proofs.Common
 use Common.{◌≡◌, ℕ, ◌+◌, List, [], length, take, map, get_or, ap, sym, ◌∙◌, subst, arith}
-use Common.{length-take, refl, Result, Ok, Some, All, Contains, slice_get, All-map}
-use Common.{slice_get-get_or, slice_get_within, Cause, with_offset, in_section, bind_ok, same-ok}
-use Common.{in_section-ok, Sections, EntryNames, CompilationUnit, units_read, names_of, Tree, Scope}
-use Common.{ScopeSite, ParsedScope, scope_at, tree_of, scope_of_site, roots_from, stmt_list_of}
-use Common.{parse_scope, all_sites, all_scopes}
-use Rattle.dwarf_ranges.specs.Ranges.{Covering}
+use Common.{length-take, refl, Result, Ok, Some, All, Contains, slice_get, slice_get-get_or}
+use Common.{slice_get_within, Cause, in_section, bind_ok, same-ok, in_section-ok, Sections}
+use Common.{EntryNames, CompilationUnit, units_read, names_of, Tree, Scope, ScopeSite, ParsedScope}
+use Common.{scope_at, tree_of, roots_from, stmt_list_of, parse_scope, all_sites, all_scopes}
+use Common.{DebugInfo, All-map, with_offset, scope_of_site}
 use Rattle.dwarf_entries.specs.Scopes.{covers_there}
+use Rattle.dwarf_ranges.specs.Ranges.{Covering}
 use Rattle.dwarf_entries.proofs.ScopePasses.SiteLaws.{IsSiteAt, site-at}
 use Rattle.dwarf_entries.proofs.UnitPasses.PassLaws.{each-at, from-map}
-use Rattle.dwarf_bytes.specs.declared.fault.Section.TheVariants as names
 
 -- ---- the passes of a read
 
@@ -24,9 +23,9 @@ pub after-tree : (s : Sections) (tree : Tree) → tree_of s ≡ Ok tree → (P :
 unfolding tree_of
 after-tree s tree h P next =
     let a = bind_ok (units_read s) _ tree h in
-    let b = bind_ok (in_section names.DebugInfo (all_scopes s a.0)) _ tree a.2 in
+    let b = bind_ok (in_section DebugInfo (all_scopes s a.0)) _ tree a.2 in
     subst P (same-ok (tree_from a.0 b.0) tree b.2)
-    (next a.0 b.0 a.1 (in_section-ok names.DebugInfo (all_scopes s a.0) b.0 b.1))
+    (next a.0 b.0 a.1 (in_section-ok DebugInfo (all_scopes s a.0) b.0 b.1))
 
 pub with-units : (s : Sections) (us : List CompilationUnit) (tree : Tree) → units_read s ≡ Ok us
     → tree_of s ≡ Ok tree → (P : Tree → Type 0)

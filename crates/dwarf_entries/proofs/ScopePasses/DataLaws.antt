@@ -3,7 +3,7 @@ use Rattle.dwarf_entries.proofs.Common
 use Common.{◌≡◌, ℕ, zero, suc, ◌+◌, List, [], ◌∷◌, refl, ap, sym, ◌∙◌, arith, Option, Some, None}
 use Common.{length, slice_get, option_map, map, slice_get-map, same_Some, Scope, Own, own, own_of}
 use Common.{AreNumbered, AreInOrder}
-use Rattle.dwarf_entries.specs.{declared.scope.Scope.Scope as StoredScope, Order.HasDataOf}
+use Rattle.dwarf_entries.specs.{Order.HasDataOf, declared.scope.Scope.Scope as StoredScope}
 
 -- The number of the scope at an index.
 number-at : (first total i : ℕ) (ss : List Scope) (s : Scope) → AreNumbered first total ss

@@ -1,13 +1,14 @@
 -- The scopes of a result in the lists that they share, and one more scope after them.
 use Rattle.dwarf_entries.proofs.Common
 use Common.{◌≡◌, ℕ, zero, suc, ◌-◌, List, [], ◌∷◌, length, take, drop, refl, ap, sym, ◌∙◌, arith}
-use Common.{◌+◌, ◌≤◌, ◌++◌, length-append, slice_get, option_map, None, CallSite, Range, Root}
-use Common.{scopes_from, Scope, facts_of, IsPushed, common_steps, take_all, ScopeFacts, ScopeLists}
-use Rattle.dwarf_entries.specs.{declared.scope.Scope.Scope as StoredScope, Scopes.scope_of}
-use Rattle.dwarf_entries.specs.Scopes.{call_site, scopes_of, wide_index}
+use Common.{◌+◌, ◌≤◌, ◌++◌, length-append, slice_get, option_map, None, Range, Root, Scope}
+use Common.{take_all, CallSite, scopes_from, facts_of, IsPushed, ScopeFacts, ScopeLists}
+use Common.{common_steps, length-drop}
+use Rattle.dwarf_entries.specs.Scopes.{scope_of, call_site, scopes_of, wide_index}
 use Rattle.dwarf_entries.specs.Private.Shared.{ranges_start, IsInList, AreConsecutive}
 use Rattle.dwarf_entries.specs.declared.calls.Calls.{Calls}
-use Rattle.std.proofs.lemmas.List.{take-append-le, drop-append-le, get_or_append_left, length-drop}
+use Rattle.dwarf_entries.specs.declared.scope.Scope.{Scope as StoredScope}
+use Rattle.std.proofs.lemmas.List.{take-append-le, drop-append-le, get_or_append_left}
 use Rattle.std.proofs.{lemmas.Option.unwrap_or-slice_get, Math.Seq.drop-append_seam}
 
 -- ---- the scope at an index

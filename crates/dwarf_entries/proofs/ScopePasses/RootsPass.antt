@@ -1,17 +1,16 @@
 -- The roots of units: the loop that returns them, their order, and the root of a scope.
 use Rattle.dwarf_entries.proofs.Common
 use Common.{◌≡◌, ℕ, zero, suc, ◌+◌, ◌<◌, ◌≤◌, List, [], ◌∷◌, ◌++◌, length, take, get_or, refl, ap}
-use Common.{sym, ◌∙◌, arith, append_assoc, append-nil, Bool, Option, Some, None, count_by}
-use Common.{slice_get, nat_lt, IsNonDecreasingBy, IsPartitionPoint, take_more, sum_by-cons}
-use Common.{sum_by-take-le, slice_get_within, get_or_from_slice_get, Die, UnitEntries, is_scope}
+use Common.{sym, ◌∙◌, arith, append-nil, Bool, Option, Some, None, count_by, slice_get, nat_lt}
+use Common.{sum_by-cons, slice_get_within, get_or_from_slice_get, Die, UnitEntries, is_scope}
 use Common.{StoredUnit, Root, CompilationUnit, root_of, roots_from, stmt_list_of, number_of_scopes}
-use Common.{first_number, ArePartsFrom, find_at}
+use Common.{first_number, find, append_assoc, take_more, sum_by-take-le, find_at, IsNonDecreasingBy}
+use Common.{IsPartitionPoint, ArePartsFrom}
 use Rattle.std.proofs.{lemmas.List.Sums.position_or_len_is, lemmas.Bool.{lt-ltb, le-ltb}}
-use Rattle.dwarf_walk.specs.{declared.unit_entries.RootEntry.RootEntry, Stored.root_in}
 use Rattle.dwarf_entries.specs.Scopes.{stmt_list_by_number}
+use Rattle.dwarf_walk.specs.{declared.unit_entries.RootEntry.RootEntry, Stored.root_in}
 use Rattle.dwarf_entries.proofs.ScopePasses.SiteLaws.{sites-count, first-next}
 use Rattle.dwarf_entries.proofs.{UnitPasses.RereadLaws.sites-stored, UnitPasses.UnitLaws.StoredFor}
-use Rattle.std.specs.List.{find}
 
 -- The root of a unit, if there is one.
 abbrev pub root_list : ℕ → ℕ → Option RootEntry → List Root

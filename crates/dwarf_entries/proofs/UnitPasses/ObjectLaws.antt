@@ -1,10 +1,10 @@
 -- What the program stores for the units of an object.
 use Rattle.dwarf_entries.proofs.Common
-use Common.{◌≡◌, List, UnitEntries, NameCache, AreStored, IsCacheOf, ObjectUnits}
-use Rattle.dwarf_walk.specs.declared.entry_reader.EntryReader.{EntryReader}
-use Rattle.dwarf_walk.specs.Private.Rereading.{IsReaderOf}
+use Common.{◌≡◌, List, UnitEntries, AreStored, ObjectUnits, NameCache, IsCacheOf}
 use Rattle.dwarf_entries.specs.declared.units.Units.TheInside.{Inside}
 use Rattle.dwarf_entries.specs.Private.ObjectUnits.{AreUnitsOf}
+use Rattle.dwarf_walk.specs.declared.entry_reader.EntryReader.{EntryReader}
+use Rattle.dwarf_walk.specs.Private.Rereading.{IsReaderOf}
 
 -- The same for the object that contracts name.
 pub seen : {v w : ObjectUnits} {u : Inside} → AreUnitsOf v u → v ≡ w → AreUnitsOf w u

@@ -2,14 +2,13 @@
 use Rattle.dwarf_entries.proofs.Common
 use Common.{◌≡◌, ◌⊎◌, ℕ, zero, suc, ◌+◌, ◌<◌, ◌≤◌, List, [], ◌∷◌, ◌++◌, length, map, take, drop}
 use Common.{get_or, refl, ap, sym, ◌∙◌, arith, length-append, Some, None, Result, Ok, Err}
-use Common.{slice_get, take_more, take_all, slice_get_within, get_or_from_slice_get, slice_get_read}
-use Common.{Cause, LoadFault, ◌>>=◌, At, each_from, with_offset, Fails, memory_fault, at_item}
-use Common.{in_section, each-length, PassedTo}
-use Rattle.std.proofs.{Common.drop-cons, lemmas.List.take-append-drop, lemmas.Option.slice_get_past}
+use Common.{slice_get, take_all, slice_get_within, get_or_from_slice_get, Cause, LoadFault, ◌>>=◌}
+use Common.{at_item, in_section, each-length, PassedTo, DebugInfo, take_more, slice_get_read, At}
+use Common.{each_from, with_offset, Fails, memory_fault}
+use Rattle.std.proofs.{lemmas.List.take-append-drop, lemmas.Option.slice_get_past, Common.drop-cons}
 use Rattle.dwarf_bytes.specs.Items.{each}
 use Rattle.dwarf_bytes.proofs.Items.EachPlaces.{each-append, each-place}
 use Rattle.std.specs.Result.{IsErrAnd}
-use Rattle.dwarf_bytes.specs.declared.fault.Section.TheVariants as names
 
 -- ---- elements by index
 
@@ -66,13 +65,13 @@ step-fault r f bad = grind arith
 
 -- The fault of an element, reported at its offset.
 pub item-fault : {X : Type 0} (r : Result X Cause) (cause : Cause) (at : ℕ) → Fails cause r
-    → (at_item names.DebugInfo cause at ≡ memory_fault)
-    ⊎ (in_section names.DebugInfo (with_offset at r) ≡ Err (at_item names.DebugInfo cause at))
+    → (at_item DebugInfo cause at ≡ memory_fault)
+    ⊎ (in_section DebugInfo (with_offset at r) ≡ Err (at_item DebugInfo cause at))
 item-fault r cause at bad = grind arith
 
 -- The fault of a read in .debug_info, or memory ran out.
 abbrev pub Faults : {X : Type 0} → LoadFault → Result X At → Type 0
-Faults fault r = (fault ≡ memory_fault) ⊎ (in_section names.DebugInfo r ≡ Err fault)
+Faults fault r = (fault ≡ memory_fault) ⊎ (in_section DebugInfo r ≡ Err fault)
 
 -- The fault of the first of two steps.
 pub first-fault : {X Y : Type 0} {fault : LoadFault} (r : Result X At) (f : X → Result Y At)
@@ -84,7 +83,7 @@ abbrev pub done : {Y : Type 0} → Y → Result Y At
 done y = Ok y
 
 pub after-done : {X Y : Type 0} (r : Result X At) (f : X → Y) (y : Y)
-    → in_section names.DebugInfo (r >>= λ x. done (f x)) ≡ Ok y
+    → in_section DebugInfo (r >>= λ x. done (f x)) ≡ Ok y
     → (x : X) × (r ≡ Ok x) × (f x ≡ y)
 after-done (Ok x) f y h = (x, refl, cc)
 after-done (Err e) f y h = cc

@@ -4,23 +4,23 @@ use Rattle.dwarf_entries.proofs.Common
 use Common.{◌≡◌, ℕ, ◌≤◌, List, length, take, true, refl, ap, sym, ◌∙◌, arith, subst, [], ◌∷◌}
 use Common.{get_or, map, Some, Result, Ok, slice_get, Cause, Format, Declaration, UnitHeader, Die}
 use Common.{ScopeKind, Sections, UnitPlace, CompilationUnit, Member, UnitEntries, AreStored}
-use Common.{stored_unit_of, IsPlaceOf, kind_of, StoredUnit, named_entry, scope_entry, stored_of}
-use Common.{length-map, slice_get_within, get_or_from_slice_get, ScopeSite, sites_in}
+use Common.{stored_unit_of, kind_of, StoredUnit, stored_of, length-map, slice_get_within}
+use Common.{get_or_from_slice_get, ScopeSite, sites_in, IsPlaceOf, named_entry, scope_entry}
+use Rattle.dwarf_walk.specs.{Stored.scope_places, Private.Rereading.scope_entry_at}
+use Rattle.dwarf_walk.specs.Private.Named.{used_at, named_entry_at}
+use Rattle.dwarf_walk.specs.declared.unit_entries.ScopePlace.{ScopePlace}
 use Rattle.dwarf_bytes.specs.declared.constants.TheConstants.{DW_AT_CALL_FILE, DW_AT_CALL_LINE}
 use Rattle.dwarf_bytes.specs.declared.constants.TheConstants.{DW_AT_HIGH_PC, DW_AT_LOW_PC}
 use Rattle.dwarf_bytes.specs.declared.constants.TheConstants.{DW_AT_RANGES}
 use Rattle.dwarf_bytes.proofs.Numbers.Moves.{uleb-moves}
 use Rattle.dwarf_units.specs.{declared.attributes.Attribute.Attribute, Entries.entry_at}
 use Rattle.dwarf_units.specs.Private.StoredAttributes.{stored_attributes}
-use Rattle.dwarf_entries.proofs.UnitPasses.UnitLaws.{stored-index, IsUnitIn, AreUnitsIn}
-use Rattle.dwarf_entries.proofs.ScopePasses.SiteLaws.{site-in}
-use Rattle.dwarf_walk.specs.{Stored.scope_places, Private.Rereading.scope_entry_at}
-use Rattle.dwarf_walk.specs.Private.Named.{used_at, named_entry_at}
-use Rattle.dwarf_walk.specs.declared.unit_entries.ScopePlace.{ScopePlace}
 use Rattle.dwarf_units.proofs.RereadLaws.{entries-again}
 use Rattle.dwarf_walk.proofs.StoredNodes.{value-stored, stored_die, names_at-stored}
 use Rattle.dwarf_walk.proofs.RereadLaws.{without_place, inside-is}
 use Rattle.std.proofs.lemmas.List.{get_or-map}
+use Rattle.dwarf_entries.proofs.UnitPasses.UnitLaws.{stored-index, IsUnitIn, AreUnitsIn}
+use Rattle.dwarf_entries.proofs.ScopePasses.SiteLaws.{site-in}
 
 -- ---- the used attributes
 

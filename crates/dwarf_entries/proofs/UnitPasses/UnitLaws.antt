@@ -1,20 +1,19 @@
 -- The units of an object, as they were read from its sections, and what is stored for them.
 use Rattle.dwarf_entries.proofs.Common
-use Common.{◌≡◌, ℕ, zero, suc, ◌<◌, ◌≤◌, List, [], ◌∷◌, length, map, false, Bool, ◌==◌, ◌||◌, refl}
-use Common.{ap, sym, ◌∙◌, arith, get_or, ◌+◌, ◌++◌, Some, Result, Ok, Err, zip, slice_get, list_any}
-use Common.{slice_get_within, get_or_from_slice_get, slice_get-map, slice_get_read, LoadFault}
-use Common.{in_section, bind_ok, same-ok, Declaration, declarations_of, UnitHeader}
-use Common.{declarations_limit, units_of, tables_of, Die, entries_of, RiseWithin, table_is}
-use Common.{in_section-ok, EntryBitmap, has_entry, AddsOffsets, offsets_of, Sections}
-use Common.{CompilationUnit, with_bases, unit_of, units_read, IsBitmapOf, all_offsets, dies_of}
-use Common.{AreStored, stored_unit_of, ObjectUnits, all_entries, all_bases, length-map, UnitEntries}
-use Common.{stored_of, each_from}
+use Common.{◌≡◌, ℕ, zero, suc, ◌<◌, ◌≤◌, List, [], ◌∷◌, length, map, Bool, ◌==◌, refl, ap, sym, ◌∙◌}
+use Common.{arith, get_or, ◌+◌, ◌++◌, Some, Result, Ok, Err, zip, slice_get, list_any}
+use Common.{slice_get_within, get_or_from_slice_get, slice_get-map, LoadFault, in_section, bind_ok}
+use Common.{same-ok, Declaration, UnitHeader, tables_of, Die, RiseWithin, in_section-ok}
+use Common.{EntryBitmap, AddsOffsets, offsets_of, Sections, CompilationUnit, units_read}
+use Common.{all_offsets, AreStored, stored_unit_of, ObjectUnits, length-map, UnitEntries, stored_of}
+use Common.{DebugAbbrev, DebugInfo, false, ◌||◌, slice_get_read, declarations_of}
+use Common.{declarations_limit, units_of, entries_of, table_is, has_entry, with_bases, unit_of}
+use Common.{IsBitmapOf, dies_of, all_entries, all_bases, each_from}
 use Rattle.std.proofs.Common.{subst₂, flat_map}
 use Rattle.dwarf_units.proofs.EntryOrder.{entries-rise}
 use Rattle.dwarf_entries.specs.Private.ObjectUnits.{units_or_none, units_of_object}
 use Rattle.dwarf_entries.proofs.UnitPasses.HeaderLaws.{HasBounds, headers-in}
 use Rattle.dwarf_entries.proofs.UnitPasses.PassLaws.{each-at, from-map}
-use Rattle.dwarf_bytes.specs.declared.fault.Section.TheVariants as names
 
 -- ---- the headers and the entries of units, which their bases do not change
 
@@ -121,13 +120,13 @@ module _ (s : Sections) (headers : List UnitHeader) (tables : List (List Declara
 pub units-in : (s : Sections) (us : List CompilationUnit) → units_read s ≡ Ok us → AreUnitsIn s us
 unfolding units_read
 units-in s us h =
-    let a = bind_ok (in_section names.DebugInfo (units_of s.debug_info)) _ us h in
-    let b = bind_ok (in_section names.DebugAbbrev (tables_of s.debug_abbrev a.0)) _ us a.2 in
-    let c = bind_ok (in_section names.DebugInfo (all_entries s.debug_info a.0 b.0)) _ us b.2 in
-    units-are-in s a.0 b.0 c.0 us (in_section-ok names.DebugInfo (units_of s.debug_info) a.0 a.1)
-    (in_section-ok names.DebugAbbrev (tables_of s.debug_abbrev a.0) b.0 b.1)
-    (in_section-ok names.DebugInfo (all_entries s.debug_info a.0 b.0) c.0 c.1)
-    (in_section-ok names.DebugInfo (all_bases s c.0) us c.2)
+    let a = bind_ok (in_section DebugInfo (units_of s.debug_info)) _ us h in
+    let b = bind_ok (in_section DebugAbbrev (tables_of s.debug_abbrev a.0)) _ us a.2 in
+    let c = bind_ok (in_section DebugInfo (all_entries s.debug_info a.0 b.0)) _ us b.2 in
+    units-are-in s a.0 b.0 c.0 us (in_section-ok DebugInfo (units_of s.debug_info) a.0 a.1)
+    (in_section-ok DebugAbbrev (tables_of s.debug_abbrev a.0) b.0 b.1)
+    (in_section-ok DebugInfo (all_entries s.debug_info a.0 b.0) c.0 c.1)
+    (in_section-ok DebugInfo (all_bases s c.0) us c.2)
 
 pub object-units : (s : Sections) (object : ObjectUnits) → units_of_object s ≡ object
     → AreUnitsIn object.sections object.units

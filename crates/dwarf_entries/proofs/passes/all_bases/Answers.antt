@@ -1,11 +1,10 @@
 use Rattle.dwarf_entries.proofs
 use proofs.{arith, ◌≡◌, ℕ, ◌+◌, List, [], ◌∷◌, ◌++◌, refl, ap, sym, ◌∙◌, Ok, map_push, LoadFault}
 use proofs.{in_section, in_section-ok, UnitEntries, Sections, StoredUnit, stored_of, Bases}
-use proofs.{CompilationUnit, stored_unit_of, bases_of, all_bases, Faults, first-fault, pass-next}
-use proofs.{pass-fault, pass-none, exit, StoredFor, stored-item}
-use Rattle.dwarf_entries.specs.{Units.bases_of_first, Private.Passes.bases_in}
+use proofs.{CompilationUnit, stored_unit_of, bases_of, DebugInfo, all_bases, Faults, first-fault}
+use proofs.{pass-next, pass-fault, pass-none, exit, StoredFor, stored-item}
+use Rattle.dwarf_entries.specs.{Private.Passes.bases_in, Units.bases_of_first}
 use Rattle.dwarf_entries.proofs.passes.all_bases.Invariants.{BasesSoFar}
-use Rattle.dwarf_bytes.specs.declared.fault.Section.TheVariants as names
 use Rattle.dwarf_entries.proofs.passes.all_bases.Goals as goal
 
 bases-same : (s : Sections) (u : CompilationUnit) (unit : UnitEntries)
@@ -19,13 +18,13 @@ bases-same s u unit same =
 module _ {s : Sections} {us : List CompilationUnit} {index : ℕ} {all : List Bases}
     (so_far : BasesSoFar s us index all) {unit : UnitEntries} (here : StoredFor us index unit) where
   bases-next : (bases : Bases)
-      → in_section names.DebugInfo (bases_in s unit.header.format unit.root) ≡ Ok bases
+      → in_section DebugInfo (bases_in s unit.header.format unit.root) ≡ Ok bases
       → BasesSoFar s us (index + 1) (all ++ bases ∷ [])
   bases-next bases read =
       let u = here.unit in
       let v : CompilationUnit = record { header = u.header; dies = u.dies; bases = bases } in
       let found = sym (bases-same s u unit here.stored)
-      ∙ in_section-ok names.DebugInfo (bases_in s unit.header.format unit.root) bases read in
+      ∙ in_section-ok DebugInfo (bases_in s unit.header.format unit.root) bases read in
       record {
         made = so_far.made ++ v ∷ [];
         passed = pass-next so_far.passed u v here.is (rw found refl);

@@ -1,20 +1,19 @@
 use Rattle.dwarf_entries.proofs
 use proofs.{◌≡◌, ◌⊎◌, ℕ, ◌+◌, ◌<◌, List, [], ◌∷◌, ◌++◌, length, map, get_or, refl, sym, ◌∙◌, arith}
 use proofs.{append-nil, ap, inl, Some, Ok, Err, zip, slice_get, Result, map_push, slice_get-get_or}
-use proofs.{same_Some, slice_get_within, LoadFault, At, memory_fault, in_section, each-length}
-use proofs.{same-ok, Declaration, declarations_of, UnitHeader, declarations_limit, tables_of, Die}
-use proofs.{entries_of, table_is, in_section-ok, UnitEntries, EntryBitmap, AddsOffsets, offsets_of}
-use proofs.{stored_unit, stored_of, CompilationUnit, stored_unit_of, all_offsets, dies_of}
-use proofs.{all_entries, ◌>>=◌, Faults, after-done, pass-none, pass-next, pass-end, pass-fault}
-use proofs.{done, exit}
-use Rattle.std.proofs.{lemmas.List.Concat.flat_map-append, lemmas.Slice.Zip.length-zip}
-use Rattle.std.proofs.lemmas.Slice.Zip.{get_or-zip}
+use proofs.{same_Some, slice_get_within, LoadFault, in_section, each-length, same-ok, Declaration}
+use proofs.{UnitHeader, tables_of, Die, in_section-ok, UnitEntries, EntryBitmap, AddsOffsets}
+use proofs.{offsets_of, stored_of, CompilationUnit, stored_unit_of, all_offsets, ◌>>=◌, DebugAbbrev}
+use proofs.{DebugInfo, At, memory_fault, declarations_of, declarations_limit, entries_of, table_is}
+use proofs.{stored_unit, dies_of, all_entries, Faults, after-done, pass-none, pass-next, pass-end}
+use proofs.{pass-fault, done, exit}
 use Rattle.dwarf_units.proofs.TableLaws.{table_for}
 use Rattle.dwarf_walk.specs.Stored.{stored_entries}
+use Rattle.std.proofs.{lemmas.List.Concat.flat_map-append, lemmas.Slice.Zip.length-zip}
+use Rattle.std.proofs.lemmas.Slice.Zip.{get_or-zip}
 use Rattle.dwarf_walk.proofs.BitmapLaws.{adds-none, adds-more}
 use Rattle.dwarf_ranges.specs.Bases.{no_bases}
 use Rattle.dwarf_entries.proofs.passes.all_entries.Invariants.{EntriesSoFar}
-use Rattle.dwarf_bytes.specs.declared.fault.Section.TheVariants as names
 use Rattle.dwarf_entries.proofs.passes.all_entries.Goals as goal
 
 module _ {info : List ℕ} {headers : List UnitHeader} {tables : List (List Declaration)}
@@ -24,19 +23,19 @@ module _ {info : List ℕ} {headers : List UnitHeader} {tables : List (List Decl
     (within : index < length headers) where
   -- Re-reading a valid table fails only because memory ran out.
   entries-table-fault : (fault : LoadFault) → (fault ≡ memory_fault)
-      ⊎ (in_section names.DebugAbbrev (declarations_of declarations_limit section
+      ⊎ (in_section DebugAbbrev (declarations_of declarations_limit section
       (get_or headers index d).abbreviations) ≡ Err fault) → fault ≡ memory_fault
   entries-table-fault fault bad =
       let read = table_is section headers tables index d all within in grind arith
 
-  module _ (table : List Declaration) (table_read : in_section names.DebugAbbrev (declarations_of
+  module _ (table : List Declaration) (table_read : in_section DebugAbbrev (declarations_of
       declarations_limit section (get_or headers index d).abbreviations) ≡ Ok table) where
     -- The header and the table of the unit at the index.
     pair-at : slice_get (zip headers tables) index ≡ Some (get_or headers index d, table)
     unfolding tables_of
     pair-at =
         let same : get_or tables index [] ≡ table = same-ok {E = At} (get_or tables index []) table
-        (sym (table_is section headers tables index d all within) ∙ in_section-ok names.DebugAbbrev
+        (sym (table_is section headers tables index d all within) ∙ in_section-ok DebugAbbrev
         (declarations_of declarations_limit section (get_or headers index d).abbreviations) table
         table_read) in
         let sizes = each-length (table_for section) [] headers tables all in
@@ -45,7 +44,7 @@ module _ {info : List ℕ} {headers : List UnitHeader} {tables : List (List Decl
         (omega (arith, length-zip headers tables, sizes, within))
         ∙ rw (get_or-zip headers tables index (d, []) within there, same) refl
 
-    entries-next : (after : EntryBitmap) (unit : UnitEntries) → in_section names.DebugInfo
+    entries-next : (after : EntryBitmap) (unit : UnitEntries) → in_section DebugInfo
         (stored_entries info (get_or headers index d) table) ≡ Ok (stored_of unit)
         → ((dies : List Die) → entries_of info (get_or headers index d) table ≡ Ok dies
         → AddsOffsets marked after (offsets_of dies))

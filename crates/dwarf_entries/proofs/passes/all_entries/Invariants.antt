@@ -1,6 +1,6 @@
 use Rattle.dwarf_entries.proofs
 use proofs.{◌≡◌, List, Ok, ℕ, Declaration, tables_of, zip, UnitHeader, UnitEntries, EntryBitmap}
-use proofs.{AddsOffsets, CompilationUnit, unit_of, AreStored, all_offsets, PassedTo}
+use proofs.{AddsOffsets, CompilationUnit, AreStored, all_offsets, PassedTo, unit_of}
 use Rattle.dwarf_entries.proofs.passes.all_entries.Given as goal
 
 -- The units before the index, the data that is stored for them, and the bits of their entries.

@@ -1,6 +1,6 @@
 use Rattle.dwarf_entries.proofs
-use proofs.{rules, nat_le, leb-true, leb-false, IsPartitionedBy-leb, IsPartitionPoint-from_clause}
-use proofs.{UnitEntries}
+use proofs.{nat_le, leb-true, UnitEntries, rules, leb-false, IsPartitionedBy-leb}
+use proofs.{IsPartitionPoint-from_clause}
 use Rattle.dwarf_entries.proofs.references.ends_by.Goals as goal
 
 pub returns-clause-parts : goal.returns-clause-parts

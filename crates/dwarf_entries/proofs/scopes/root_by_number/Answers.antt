@@ -1,6 +1,6 @@
 use Rattle.dwarf_entries.proofs
-use proofs.{rules, nat_le, leb-true, leb-false, IsPartitionedBy-leb, IsPartitionPoint-from_clause}
-use proofs.{Root, by_partition}
+use proofs.{nat_le, leb-true, Root, rules, leb-false, IsPartitionedBy-leb}
+use proofs.{IsPartitionPoint-from_clause, by_partition}
 use Rattle.dwarf_entries.proofs.scopes.root_by_number.Goals as goal
 
 pub returns : goal.returns

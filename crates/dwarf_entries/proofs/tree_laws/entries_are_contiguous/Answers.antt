@@ -1,10 +1,10 @@
 use Rattle.dwarf_entries.proofs
 use proofs.{◌≡◌, ℕ, ◌+◌, ◌≤◌, List, [], ◌∷◌, ◌++◌, length, take, ◌∙◌, subst, arith, length-take, Ok}
-use proofs.{nat_le, list_any, leb-true, All-contains, Format, Lists, after-bind, chosen}
-use proofs.{Declaration, HasBounds, headers-in}
-use Rattle.std.specs.List.{filter_map}
+use proofs.{nat_le, list_any, leb-true, Format, Declaration, All-contains, Lists, after-bind}
+use proofs.{chosen, HasBounds, headers-in}
 use Rattle.dwarf_bytes.specs.Items.{End}
 use Rattle.dwarf_bytes.proofs.Numbers.Moves.{same-end}
+use Rattle.std.specs.List.{filter_map}
 use Rattle.dwarf_units.specs.Entries.{LocatedNode, is_root, depth_after, node_at_depth, node_at}
 use Rattle.dwarf_units.specs.Entries.{die_of}
 use Rattle.dwarf_units.proofs.{NodeLaws.node_at-facts, EntryOrder.list-in}

@@ -1,18 +1,19 @@
 use Rattle.dwarf_entries.proofs
 use proofs.{bind_ok, ◌≡◌, ℕ, ◌+◌, List, length, refl, arith, Option, Some, None, Ok, All, ◌==◌}
-use proofs.{DW_AT_LINKAGE_NAME, DW_AT_NAME, after-bind, chosen, same-ok, AttributeValue, EntryNames}
-use proofs.{TextOffset, Sections, CompilationUnit, Member, chain_within, first_on, name_on}
-use proofs.{names_of, references_limit, Scope, Tree, tree_of, after-tree, all-are, parsed-at}
+use proofs.{DW_AT_LINKAGE_NAME, DW_AT_NAME, same-ok, AttributeValue, EntryNames, Sections}
+use proofs.{CompilationUnit, Member, chain_within, names_of, Scope, Tree, tree_of, DebugInfo}
+use proofs.{after-bind, chosen, TextOffset, first_on, name_on, references_limit, after-tree}
+use proofs.{all-are, parsed-at}
+use Rattle.dwarf_bytes.proofs.{Numbers.Advance.reading-ok, Strings.StringLaws.text-encoded}
+use Rattle.dwarf_entries.specs.{Names.{text_in, text_of}, TreeLaws.{section_bytes, IsTextOf}}
 use Rattle.std.proofs.Common.{IfSome}
 use Rattle.dwarf_bytes.specs.declared.constants.TheConstants.{DW_FORM_LINE_STRP, DW_FORM_STRING}
 use Rattle.dwarf_bytes.specs.declared.constants.TheConstants.{DW_FORM_STRP}
 use Rattle.dwarf_bytes.specs.declared.fault.Section.{Section}
 use Rattle.dwarf_bytes.specs.{declared.tables.TableKind.TheVariants.StrOffsets, Items.reading}
 use Rattle.dwarf_bytes.specs.Numbers.{cstr_at, text_at}
-use Rattle.dwarf_bytes.proofs.{Numbers.Advance.reading-ok, Strings.StringLaws.text-encoded}
+use Rattle.dwarf_bytes.specs.declared.fault.Section.TheVariants.{DebugLineStr, DebugStr}
 use Rattle.dwarf_ranges.specs.{declared.bases.Table.Table, Bases.{item_at, optional}}
-use Rattle.dwarf_entries.specs.{Names.{text_in, text_of}, TreeLaws.{section_bytes, IsTextOf}}
-use Rattle.dwarf_bytes.specs.declared.fault.Section.TheVariants as sections
 use Rattle.dwarf_entries.proofs.tree_laws.names_are_strings.Goals as goal
 
 -- ---- a string that is found in a section
@@ -40,16 +41,16 @@ text_of-is_text : (s : Sections) (str_offsets : Option Table) (value : Attribute
 text_of-is_text s str_offsets value found h =
     let P : Type 0 = IsTextOf s found in
     chosen (value.form == DW_FORM_STRING) _ _ (Ok found) h P
-    (λ _ is. text_in-is_text s sections.DebugInfo s.debug_info value.number found refl is)
+    (λ _ is. text_in-is_text s DebugInfo s.debug_info value.number found refl is)
     (λ _ h1.
     chosen (value.form == DW_FORM_STRP) _ _ (Ok found) h1 P
-    (λ _ is. text_in-is_text s sections.DebugStr s.debug_str value.number found refl is) (λ _ h2.
+    (λ _ is. text_in-is_text s DebugStr s.debug_str value.number found refl is) (λ _ h2.
     chosen (value.form == DW_FORM_LINE_STRP) _ _ (Ok found) h2 P
-    (λ _ is. text_in-is_text s sections.DebugLineStr s.debug_line_str value.number found refl is)
+    (λ _ is. text_in-is_text s DebugLineStr s.debug_line_str value.number found refl is)
     (λ _ h3.
     after-bind (item_at StrOffsets s.debug_str_offsets str_offsets value.number)
-    (λ offset. text_in sections.DebugStr s.debug_str offset) found h3 P (λ offset _ last.
-    text_in-is_text s sections.DebugStr s.debug_str offset found refl last))))
+    (λ offset. text_in DebugStr s.debug_str offset) found h3 P (λ offset _ last.
+    text_in-is_text s DebugStr s.debug_str offset found refl last))))
 
 first-is_text : (s : Sections) (first : Option (CompilationUnit × AttributeValue))
     (found : Option TextOffset) → optional (λ at. text_of s at.0.bases.str_offsets at.1) first

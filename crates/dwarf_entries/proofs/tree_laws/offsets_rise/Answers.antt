@@ -1,10 +1,9 @@
 use Rattle.dwarf_entries.proofs
 use proofs.{◌≡◌, ℕ, suc, ◌+◌, ◌<◌, ◌≤◌, List, [], ◌∷◌, length, map, refl, ap, arith, get_or, Some}
-use proofs.{All, slice_get, AllPairs, All-nil, All-cons, All-weaker, All-map, AllPairs-cons}
-use proofs.{slice_get-get_or, get_or_from_slice_get, slice_get_within, Die, RiseWithin, Root}
-use proofs.{Sections, CompilationUnit, Scope, root_of, roots_from, within-le, sites-rise}
-use proofs.{site-within, after-tree, scope-at, scopes_in, AreUnitsIn, dies-rise, units-in}
-use proofs.{units-after, from-map}
+use proofs.{All, slice_get, All-nil, All-cons, All-weaker, slice_get-get_or, get_or_from_slice_get}
+use proofs.{slice_get_within, Die, RiseWithin, Root, Sections, CompilationUnit, Scope, root_of}
+use proofs.{roots_from, AllPairs, All-map, AllPairs-cons, within-le, sites-rise, site-within}
+use proofs.{after-tree, scope-at, scopes_in, AreUnitsIn, dies-rise, units-in, units-after, from-map}
 use Rattle.std.specs.List.Sorted.{IsStrictlyIncreasing}
 use Rattle.dwarf_entries.specs.TreeLaws.{RiseBelow}
 use Rattle.dwarf_entries.proofs.tree_laws.offsets_rise.Goals as goal

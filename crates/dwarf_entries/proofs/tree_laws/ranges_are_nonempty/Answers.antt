@@ -1,7 +1,7 @@
 use Rattle.dwarf_entries.proofs
 use proofs.{◌≡◌, ℕ, zero, suc, ◌+◌, ◌-◌, ◌≤◌, List, length, take, ap, subst, arith, ◌<◌, Some, Ok}
-use proofs.{All, slice_get, take_all, sum_by_more, get_or_from_slice_get, Sections, CompilationUnit}
-use proofs.{Scope, ParsedScope, all_scopes, after-tree, all-are, parsed-at, element}
+use proofs.{All, slice_get, take_all, get_or_from_slice_get, Sections, CompilationUnit, Scope}
+use proofs.{ParsedScope, all_scopes, sum_by_more, after-tree, all-are, parsed-at, element}
 use Rattle.std.proofs.{Common.sum_by, lemmas.List.Folds.fold-map}
 use Rattle.dwarf_entries.specs.Scopes.{items_limit}
 use Rattle.dwarf_ranges.specs.Ranges.{IsValidRange}

@@ -1,5 +1,5 @@
 use Rattle.dwarf_entries.proofs
-use proofs.{◌≡◌, ℕ, List, [], ◌∷◌, map, refl, ap, CallSite, Range, Root, Own, own, own_of}
+use proofs.{◌≡◌, ℕ, List, [], ◌∷◌, map, refl, ap, Range, Root, CallSite, Own, own, own_of}
 use proofs.{scopes_from}
 use Rattle.dwarf_entries.specs.declared.scope.Scope.{Scope as StoredScope}
 use Rattle.dwarf_entries.proofs.scopes.Scopes.scopes.Goals as goal

@@ -1,12 +1,11 @@
 use Rattle.dwarf_entries.proofs
-use proofs.{find_at, sym, ◌≡◌, ℕ, List, [], ◌∷◌, Bool, true, cond, ◌==◌, ◌||◌, refl, ◌∙◌, arith}
-use proofs.{Option, Some, None, is_some, find, option_map, ok_or, option_or, list_any, Die}
-use proofs.{EntryBitmap, has_entry, offsets_of, Sections, UnitPlace, CompilationUnit, members_of}
-use proofs.{IsBitmapOf, all_offsets, IsWithin, Finds, member_in, AreUnitsIn, object-units}
+use proofs.{sym, ◌≡◌, ℕ, List, [], ◌∷◌, Bool, true, cond, ◌==◌, refl, ◌∙◌, arith, Option, Some}
+use proofs.{None, is_some, find, option_map, option_or, list_any, Die, EntryBitmap, offsets_of}
+use proofs.{Sections, UnitPlace, CompilationUnit, all_offsets, member_in, Reference, find_at, ◌||◌}
+use proofs.{ok_or, has_entry, members_of, IsBitmapOf, IsWithin, Finds, AreUnitsIn, object-units}
 use proofs.{is_at_offset, member_of, die_at, find-units, member-is, in-own, seen}
+use Rattle.std.proofs.{lemmas.List.Folds.list_any-append, lemmas.Bool.eqb-true}
 use Rattle.std.specs.List.{position_or_len}
-use Rattle.std.proofs.{lemmas.Bool.eqb-true, lemmas.List.Folds.list_any-append}
-use Rattle.dwarf_bytes.specs.declared.fault.Cause.TheVariants as causes
 use Rattle.dwarf_entries.proofs.units.Units.has_entry.Goals as goal
 
 any-dies : (u : CompilationUnit) (offset : ℕ) (dies : List Die)
@@ -50,7 +49,7 @@ finds-inside {us = us} are bitmap all place within marked marked_is = rw (
   where
     by_die : (die : Option Die) → die_at within.of place.offset ≡ die
         → member_in us place.unit place.offset
-        ≡ ok_or (option_map (member_of within.of) die) causes.Reference
+        ≡ ok_or (option_map (member_of within.of) die) Reference
         → Finds us (cond (is_some (option_map (member_of within.of) die)) (Some place) None)
         (member_in us place.unit place.offset)
     by_die None here outcome = outcome

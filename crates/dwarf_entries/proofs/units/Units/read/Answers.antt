@@ -1,7 +1,6 @@
 use Rattle.dwarf_entries.proofs
-use proofs.{sym, ◌∙◌, List, refl, Die, in_section-ok, stored_unit, sections_of, units_read}
-use proofs.{cache-none, bases-stay, all-marked, exit, step-fault}
-use Rattle.dwarf_bytes.specs.declared.fault.Section.TheVariants as names
+use proofs.{sym, ◌∙◌, List, refl, Die, in_section-ok, sections_of, units_read, DebugAbbrev}
+use proofs.{stored_unit, cache-none, bases-stay, all-marked, exit, step-fault}
 use Rattle.dwarf_entries.proofs.units.Units.read.Goals as goal
 
 pub returns-in_err-headers-clause-units : goal.returns-in_err-headers-clause-units
@@ -21,14 +20,14 @@ returns-in_err-units-clause-units c =
     let tables = rw c.as_slice.ensures.value at c.in_ok-tables.ensures.ok in
     rw (exit _ c.from_residual-in_err-units.ensures.1, c.in_ok-headers.ensures, tables.1)
     (step-fault _ _ ((rw c.as_slice-headers.ensures.value at c.in_err-units.ensures.units) tables.0
-    (in_section-ok names.DebugAbbrev _ tables.0 tables.1)))
+    (in_section-ok DebugAbbrev _ tables.0 tables.1)))
 
 pub returns-in_err-bases-clause-units : goal.returns-in_err-bases-clause-units
 unfolding units_read
 returns-in_err-bases-clause-units c =
     let tables = rw c.as_slice.ensures.value at c.in_ok-tables.ensures.ok in
     let units = (rw c.as_slice-headers.ensures.value at c.in_ok-units.ensures.units) tables.0
-    (in_section-ok names.DebugAbbrev _ tables.0 tables.1) in
+    (in_section-ok DebugAbbrev _ tables.0 tables.1) in
     rw (
       exit _ c.from_residual-in_err-bases.ensures.1,
       c.in_ok-headers.ensures,
@@ -42,7 +41,7 @@ invariant_of-result c =
     let s = sections_of c.args.sections.now in
     let tables = rw c.as_slice.ensures.value at c.in_ok-tables.ensures.ok in
     let units = (rw c.as_slice-headers.ensures.value at c.in_ok-units.ensures.units) tables.0
-    (in_section-ok names.DebugAbbrev _ tables.0 tables.1) in
+    (in_section-ok DebugAbbrev _ tables.0 tables.1) in
     let all = (rw c.as_slice-2.ensures.value at c.in_ok-bases.ensures) units.0 units.2.0 in
     rw (c.in_ok-headers.ensures, tables.1, units.1, all.1) (record {
       stored_are = units.2.0 ∙ sym (bases-stay stored_unit s _ units.0 all.0 all.1);
@@ -60,6 +59,6 @@ unfolding units_read
 returns-clause-units c =
     let tables = rw c.as_slice.ensures.value at c.in_ok-tables.ensures.ok in
     let units = (rw c.as_slice-headers.ensures.value at c.in_ok-units.ensures.units) tables.0
-    (in_section-ok names.DebugAbbrev _ tables.0 tables.1) in
+    (in_section-ok DebugAbbrev _ tables.0 tables.1) in
     let all = (rw c.as_slice-2.ensures.value at c.in_ok-bases.ensures) units.0 units.2.0 in
     rw (c.in_ok-headers.ensures, tables.1, units.1, all.1) refl

@@ -1,7 +1,7 @@
 use Rattle.dwarf_entries.proofs
-use proofs.{sym, ap, ◌∙◌, arith, Cause, at_item, same-ok, scope_entry, again-memory, sites_in, refl}
-use proofs.{sites-stored, site-read, seen, with-parts, element, stored-there, object-units}
-use Rattle.dwarf_bytes.specs.declared.fault.Section.TheVariants as names
+use proofs.{sym, ap, ◌∙◌, arith, Cause, at_item, same-ok, sites_in, refl, DebugInfo, scope_entry}
+use proofs.{again-memory, sites-stored, site-read, seen, with-parts, element, stored-there}
+use proofs.{object-units}
 use Rattle.dwarf_entries.proofs.units.Units.site.Goals as goal
 
 pub index-place-requires : goal.index-place-requires
@@ -30,7 +30,7 @@ returns-in-Err-clause-site c u found =
     let r = site-read _ _ c.args.unit c.args.index u p.0 k _ (object-units _ _ c.self.view_is)
     (stored-there _ _ are.stored_are _ k u found c.index-stored.ensures) found p.1
     c.index-place.ensures in
-    c.at_item.ensures ∙ ap (λ (e : Cause). at_item names.DebugInfo e c.from-at.result)
+    c.at_item.ensures ∙ ap (λ (e : Cause). at_item DebugInfo e c.from-at.result)
     (again-memory c.in-Err.cause _ _ r.2
     (c.in-Err.ensures.scope _ r.1.table are.reader_is r.1.table_is))
 

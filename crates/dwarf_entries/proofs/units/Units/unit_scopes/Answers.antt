@@ -1,14 +1,13 @@
 use Rattle.dwarf_entries.proofs
 use proofs.{◌<◌, ◌≡◌, ℕ, ◌+◌, List, [], ◌∷◌, ◌++◌, length, ap, arith, refl, inl, ◌∙◌, Ok, Some}
-use proofs.{slice_get, map_push, length-map, Cause, LoadFault, Fails, at_item, ScopeEntry, Sections}
-use proofs.{Root, ScopeFacts, ScopeLists, ScopeNumbers, CompilationUnit, ParsedScope, ScopeSite}
-use proofs.{Scope, scope_at, sites_in, roots_from, IsScopeSite, AreParsedTo, first_number}
-use proofs.{all_sites, all_scopes, AddsFacts, facts_of, IsPushed, by_number, pushed, scopes-length}
-use proofs.{site-in, sites-count, first-next, all-sites-at, Faults, item-fault, pass-next}
-use proofs.{pass-fault, element, exit}
-use Rattle.std.proofs.lemmas.List.Sums.{sum_by_push}
+use proofs.{slice_get, map_push, length-map, Cause, LoadFault, at_item, Sections, Root}
+use proofs.{CompilationUnit, ParsedScope, ScopeSite, Scope, scope_at, sites_in, roots_from}
+use proofs.{AreParsedTo, first_number, all_sites, all_scopes, DebugInfo, Fails, ScopeEntry}
+use proofs.{ScopeFacts, ScopeLists, ScopeNumbers, IsScopeSite, AddsFacts, facts_of, IsPushed}
+use proofs.{by_number, pushed, scopes-length, site-in, sites-count, first-next, all-sites-at}
+use proofs.{Faults, item-fault, pass-next, pass-fault, element, exit}
 use Rattle.dwarf_entries.specs.Private.Passes.{IsSiteRead}
-use Rattle.dwarf_bytes.specs.declared.fault.Section.TheVariants as names
+use Rattle.std.proofs.lemmas.List.Sums.{sum_by_push}
 use Rattle.dwarf_entries.proofs.units.Units.unit_scopes.Goals as goal
 
 module _ {s : Sections} {us : List CompilationUnit} {number : ℕ} {lists : ScopeLists} {left : ℕ}
@@ -53,7 +52,7 @@ module _ {s : Sections} {us : List CompilationUnit} {number : ℕ} {lists : Scop
 
     scopes-fault : (cause : Cause) (at : ℕ) (fault : LoadFault)
         → Fails cause (scope_at s us so_far.parsed p) → at ≡ p.member.die.offset
-        → fault ≡ at_item names.DebugInfo cause at → Faults fault (all_scopes s us)
+        → fault ≡ at_item DebugInfo cause at → Faults fault (all_scopes s us)
     scopes-fault cause at fault bad at_is fault_is = pass-fault so_far.passed p there
         (rw (fault_is, at_is) (item-fault (scope_at s us so_far.parsed p) cause
         p.member.die.offset bad))
