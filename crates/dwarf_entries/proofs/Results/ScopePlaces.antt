@@ -8,7 +8,7 @@ use Common.{Sections, AreNumbered, AreInOrder}
 use Rattle.dwarf_entries.specs.Order.{AreNested}
 use Rattle.std.proofs.lemmas.List.Elements.{recursion_from_All}
 use Rattle.dwarf_entries.proofs.Results.SiteOrder.{sites-below, in-unit-of, before-later}
-use Rattle.dwarf_entries.proofs.{Results.BelowLaws.ends-within, Results.TreeParts.after-tree}
+use Rattle.dwarf_entries.proofs.{Results.BelowLaws.ends-within, Results.TreeParts.tree-parts}
 use Rattle.dwarf_entries.proofs.Results.TreeParts.{scope-at, scopes_in}
 use Rattle.dwarf_entries.proofs.ScopePasses.SiteLaws.{IsSiteAt, first-all}
 
@@ -46,14 +46,16 @@ sites-nest {p = p} {q = q} a b lt within =
     omega (arith, ends, here.number_is, here.inside_is, there.number_is, there.inside_is)
 
 pub scopes-in-order : (s : Sections) (tree : Tree) → tree_of s ≡ Ok tree → AreInOrder tree.scopes
-scopes-in-order s tree h = after-tree s tree h (λ tree. AreInOrder tree.scopes)
-    (λ us parsed us_are parsed_are.
+scopes-in-order s tree h =
+    let t = tree-parts s tree h in
+    let us = t.0 in
+    let parsed = t.1.parsed in
     let scopes : List Scope = scopes_in parsed in
-    let at = scope-at s us parsed parsed_are in
+    let at = scope-at s us parsed t.1.parsed_are in
     let all = first-all us (length us) (omega arith) in
-    let size = each-length (parse_scope s us) [] (all_sites us) parsed parsed_are in
+    let size = each-length (parse_scope s us) [] (all_sites us) parsed t.1.parsed_are in
     let same = length-map parsed (λ (j : ParsedScope). j.scope) in
-    record {
+    rw (← t.1.is) (record {
       numbered = numbered 0 (length scopes) scopes (omega arith) (λ i t found.
           let x = at i t found in
           let last = (before-later x.place (length us)

@@ -16,24 +16,35 @@ use Rattle.dwarf_entries.proofs.UnitPasses.PassLaws.{each-at, from-map}
 abbrev pub tree_from : List CompilationUnit → List ParsedScope → Tree
 tree_from us parsed = record { roots = roots_from 0 us; scopes = map (λ j. j.scope) parsed }
 
--- A property of a result follows from the units and scopes that it was read from.
-pub after-tree : (s : Sections) (tree : Tree) → tree_of s ≡ Ok tree → (P : Tree → Type 0)
-    → ((us : List CompilationUnit) (parsed : List ParsedScope) → units_read s ≡ Ok us
-    → all_scopes s us ≡ Ok parsed → P (tree_from us parsed)) → P tree
-unfolding tree_of
-after-tree s tree h P next =
-    let a = bind_ok (units_read s) _ tree h in
-    let b = bind_ok (in_section DebugInfo (all_scopes s a.0)) _ tree a.2 in
-    subst P (same-ok (tree_from a.0 b.0) tree b.2)
-    (next a.0 b.0 a.1 (in_section-ok DebugInfo (all_scopes s a.0) b.0 b.1))
+-- The units and scopes that a result was read from.
+pub record IsReadFrom (s : Sections) (us : List CompilationUnit) (tree : Tree) : Type 0 where
+  pub parsed : List ParsedScope
+  pub us_are : units_read s ≡ Ok us
+  pub parsed_are : all_scopes s us ≡ Ok parsed
+  pub is : tree_from us parsed ≡ tree
 
-pub with-units : (s : Sections) (us : List CompilationUnit) (tree : Tree) → units_read s ≡ Ok us
-    → tree_of s ≡ Ok tree → (P : Tree → Type 0)
-    → ((parsed : List ParsedScope) → all_scopes s us ≡ Ok parsed → P (tree_from us parsed))
-    → P tree
-with-units s us tree us_are h P next = after-tree s tree h P (λ vs parsed vs_are parsed_are.
-    subst (λ (ws : List CompilationUnit). all_scopes s ws ≡ Ok parsed → P (tree_from ws parsed))
-    (same-ok us vs (sym us_are ∙ vs_are)) (next parsed) parsed_are)
+pub tree-parts : (s : Sections) (tree : Tree) → tree_of s ≡ Ok tree
+    → (us : List CompilationUnit) × IsReadFrom s us tree
+unfolding tree_of
+tree-parts s tree h =
+    let a = bind_ok (units_read s) _ tree h in
+    let b = bind_ok (in_section DebugInfo (all_scopes s a.0)) _ tree a.2 in (
+      a.0,
+      record {
+        parsed = b.0;
+        us_are = a.1;
+        parsed_are = in_section-ok DebugInfo (all_scopes s a.0) b.0 b.1;
+        is = same-ok (tree_from a.0 b.0) tree b.2;
+      },
+    )
+
+-- The same for the units that were read.
+pub tree-with : (s : Sections) (us : List CompilationUnit) (tree : Tree) → units_read s ≡ Ok us
+    → tree_of s ≡ Ok tree → IsReadFrom s us tree
+tree-with s us tree us_are h =
+    let t = tree-parts s tree h in
+    let same : us ≡ t.0 = same-ok us t.0 (sym us_are ∙ t.1.us_are) in
+    rw same t.1
 
 -- ---- the scope with a number
 

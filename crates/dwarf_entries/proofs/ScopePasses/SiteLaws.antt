@@ -35,45 +35,43 @@ pub record IsSiteIn (u : CompilationUnit) (dies : List Die) (n : ℕ) (p : Scope
   pub number_is : n ≡ count_by is_scope (take index dies)
   pub inside_is : p.inside ≡ count_by is_scope (below p.member.die (drop (index + 1) dies))
 
+-- The index of the scope with a number.
+abbrev index_of : List Die → ℕ → ℕ
+index_of [] n = 0
+index_of (die ∷ dies) zero = cond (is_scope die) 0 (suc (index_of dies zero))
+index_of (die ∷ dies) (suc n) = suc (index_of dies (cond (is_scope die) n (suc n)))
+
+site-facts : (u : CompilationUnit) (dies : List Die) (n : ℕ) (p : ScopeSite)
+    → slice_get (sites_in u dies) n ≡ Some p
+    → (p.member.unit ≡ u) × (kind_of p.member.die.tag ≡ Some p.kind)
+    × (slice_get dies (index_of dies n) ≡ Some p.member.die)
+    × (n ≡ count_by is_scope (take (index_of dies n) dies))
+    × (p.inside ≡ count_by is_scope (below p.member.die (drop (suc (index_of dies n)) dies)))
+site-facts u [] n p h = cc
+site-facts u (die ∷ rest) zero p h =
+    let later = site-facts u rest zero p in
+    let sum = sum_by-cons (λ x. cond (is_scope x) 1 0) die (take (index_of rest zero) rest) in
+    grind arith
+site-facts u (die ∷ rest) (suc n) p h =
+    let later = site-facts u rest n p in
+    let same = site-facts u rest (suc n) p in
+    let sum = sum_by-cons (λ x. cond (is_scope x) 1 0) die (take (index_of rest n) rest) in
+    let all = sum_by-cons (λ x. cond (is_scope x) 1 0) die (take (index_of rest (suc n)) rest) in
+    grind arith
+
 pub site-in : (u : CompilationUnit) (dies : List Die) (n : ℕ) (p : ScopeSite)
     → slice_get (sites_in u dies) n ≡ Some p → IsSiteIn u dies n p
-site-in u [] n p h = cc
-site-in u (die ∷ rest) n p h = by_kind (kind_of die.tag) refl n h (λ m found.
-    site-in u rest m p found)
-  where
-    next : (m n : ℕ) → IsSiteIn u rest m p → n ≡ cond (is_scope die) 1 0 + m
-        → IsSiteIn u (die ∷ rest) n p
-    next m n at number = record {
-      unit_is = at.unit_is;
-      kind_is = at.kind_is;
-      index = suc at.index;
-      there = at.there;
-      number_is = omega (
-        arith,
-        number,
-        at.number_is,
-        sum_by-cons (λ x. cond (is_scope x) 1 0) die (take at.index rest),
-      );
-      inside_is = let e : suc at.index + 1 ≡ suc (at.index + 1) = omega arith in
-          rw e at.inside_is;
+site-in u dies n p h =
+    let facts = site-facts u dies n p h in
+    let one : suc (index_of dies n) ≡ index_of dies n + 1 = omega arith in
+    record {
+      unit_is = facts.0;
+      kind_is = facts.1;
+      index = index_of dies n;
+      there = facts.2;
+      number_is = facts.3;
+      inside_is = rw one at facts.4;
     }
-
-    by_kind : (kind : Option ScopeKind) → kind_of die.tag ≡ kind → (n : ℕ)
-        → slice_get (site_of u die rest kind (sites_in u rest)) n ≡ Some p
-        → ((m : ℕ) → slice_get (sites_in u rest) m ≡ Some p → IsSiteIn u rest m p)
-        → IsSiteIn u (die ∷ rest) n p
-    by_kind None is n h later = next n n (later n h) (rw is (omega arith))
-    by_kind (Some kind) is zero h later =
-        let same : site_at u die rest kind ≡ p = grind arith in
-        rw (← same) (record {
-          unit_is = refl;
-          kind_is = is;
-          index = zero;
-          there = refl;
-          number_is = refl;
-          inside_is = refl;
-        })
-    by_kind (Some kind) is (suc n) h later = next n (suc n) (later n h) (rw is (omega arith))
 
 -- The site of the first entry, if it has one, is passed over.
 skipped : (u : CompilationUnit) (d : Die) (rest : List Die) (found : Option ScopeKind)

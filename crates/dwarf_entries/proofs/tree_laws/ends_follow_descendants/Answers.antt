@@ -1,7 +1,7 @@
 use Rattle.dwarf_entries.proofs
 use proofs.{◌≡◌, ◌↔◌, ℕ, ◌+◌, ◌<◌, List, take, drop, refl, ap, sym, ◌∙◌, arith, Ok, Contains}
 use proofs.{count_by, same_Some, IsBelow, is_scope, Sections, CompilationUnit, Scope, ScopeSite}
-use proofs.{ParsedScope, first_number, all_scopes, IsEntry, sites-rise, sites-below, with-units}
+use proofs.{ParsedScope, first_number, all_scopes, IsEntry, sites-rise, sites-below, tree-with}
 use proofs.{scope-at, contained, scopes_in, IsSiteAt, site_at, site-of-entry, AreUnitsIn, units-in}
 use Rattle.dwarf_entries.proofs.tree_laws.ends_follow_descendants.Goals as goal
 
@@ -53,16 +53,14 @@ numbers-are s us parsed are parsed_are i k scope inside at =
 pub returns : goal.returns
 unfolding site-of
 returns c s tree us outer inner i j p q h us_are outer_in inner_in outer_at inner_at =
-    with-units s us tree us_are h (λ tree. Contains tree.scopes outer → Contains tree.scopes inner
-    → ((i ≡ j) × IsBelow outer_at.of.dies q p)
-    ↔ ((outer.number < inner.number) × (inner.number < outer.«end»)))
-    (λ parsed parsed_are outer_in inner_in.
+    let t = tree-with s us tree us_are h in
+    let is = t.is in
     let are = units-in s us us_are in
-    let a = numbers-are s us parsed are parsed_are i p outer outer_in outer_at in
-    let b = numbers-are s us parsed are parsed_are j q inner inner_in inner_at in
+    let a = numbers-are s us t.parsed are t.parsed_are i p outer (rw (← is) at outer_in) outer_at in
+    let b = numbers-are s us t.parsed are t.parsed_are j q inner (rw (← is) at inner_in) inner_at in
     let below = sites-below (site-of us i p outer outer_at) (site-of us j q inner inner_at) in (
       λ under. let numbers = below.0 under in
           (omega (arith, numbers.0, a.0, b.0), omega (arith, numbers.1, a.1, b.0)),
       λ numbers. below.1
           (omega (arith, numbers.0, a.0, b.0), omega (arith, numbers.1, a.1, b.0)),
-    )) outer_in inner_in
+    )

@@ -2,7 +2,7 @@ use Rattle.dwarf_entries.proofs
 use proofs.{bind_ok, ◌≡◌, ℕ, ◌+◌, List, length, refl, arith, Option, Some, None, Ok, All, ◌==◌}
 use proofs.{DW_AT_LINKAGE_NAME, DW_AT_NAME, same-ok, AttributeValue, EntryNames, Sections}
 use proofs.{CompilationUnit, Member, chain_within, names_of, Scope, Tree, tree_of, DebugInfo}
-use proofs.{after-bind, chosen, TextOffset, first_on, name_on, references_limit, after-tree}
+use proofs.{after-bind, chosen, TextOffset, first_on, name_on, references_limit, tree-parts}
 use proofs.{all-are, parsed-at}
 use Rattle.dwarf_bytes.proofs.{Numbers.Advance.reading-ok, Strings.StringLaws.text-encoded}
 use Rattle.dwarf_entries.specs.{Names.{text_in, text_of}, TreeLaws.{section_bytes, IsTextOf}}
@@ -78,10 +78,11 @@ abbrev HasTexts : Sections → Scope → Type 0
 HasTexts s scope = AreTexts s scope.name scope.linkage_name
 
 all-strings : (s : Sections) (tree : Tree) → tree_of s ≡ Ok tree → All (HasTexts s) tree.scopes
-all-strings s tree h = after-tree s tree h (λ tree. All (HasTexts s) tree.scopes)
-    (λ us parsed us_are parsed_are. all-are (HasTexts s) parsed (λ n j there.
-    let at = parsed-at s us parsed parsed_are n j there in
-    rw (← at.is) (names-are_texts s us at.site.member at.names at.names_are)))
+all-strings s tree h =
+    let t = tree-parts s tree h in
+    rw (← t.1.is) (all-are (HasTexts s) t.1.parsed (λ n j there.
+    let at = parsed-at s t.0 t.1.parsed t.1.parsed_are n j there in
+    rw (← at.is) (names-are_texts s t.0 at.site.member at.names at.names_are)))
 
 pub returns : goal.returns
 returns c = record {

@@ -3,7 +3,7 @@ use proofs.{◌≡◌, ℕ, suc, ◌+◌, ◌<◌, ◌≤◌, List, [], ◌∷�
 use proofs.{All, slice_get, All-nil, All-cons, All-weaker, slice_get-get_or, get_or_from_slice_get}
 use proofs.{slice_get_within, Die, RiseWithin, Root, Sections, CompilationUnit, Scope, root_of}
 use proofs.{roots_from, AllPairs, All-map, AllPairs-cons, within-le, sites-rise, site-within}
-use proofs.{after-tree, scope-at, scopes_in, AreUnitsIn, dies-rise, units-in, units-after, from-map}
+use proofs.{tree-parts, scope-at, scopes_in, AreUnitsIn, dies-rise, units-in, units-after, from-map}
 use Rattle.std.specs.List.Sorted.{IsStrictlyIncreasing}
 use Rattle.dwarf_entries.specs.TreeLaws.{RiseBelow}
 use Rattle.dwarf_entries.proofs.tree_laws.offsets_rise.Goals as goal
@@ -20,11 +20,12 @@ increasing key xs rise k lt =
 -- ---- scopes
 
 pub returns-clause-scopes : goal.returns-clause-scopes
-returns-clause-scopes c s tree h = after-tree s tree h (λ tree. RiseBelow (length s.debug_info)
-    (map (λ (scope : Scope). scope.offset) tree.scopes)) (λ us parsed us_are parsed_are.
-    let scopes : List Scope = scopes_in parsed in
-    let are = units-in s us us_are in
-    let at = scope-at s us parsed parsed_are in (
+returns-clause-scopes c s tree h =
+    let t = tree-parts s tree h in
+    let scopes : List Scope = scopes_in t.1.parsed in
+    let are = units-in s t.0 t.1.us_are in
+    let at = scope-at s t.0 t.1.parsed t.1.parsed_are in
+    rw (← t.1.is) (
       increasing (λ (scope : Scope). scope.offset) scopes (λ i j x y x_is y_is lt.
           let first = at i x x_is in
           let second = at j y y_is in
@@ -36,7 +37,7 @@ returns-clause-scopes c s tree h = after-tree s tree h (λ tree. RiseBelow (leng
           let inside = site-within are one.place in
           let unit = are.each_is one.place.unit one.site.member.unit one.place.unit_is in
           omega (arith, inside.1, unit.bounds.within, one.offset_is)),
-    ))
+    )
 
 -- ---- roots
 
@@ -83,17 +84,19 @@ roots-from-rise s from number (u ∷ us) are starts =
     (units-after u us are) (λ i v found. are.apart 0 (suc i) u v refl found (omega arith)))
 
 pub returns-clause-roots : goal.returns-clause-roots
-returns-clause-roots c s tree h = after-tree s tree h (λ tree. RiseBelow (length s.debug_info)
-    (map (λ (root : Root). root.offset) tree.roots)) (λ us parsed us_are parsed_are.
-    let rise = roots-from-rise s 0 0 us (units-in s us us_are) (λ i u found. omega arith) in (
-      increasing (λ (root : Root). root.offset) (roots_from 0 us) (λ i j x y x_is y_is lt.
-          let less = rise.1 i j x lt (slice_get_within (roots_from 0 us) j y y_is) in
+returns-clause-roots c s tree h =
+    let t = tree-parts s tree h in
+    let roots : List Root = roots_from 0 t.0 in
+    let rise = roots-from-rise s 0 0 t.0 (units-in s t.0 t.1.us_are) (λ i u found. omega arith) in
+    rw (← t.1.is) (
+      increasing (λ (root : Root). root.offset) roots (λ i j x y x_is y_is lt.
+          let less = rise.1 i j x lt (slice_get_within roots j y y_is) in
           omega (
             arith,
             less,
-            ap (λ (r : Root). r.offset) (get_or_from_slice_get (roots_from 0 us) i x x x_is),
-            ap (λ (r : Root). r.offset) (get_or_from_slice_get (roots_from 0 us) j y x y_is),
+            ap (λ (r : Root). r.offset) (get_or_from_slice_get roots i x x x_is),
+            ap (λ (r : Root). r.offset) (get_or_from_slice_get roots j y x y_is),
           )),
-      All-map (λ (offset : ℕ). offset < length s.debug_info) (λ (root : Root). root.offset)
-          (roots_from 0 us) (λ k d lt. (rise.0 k d lt).1),
-    ))
+      All-map (λ (offset : ℕ). offset < length s.debug_info) (λ (root : Root). root.offset) roots
+          (λ k d lt. (rise.0 k d lt).1),
+    )

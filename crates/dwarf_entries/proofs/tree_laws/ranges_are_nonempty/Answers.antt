@@ -1,7 +1,7 @@
 use Rattle.dwarf_entries.proofs
 use proofs.{◌≡◌, ℕ, zero, suc, ◌+◌, ◌-◌, ◌≤◌, List, length, take, ap, subst, arith, ◌<◌, Some, Ok}
 use proofs.{All, slice_get, take_all, get_or_from_slice_get, Sections, CompilationUnit, Scope}
-use proofs.{ParsedScope, all_scopes, sum_by_more, after-tree, all-are, parsed-at, element}
+use proofs.{ParsedScope, all_scopes, sum_by_more, tree-parts, all-are, parsed-at, element}
 use Rattle.std.proofs.{Common.sum_by, lemmas.List.Folds.fold-map}
 use Rattle.dwarf_entries.specs.Scopes.{items_limit}
 use Rattle.dwarf_ranges.specs.Ranges.{IsValidRange}
@@ -22,10 +22,10 @@ fits-at s us parsed parsed_are n j there =
     at.covering at.covering_is)
 
 pub returns-clause-ranges : goal.returns-clause-ranges
-returns-clause-ranges c s tree h = after-tree s tree h (λ tree.
-    All (λ (scope : Scope). All IsValidRange scope.ranges) tree.scopes)
-    (λ us parsed us_are parsed_are. all-are (λ (scope : Scope). AllHold scope.ranges) parsed
-    (λ n j there. (fits-at s us parsed parsed_are n j there).hold))
+returns-clause-ranges c s tree h =
+    let t = tree-parts s tree h in
+    rw (← t.1.is) (all-are (λ (scope : Scope). AllHold scope.ranges) t.1.parsed
+    (λ n j there. (fits-at s t.0 t.1.parsed t.1.parsed_are n j there).hold))
 
 -- The scopes before a number have at most as many ranges as range items, which are within the
 -- limit.
@@ -46,18 +46,12 @@ limited s us parsed parsed_are (suc n) le =
     rw one (grind (arith, fits.counted), grind (arith, fits.within))
 
 pub returns-clause-count : goal.returns-clause-count
-returns-clause-count c s tree h = after-tree s tree h (λ tree.
-    sum_by (λ (scope : Scope). length scope.ranges) tree.scopes ≤ items_limit)
-    (λ us parsed us_are parsed_are.
-    let all = limited s us parsed parsed_are (length parsed) (omega arith) in
+returns-clause-count c s tree h =
+    let t = tree-parts s tree h in
+    let parsed = t.1.parsed in
+    let all = limited s t.0 parsed t.1.parsed_are (length parsed) (omega arith) in
     let whole = take_all (length parsed) parsed (omega arith) in
     let mapped = fold-map (λ (n : ℕ) (scope : Scope). n + length scope.ranges)
     (λ (j : ParsedScope). j.scope) 0 parsed in
-    omega (
-      arith,
-      all.0,
-      all.1,
-      ap (λ (js : List ParsedScope). sum_by (λ (j : ParsedScope). length j.scope.ranges) js) whole,
-      ap (λ (js : List ParsedScope). sum_by (λ (j : ParsedScope). j.items) js) whole,
-      mapped,
-    ))
+    let parts = rw whole at all in
+    rw (← t.1.is) (omega (arith, parts.0, parts.1, mapped))

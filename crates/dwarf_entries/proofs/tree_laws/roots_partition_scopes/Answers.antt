@@ -4,7 +4,7 @@ use proofs.{Contains, slice_get, count_by, length-map, All-nil, All-cons, All-we
 use proofs.{each-length, Die, is_scope, Sections, Root, CompilationUnit, Scope, ParsedScope}
 use proofs.{stmt_list_of, root_of, roots_from, first_number, parse_scope, all_sites}
 use proofs.{number_of_scopes, All-contains, ArePartsFrom, first-rises, before-later, rise-order}
-use proofs.{IsScopeAt, after-tree, scope-at, contained, scopes_in, first-next, all-sites-count}
+use proofs.{IsScopeAt, tree-parts, scope-at, contained, scopes_in, first-next, all-sites-count}
 use proofs.{AreUnitsIn, dies-rise, units-in, roots-part}
 use Rattle.dwarf_entries.specs.TreeLaws.{IsOfUnit}
 use Rattle.dwarf_entries.proofs.tree_laws.roots_partition_scopes.Goals as goal
@@ -61,13 +61,15 @@ roots-of number (u ∷ us) =
 -- ---- the theorems
 
 pub returns-clause-parts : goal.returns-clause-parts
-returns-clause-parts c s tree h = after-tree s tree h
-    (λ tree. ArePartsFrom 0 (length tree.scopes) tree.roots)
-    (λ us parsed us_are parsed_are.
-    let made = each-length (parse_scope s us) [] (all_sites us) parsed parsed_are in
-    let size : 0 + number_of_scopes us ≡ length (scopes_in parsed) =
-    omega (arith, made, length-map parsed (λ (j : ParsedScope). j.scope), all-sites-count us) in
-    let parts = roots-part 0 us in rw size at parts)
+returns-clause-parts c s tree h =
+    let t = tree-parts s tree h in
+    let us = t.0 in
+    let made = each-length (parse_scope s us) [] (all_sites us) t.1.parsed t.1.parsed_are in
+    let same = length-map t.1.parsed (λ (j : ParsedScope). j.scope) in
+    let size : 0 + number_of_scopes us ≡ length (scopes_in t.1.parsed) =
+    omega (arith, made, same, all-sites-count us) in
+    let parts = roots-part 0 us in
+    rw (← t.1.is) (rw size at parts)
 
 of-unit : (s : Sections) (us : List CompilationUnit) (n : ℕ) (scope : Scope) (root : Root)
     → AreUnitsIn s us → IsScopeAt us n scope → IsRootOf us 0 root → root.first ≤ scope.number
@@ -95,10 +97,11 @@ of-unit s us n scope root are x r from until =
     }
 
 pub returns-clause-scopes : goal.returns-clause-scopes
-returns-clause-scopes c s tree root scope h = after-tree s tree h (λ tree. Contains tree.roots root
-    → Contains tree.scopes scope → root.first ≤ scope.number → scope.number < root.past
-    → IsOfUnit root scope) (λ us parsed us_are parsed_are root_in scope_in.
-    let j = contained (scopes_in parsed) scope scope_in in
-    of-unit s us j.0 scope root (units-in s us us_are)
-    (scope-at s us parsed parsed_are j.0 scope j.1)
-    (All-contains (IsRootOf us 0) (roots_from 0 us) root (roots-of 0 us) root_in))
+returns-clause-scopes c s tree root scope h root_in scope_in =
+    let t = tree-parts s tree h in
+    let is = t.1.is in
+    let inside = rw (← is) at root_in in
+    let j = contained (scopes_in t.1.parsed) scope (rw (← is) at scope_in) in
+    of-unit s t.0 j.0 scope root (units-in s t.0 t.1.us_are)
+    (scope-at s t.0 t.1.parsed t.1.parsed_are j.0 scope j.1)
+    (All-contains (IsRootOf t.0 0) (roots_from 0 t.0) root (roots-of 0 t.0) inside)

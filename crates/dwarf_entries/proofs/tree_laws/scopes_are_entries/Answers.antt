@@ -3,21 +3,21 @@ use proofs.{◌≡◌, ℕ, ◌+◌, true, List, [], drop, take, refl, ap, arith
 use proofs.{Ok, Contains, is_some, count_by, slice_get_within, get_or_from_slice_get, each-length}
 use proofs.{ScopeKind, kind_of, is_scope, CompilationUnit, units_read, Scope, ScopeSite}
 use proofs.{ParsedScope, roots_from, first_number, all_sites, parse_scope, all_scopes, length-map}
-use proofs.{IsEntry, after-tree, with-units, scope-at, contained, scopes_in, site_at, site-of-entry}
+use proofs.{IsEntry, tree-parts, tree-with, scope-at, contained, scopes_in, site_at, site-of-entry}
 use proofs.{element}
 use Rattle.dwarf_entries.proofs.tree_laws.scopes_are_entries.Goals as goal
 
 pub returns-clause-units : goal.returns-clause-units
-returns-clause-units c s tree h = after-tree s tree h (λ tree. (units : List CompilationUnit)
-    × (units_read s ≡ Ok units) × (roots_from 0 units ≡ tree.roots))
-    (λ us parsed us_are parsed_are. (us, us_are, refl))
+returns-clause-units c s tree h =
+    let t = tree-parts s tree h in
+    rw (← t.1.is) (t.0, t.1.us_are, refl)
 
 pub returns-clause-entries : goal.returns-clause-entries
-returns-clause-entries c s tree us scope h us_are = with-units s us tree us_are h
-    (λ tree. Contains tree.scopes scope → (unit place : ℕ) × IsEntry us unit place scope)
-    (λ parsed parsed_are inside.
-    let j = contained (scopes_in parsed) scope inside in
-    let at = scope-at s us parsed parsed_are j.0 scope j.1 in (
+returns-clause-entries c s tree us scope h us_are inside =
+    let t = tree-with s us tree us_are h in
+    let is = t.is in
+    let j = contained (scopes_in t.parsed) scope (rw (← is) at inside) in
+    let at = scope-at s us t.parsed t.parsed_are j.0 scope j.1 in (
       at.place.unit,
       at.place.is.index,
       record {
@@ -28,13 +28,12 @@ returns-clause-entries c s tree us scope h us_are = with-units s us tree us_are 
         offset_is = at.offset_is;
         kind_is = at.place.is.kind_is ∙ ap (λ (k : ScopeKind). Some k) (sym at.kind_is);
       },
-    ))
+    )
 
 pub returns-clause-scopes : goal.returns-clause-scopes
 returns-clause-scopes c s tree us unit place of die h us_are of_is die_is is =
-    with-units s us tree us_are h
-    (λ tree. (scope : Scope) × Contains tree.scopes scope × IsEntry us unit place scope)
-    (λ parsed parsed_are. by_kind (kind_of die.tag) refl is parsed parsed_are)
+    let t = tree-with s us tree us_are h in
+    rw (← t.is) (by_kind (kind_of die.tag) refl is t.parsed t.parsed_are)
   where
     by_kind : (found : Option ScopeKind) → kind_of die.tag ≡ found → is_some found ≡ true
         → (parsed : List ParsedScope) → all_scopes s us ≡ Ok parsed
@@ -57,7 +56,7 @@ returns-clause-scopes c s tree us unit place of die h us_are of_is die_is is =
             of_is = of_is;
             die = die;
             die_is = die_is;
-            offset_is = rw found.offset_is (ap (λ (p : ScopeSite). p.member.die.offset) site_is);
+            offset_is = rw (found.offset_is, site_is) refl;
             kind_is = rw (found.kind_is, site_is) at;
           },
         )
