@@ -12,20 +12,20 @@ pub use Rattle.dwarf_bytes.specs.declared.format.Format.{Format}
 unfoldable pub use Rattle.dwarf_bytes.specs.Items.{each_from}
 pub use Rattle.dwarf_entries.specs.Names.{Member, first_on, members_of, name_on, names_of}
 pub use Rattle.dwarf_entries.specs.{Names.{references_limit, target_of}, Order.AreInOrder}
-pub use Rattle.dwarf_entries.specs.{Order.AreNumbered, Private.EntryOffsets.{AreStored, IsBitmapOf}}
+pub use Rattle.dwarf_entries.specs.{Order.AreNumbered, Private.EntryOffsets.AreStored}
 pub use Rattle.dwarf_entries.specs.Private.EntryOffsets.{all_offsets, dies_of, stored_unit_of}
-pub use Rattle.dwarf_entries.specs.Private.Members.{Finds, IsMember, IsPlaceOf, IsWithin, member_in}
+pub use Rattle.dwarf_entries.specs.Private.Members.{Finds, IsMember, IsPlaceOf, member_in}
 pub use Rattle.dwarf_entries.specs.Private.NameCache.{IsCacheOf, slot_at}
 pub use Rattle.dwarf_entries.specs.{Private.ObjectUnits.ObjectUnits, Private.Passes.AreParsedTo}
-pub use Rattle.dwarf_entries.specs.Private.Passes.{IsScopeSite, PassedTo, all_bases, all_entries}
-pub use Rattle.dwarf_entries.specs.Private.Passes.{all_scopes, all_sites, bases_of, first_number}
+pub use Rattle.dwarf_entries.specs.Private.Passes.{IsScopeSite, PassedTo, all_entries, all_scopes}
+pub use Rattle.dwarf_entries.specs.Private.Passes.{all_sites, bases_of, first_number}
 pub use Rattle.dwarf_entries.specs.Private.Passes.{number_of_scopes, parse_scope}
 pub use Rattle.dwarf_entries.specs.{Private.Shared.{AddsFacts, IsPushed, facts_of}, Scopes.Own}
 pub use Rattle.dwarf_entries.specs.Scopes.{ParsedScope, Scope, ScopeSite, Tree, own, own_of}
 pub use Rattle.dwarf_entries.specs.Scopes.{root_of, roots_from, scope_at, scope_of_site}
-pub use Rattle.dwarf_entries.specs.Scopes.{scopes_from, sites_in, stmt_list_of}
-pub use Rattle.dwarf_entries.specs.{TreeLaws.{ArePartsFrom, IsEntry}, Units.CompilationUnit}
-pub use Rattle.dwarf_entries.specs.{Units.{unit_of, with_bases}, declared.calls.CallSite.CallSite}
+pub use Rattle.dwarf_entries.specs.{Scopes.{scopes_from, sites_in, stmt_list_of}, TreeLaws.IsEntry}
+pub use Rattle.dwarf_entries.specs.Units.{CompilationUnit, unit_of, with_bases}
+pub use Rattle.dwarf_entries.specs.declared.calls.CallSite.{CallSite}
 pub use Rattle.dwarf_entries.specs.declared.name_cache.NameCache.{NameCache}
 pub use Rattle.dwarf_entries.specs.declared.origin_chains.EntryNames.{EntryNames}
 pub use Rattle.dwarf_entries.specs.declared.references.UnitPlace.{UnitPlace}
@@ -56,7 +56,7 @@ pub use Rattle.std.proofs.Common.{[], ap, append-nil, append_assoc, arith, cond,
 pub use Rattle.std.proofs.Common.{false, get_or, inl, inr, is_some, length, length-append}
 pub use Rattle.std.proofs.Common.{length-take, map, nat_le, nat_lt, ok_or, option_map, refl, rules}
 pub use Rattle.std.proofs.Common.{slice_get, subst, suc, sym, take, true, zero, zip, ℕ, ◌++◌, ◌+◌}
-pub use Rattle.std.proofs.Common.{◌-◌, ◌<◌, ◌==◌, ◌||◌, ◌↔◌, ◌∙◌, ◌∷◌, ◌≡◌, ◌≤◌, ◌⊎◌}
+pub use Rattle.std.proofs.Common.{◌-◌, ◌<◌, ◌==◌, ◌↔◌, ◌∙◌, ◌∷◌, ◌≡◌, ◌≤◌, ◌⊎◌}
 pub use Rattle.std.proofs.{lemmas.Bool.{cases_lt, leb-false, leb-true}, lemmas.Grind.common_steps}
 pub use Rattle.std.proofs.lemmas.List.{length-drop, length-map, map_push, take_all, take_more}
 pub use Rattle.std.proofs.lemmas.List.Elements.{All-cons, All-contains, All-map, All-nil}

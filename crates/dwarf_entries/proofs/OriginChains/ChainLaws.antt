@@ -50,8 +50,7 @@ in_front m r = r >>= λ rest. Ok (m ∷ rest)
 
 prepend-append : (before : List Member) (last : Member) (r : Result (List Member) Cause)
     → prepend before (in_front last r) ≡ prepend (before ++ last ∷ []) r
-prepend-append before last (Ok rest) = rw (append_assoc before (last ∷ []) rest) refl
-prepend-append before last (Err e) = refl
+prepend-append before last r = grind (arith, append_assoc)
 
 -- The origin chain of an entry with a reference, if one more reference may be followed.
 pub stepped : (units : List CompilationUnit) (after : ℕ) (last : Member)
@@ -65,8 +64,7 @@ stepped units after last reference is = rw (is, chain_within) refl
 pub ended : (units : List CompilationUnit) (left : ℕ) (last : Member) → next_of last.die ≡ None
     → chain_within left units last ≡ Ok (last ∷ [])
 unfolding chain_within
-ended units zero last is = rw (is, chain_within) refl
-ended units (suc left) last is = rw (is, chain_within) refl
+ended units left last is = grind (arith, chain_within)
 
 pub stopped : (units : List CompilationUnit) (last : Member) (reference : AttributeValue)
     → next_of last.die ≡ Some reference → chain_within zero units last ≡ Err OriginDepth

@@ -5,10 +5,10 @@ use Common.{Bool, true, ◌==◌, refl, sym, ap, ◌∙◌, arith, Option, Some,
 use Common.{option_map, option_or, slice_get-get_or, slice_get_within, AttributeValue, Die}
 use Common.{RiseWithin, UnitEntries, StoredUnit, Sections, CompilationUnit, Member, target_of}
 use Common.{AreStored, member_in, Reference, ok_or, cases_lt, IsNonDecreasingBy, IsPartitionPoint}
-use Common.{members_of, IsWithin}
+use Common.{members_of}
+use Rattle.dwarf_entries.specs.{Private.Members.IsWithin, Names.member_at}
 use Rattle.std.proofs.{Common.{eq-eqb, option_to_list}, lemmas.Bool.ne_eqb}
 use Rattle.std.proofs.lemmas.List.Folds.{find-append}
-use Rattle.dwarf_entries.specs.Names.{member_at}
 use Rattle.dwarf_bytes.specs.declared.constants.TheConstants.{DW_FORM_REF_ADDR}
 use Rattle.dwarf_entries.proofs.{UnitPasses.PassLaws.element, UnitPasses.UnitLaws.stored-at}
 use Rattle.dwarf_entries.proofs.UnitPasses.UnitLaws.{stored-index, stored-length, AreUnitsIn}

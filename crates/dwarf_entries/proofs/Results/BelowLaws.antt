@@ -116,27 +116,23 @@ below-trans dies i j k outer inner = (
   λ m d lt le. grind (arith, outer.0, outer.2 j d, outer.2 m d, inner.2 m d),
 )
 
-past-within : (dies : List Die) (i j : ℕ) (outer inner : Die) → slice_get dies i ≡ Some outer
-    → slice_get dies j ≡ Some inner → IsBelow dies j i
-    → past_below dies j inner ≤ past_below dies i outer
-past-within dies i j outer inner outer_is inner_is under =
-    let k : ℕ = past_below dies i outer in
-    let before = (from-below dies i j outer outer_is under).1 in
-    grind (
-      arith,
-      to-below dies j k inner inner_is before,
-      below-trans dies i j k under,
-      from-below dies i k outer outer_is,
-    )
-
 pub ends-within : (dies : List Die) (i j : ℕ) (outer inner : Die) → slice_get dies i ≡ Some outer
     → slice_get dies j ≡ Some inner → is_scope outer ≡ true → is_scope inner ≡ true
     → IsBelow dies j i → count_by is_scope (take j dies) + 1 + count_by is_scope
     (below inner (drop (j + 1) dies)) ≤ count_by is_scope (take i dies) + 1 + count_by is_scope
     (below outer (drop (i + 1) dies))
 ends-within dies i j outer inner outer_is inner_is outer_scope inner_scope under =
-    let a = ends-are dies i outer outer_is outer_scope in
-    let b = ends-are dies j inner inner_is inner_scope in
-    let less = counted-rises is_scope dies (past_below dies j inner) (past_below dies i outer)
-    (past-within dies i j outer inner outer_is inner_is under) in
-    omega (arith, a, b, less)
+    let k : ℕ = past_below dies i outer in
+    let before = (from-below dies i j outer outer_is under).1 in
+    let less = counted-rises is_scope dies (past_below dies j inner) k (grind (
+      arith,
+      to-below dies j k inner inner_is before,
+      below-trans dies i j k under,
+      from-below dies i k outer outer_is,
+    )) in
+    omega (
+      arith,
+      ends-are dies i outer outer_is outer_scope,
+      ends-are dies j inner inner_is inner_scope,
+      less,
+    )

@@ -39,11 +39,18 @@ sites-nest : {us : List CompilationUnit} {n m : ℕ} {p q : ScopeSite} (a : IsSi
     (b : IsSiteAt us m q) → n < m → m < n + 1 + p.inside → m + 1 + q.inside ≤ n + 1 + p.inside
 sites-nest {p = p} {q = q} a b lt within =
     let under = (sites-below a b).1 (lt, within) in
-    let here = in-unit-of a a refl in
     let there = in-unit-of a b under.0 in
     let ends = ends-within p.member.unit.dies a.is.index b.is.index p.member.die q.member.die
-    here.there there.there (ap is_some a.is.kind_is) (ap is_some b.is.kind_is) under.1 in
-    omega (arith, ends, here.number_is, here.inside_is, there.number_is, there.inside_is)
+    a.is.there there.there (ap is_some a.is.kind_is) (ap is_some b.is.kind_is) under.1 in
+    omega (
+      arith,
+      ends,
+      a.number_is,
+      a.is.number_is,
+      a.is.inside_is,
+      there.number_is,
+      there.inside_is,
+    )
 
 pub scopes-in-order : (s : Sections) (tree : Tree) → tree_of s ≡ Ok tree → AreInOrder tree.scopes
 scopes-in-order s tree h =

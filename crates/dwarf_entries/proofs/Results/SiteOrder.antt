@@ -1,7 +1,7 @@
 -- The order of scope sites and of their entries.
 use Rattle.dwarf_entries.proofs.Common
 use Common.{◌≡◌, ◌⊎◌, ℕ, zero, suc, ◌+◌, ◌<◌, ◌≤◌, cond, List, [], ◌∷◌, take, drop, ap, ◌∙◌, arith}
-use Common.{◌↔◌, refl, Some, slice_get, is_some, count_by, nat_lt, get_or_from_slice_get}
+use Common.{◌↔◌, Some, slice_get, is_some, count_by, nat_lt, get_or_from_slice_get}
 use Common.{slice_get_within, Die, below, IsBelow, RiseWithin, is_scope, Sections, CompilationUnit}
 use Common.{ScopeSite, first_number, prefix_len, sum_by-take-le, count_by_more_yes, common_steps}
 use Rattle.std.proofs.{lemmas.List.Sums.sum_by-take-drop, lemmas.List.take-take}
@@ -81,17 +81,16 @@ pub sites-below : {us : List CompilationUnit} {n m : ℕ} {p q : ScopeSite} (a :
 sites-below {us} {n} {m} {p} {q} a b =
     let past = before-later a b.unit in
     let before = before-later b a.unit in
-    let here = in-unit-of a a refl in
     let there = in-unit-of a b in
     let between = λ (e : a.unit ≡ b.unit). scopes-between p.member.unit.dies a.is.index b.is.index
-    p.member.die q.member.die here.there (there e).there (ap is_some a.is.kind_is)
-    (ap is_some b.is.kind_is) in (
+    p.member.die q.member.die a.is.there (there e).there (ap is_some a.is.kind_is)
+    (ap is_some b.is.kind_is) in
+    let place = a.is.number_is in
+    let inside = a.is.inside_is in (
       λ below. let numbers = (between below.0).0 below.1 in
-          let same = there below.0 in
-          grind (arith, here.number_is, here.inside_is, same.number_is),
+          omega (arith, a.number_is, place, inside, (there below.0).number_is, numbers.0, numbers.1),
       λ numbers. let e : a.unit ≡ b.unit = grind (arith, a.number_is, b.number_is) in
-          let same = there e in
-          (e, (between e).1 (grind (arith, here.number_is, here.inside_is, same.number_is))),
+          (e, (between e).1 (grind (arith, a.number_is, place, inside, (there e).number_is))),
     )
 
 -- A scope with a lower number is in an earlier unit, or earlier in the same unit.

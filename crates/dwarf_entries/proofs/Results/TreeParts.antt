@@ -1,11 +1,11 @@
 -- The units and scopes that a result was read from.
 use Rattle.dwarf_entries.proofs.Common
-use Common.{◌≡◌, ℕ, ◌+◌, List, [], length, take, map, get_or, ap, sym, ◌∙◌, subst, arith}
-use Common.{length-take, refl, Result, Ok, Some, All, Contains, slice_get, slice_get-get_or}
-use Common.{slice_get_within, Cause, in_section, bind_ok, same-ok, in_section-ok, Sections}
-use Common.{EntryNames, CompilationUnit, units_read, names_of, Tree, Scope, ScopeSite, ParsedScope}
-use Common.{scope_at, tree_of, roots_from, stmt_list_of, parse_scope, all_sites, all_scopes}
-use Common.{DebugInfo, All-map, with_offset, scope_of_site}
+use Common.{◌≡◌, ℕ, ◌+◌, List, [], length, take, map, get_or, ap, sym, ◌∙◌, arith, length-take}
+use Common.{refl, Result, Ok, Some, All, Contains, slice_get, slice_get-get_or, slice_get_within}
+use Common.{Cause, in_section, bind_ok, same-ok, in_section-ok, Sections, EntryNames}
+use Common.{CompilationUnit, units_read, names_of, Tree, Scope, ScopeSite, ParsedScope, scope_at}
+use Common.{tree_of, roots_from, stmt_list_of, parse_scope, all_sites, all_scopes, DebugInfo}
+use Common.{All-map, with_offset, scope_of_site}
 use Rattle.dwarf_entries.specs.Scopes.{covers_there}
 use Rattle.dwarf_ranges.specs.Ranges.{Covering}
 use Rattle.dwarf_entries.proofs.ScopePasses.SiteLaws.{IsSiteAt, site-at}

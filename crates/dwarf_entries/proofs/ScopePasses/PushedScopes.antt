@@ -45,22 +45,6 @@ in_list-within many first past [] in_list = omega (arith, in_list)
 in_list-within many first past (s ∷ ss) in_list =
     omega (arith, in_list.0, in_list-within many s.ranges_end past ss in_list.2)
 
--- A slice of a list does not change when elements are appended.
-stretch-stays : (ranges new : List Range) (first end : ℕ) → first ≤ end → end ≤ length ranges
-    → take (end - first) (drop first (ranges ++ new)) ≡ take (end - first) (drop first ranges)
-stretch-stays ranges new first end rises within =
-    let left : length (drop first ranges) ≡ length ranges - first = length-drop first ranges in
-    let fits : end - first ≤ length (drop first ranges) = omega (arith, left, rises, within) in
-    rw (drop-append-le first ranges new (omega (arith, rises, within)))
-    (take-append-le (end - first) (drop first ranges) new fits)
-
--- The appended elements are the slice after it.
-stretch-new : (ranges new : List Range) (first end : ℕ) → first ≡ length ranges
-    → end ≡ length ranges + length new → take (end - first) (drop first (ranges ++ new)) ≡ new
-stretch-new ranges new first end first_is end_is =
-    let size : end - first ≡ length new = omega (arith, first_is, end_is) in
-    rw (size, first_is, drop-append_seam ranges new) (take_all (length new) new (omega arith))
-
 -- A call site does not change when the list of wide ones grows.
 call-stays : (wide more : List CallSite) (c : Calls) (file line : ℕ)
     → IsInList (length wide) c file line
@@ -82,11 +66,20 @@ pub scopes-push : (roots : List Root) (wide more : List CallSite) (ranges new : 
     → scopes_from roots (wide ++ more) (ranges ++ new) first (ss ++ s ∷ [])
     ≡ scopes_from roots wide ranges first ss ++ scope_of roots (wide ++ more) new s ∷ []
 scopes-push roots wide more ranges new first [] s in_list ends =
-    rw (stretch-new ranges new first s.ranges_end in_list ends) refl
+    let size : s.ranges_end - first ≡ length new = omega (arith, in_list, ends) in
+    rw (
+      size,
+      in_list,
+      drop-append_seam ranges new,
+      take_all (length new) new (omega arith),
+    ) refl
 scopes-push roots wide more ranges new first (t ∷ ts) s in_list ends =
     let past = in_list-within (length wide) t.ranges_end (length ranges) ts in_list.2 in
+    let fits : t.ranges_end - first ≤ length (drop first ranges) =
+    omega (arith, length-drop first ranges, in_list.0, past) in
     rw (
-      stretch-stays ranges new first t.ranges_end in_list.0 past,
+      drop-append-le first ranges new (omega (arith, in_list.0, past)),
+      take-append-le (t.ranges_end - first) (drop first ranges) new fits,
       call-stays wide more t.calls t.call_file t.call_line in_list.1,
       scopes-push roots wide more ranges new t.ranges_end ts s in_list.2 ends,
     ) refl

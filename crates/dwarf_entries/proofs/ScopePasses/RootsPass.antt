@@ -5,9 +5,9 @@ use Common.{sym, ◌∙◌, arith, append-nil, Bool, Option, Some, None, count_b
 use Common.{sum_by-cons, slice_get_within, get_or_from_slice_get, Die, UnitEntries, is_scope}
 use Common.{StoredUnit, Root, CompilationUnit, root_of, roots_from, stmt_list_of, number_of_scopes}
 use Common.{first_number, find, append_assoc, take_more, sum_by-take-le, find_at, IsNonDecreasingBy}
-use Common.{IsPartitionPoint, ArePartsFrom}
+use Common.{IsPartitionPoint}
+use Rattle.dwarf_entries.specs.{TreeLaws.ArePartsFrom, Scopes.stmt_list_by_number}
 use Rattle.std.proofs.{lemmas.List.Sums.position_or_len_is, lemmas.Bool.{lt-ltb, le-ltb}}
-use Rattle.dwarf_entries.specs.Scopes.{stmt_list_by_number}
 use Rattle.dwarf_walk.specs.{declared.unit_entries.RootEntry.RootEntry, Stored.root_in}
 use Rattle.dwarf_entries.proofs.ScopePasses.SiteLaws.{sites-count, first-next}
 use Rattle.dwarf_entries.proofs.{UnitPasses.RereadLaws.sites-stored, UnitPasses.UnitLaws.StoredFor}
@@ -126,18 +126,6 @@ by_partition roots number index within parts =
     (λ k before. le-ltb number (get_or roots k d).past (parts.0 k d (omega arith) before))
     (λ inside. lt-ltb number (get_or roots index d).past (parts.1 index d (omega arith) inside)))
 
--- The root of a unit before the scope is passed over.
-by_later_unit : (first past : ℕ) (dies : List Die) (roots : List Root) (number : ℕ) → past ≤ number
-    → stmt_list_by_number (root_of first past dies roots) number
-    ≡ stmt_list_by_number roots number
-by_later_unit first past dies roots number before = grind (arith, le-ltb number past)
-
--- A unit with scopes has a root, which has its stmt_list.
-by_unit : (first past : ℕ) (dies : List Die) (roots : List Root) (number : ℕ)
-    → number < past → past ≡ first + count_by is_scope dies → first ≤ number
-    → stmt_list_by_number (root_of first past dies roots) number ≡ stmt_list_of dies
-by_unit first past dies roots number inside past_is after = grind (arith, lt-ltb number past)
-
 -- ---- the scopes of the units before
 
 -- The stmt_list that is found by the number of a scope of a unit is that of the unit.
@@ -147,13 +135,9 @@ pub by_number : (first : ℕ) (us : List CompilationUnit) (u : CompilationUnit) 
     → stmt_list_by_number (roots_from first us) number ≡ stmt_list_of u.dies
 by_number first [] u index number found after inside = cc
 by_number first (v ∷ vs) u zero number found after inside =
-    let past : ℕ = first + count_by is_scope v.dies in
-    let same : u ≡ v = grind arith in
-    let within = rw same at inside in
-    rw same (by_unit first past v.dies (roots_from past vs) number (omega (arith, within)) refl
-    (omega (arith, after)))
+    grind (arith, lt-ltb number (first + count_by is_scope v.dies))
 by_number first (v ∷ vs) u (suc index) number found after inside =
     let past : ℕ = first + count_by is_scope v.dies in
     let count = sum_by-cons (λ (w : CompilationUnit). count_by is_scope w.dies) v (take index vs) in
     let later = by_number past vs u index number found in
-    grind (arith, by_later_unit first past v.dies (roots_from past vs) number, count, later)
+    grind (arith, le-ltb number past, count, later)

@@ -1,10 +1,10 @@
 -- The scope sites of units, by their numbers.
 use Rattle.dwarf_entries.proofs.Common
 use Common.{is_some, ◌≡◌, ℕ, zero, suc, ◌+◌, ◌-◌, ◌≤◌, inl, inr, cond, List, [], ◌∷◌, ◌++◌, length}
-use Common.{take, drop, refl, ap, sym, ◌∙◌, arith, length-append, take_all, Option, Some, None}
-use Common.{count_by, slice_get, sum_by-cons, slice_get_within, get_or_from_slice_get, Die, below}
-use Common.{ScopeKind, kind_of, is_scope, CompilationUnit, ScopeSite, sites_in, number_of_scopes}
-use Common.{first_number, all_sites, cases_lt, sum_by_more}
+use Common.{take, drop, refl, ap, sym, ◌∙◌, arith, length-append, take_all, Option, Some, count_by}
+use Common.{slice_get, sum_by-cons, slice_get_within, get_or_from_slice_get, Die, below, ScopeKind}
+use Common.{kind_of, is_scope, CompilationUnit, ScopeSite, sites_in, number_of_scopes, first_number}
+use Common.{all_sites, cases_lt, sum_by_more}
 use Rattle.dwarf_entries.specs.Scopes.{site_of}
 use Rattle.dwarf_entries.proofs.UnitPasses.PassLaws.{element}
 

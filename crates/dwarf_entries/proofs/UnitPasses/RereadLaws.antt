@@ -1,11 +1,11 @@
 -- Re-reading the entries of a unit at their offsets, and the scope sites of a unit from its stored
 -- data.
 use Rattle.dwarf_entries.proofs.Common
-use Common.{◌≡◌, ℕ, ◌≤◌, List, length, take, true, refl, ap, sym, ◌∙◌, arith, subst, [], ◌∷◌}
-use Common.{get_or, map, Some, Result, Ok, slice_get, Cause, Format, Declaration, UnitHeader, Die}
-use Common.{ScopeKind, Sections, UnitPlace, CompilationUnit, Member, UnitEntries, AreStored}
-use Common.{stored_unit_of, kind_of, StoredUnit, stored_of, length-map, slice_get_within}
-use Common.{get_or_from_slice_get, ScopeSite, sites_in, IsPlaceOf, named_entry, scope_entry}
+use Common.{◌≡◌, ℕ, ◌≤◌, List, length, take, true, refl, ap, ◌∙◌, arith, [], ◌∷◌, get_or, map, Some}
+use Common.{Result, Ok, slice_get, Cause, UnitHeader, Die, ScopeKind, Sections, UnitPlace}
+use Common.{CompilationUnit, Member, UnitEntries, AreStored, stored_unit_of, kind_of, StoredUnit}
+use Common.{stored_of, length-map, slice_get_within, get_or_from_slice_get, ScopeSite, sites_in}
+use Common.{IsPlaceOf, named_entry, scope_entry}
 use Rattle.dwarf_walk.specs.{Stored.scope_places, Private.Rereading.scope_entry_at}
 use Rattle.dwarf_walk.specs.Private.Named.{used_at, named_entry_at}
 use Rattle.dwarf_walk.specs.declared.unit_entries.ScopePlace.{ScopePlace}
@@ -16,34 +16,15 @@ use Rattle.dwarf_bytes.proofs.Numbers.Moves.{uleb-moves}
 use Rattle.dwarf_units.specs.{declared.attributes.Attribute.Attribute, Entries.entry_at}
 use Rattle.dwarf_units.specs.Private.StoredAttributes.{stored_attributes}
 use Rattle.dwarf_units.proofs.RereadLaws.{entries-again}
-use Rattle.dwarf_walk.proofs.StoredNodes.{value-stored, stored_die, names_at-stored}
-use Rattle.dwarf_walk.proofs.RereadLaws.{without_place, inside-is}
+use Rattle.dwarf_walk.proofs.{StoredNodes.{value-stored, names_at-stored}, RereadLaws.without_place}
+use Rattle.dwarf_walk.proofs.RereadLaws.{inside-is}
 use Rattle.std.proofs.lemmas.List.{get_or-map}
 use Rattle.dwarf_entries.proofs.UnitPasses.UnitLaws.{stored-index, IsUnitIn, AreUnitsIn}
 use Rattle.dwarf_entries.proofs.ScopePasses.SiteLaws.{site-in}
 
 -- ---- the used attributes
 
-scope-stored : (die : Die) (kind : ScopeKind) → scope_entry (stored_die die) kind
-    ≡ scope_entry die kind
-scope-stored die kind =
-    let value = value-stored die.attributes in
-    rw (
-      names_at-stored die,
-      value DW_AT_LOW_PC refl,
-      value DW_AT_HIGH_PC refl,
-      value DW_AT_RANGES refl,
-      value DW_AT_CALL_FILE refl,
-      value DW_AT_CALL_LINE refl,
-    ) refl
-
 -- ---- the entries that were read before
-
--- An entry that can be read is within its unit.
-entry-within : (format : Format) (table : List Declaration) (unit : List ℕ) (at : ℕ)
-    (x : (ℕ × List Attribute) × ℕ) → entry_at format table unit at ≡ Ok x → at ≤ length unit
-unfolding entry_at
-entry-within format table unit at x h = grind (arith, uleb-moves unit at)
 
 -- The bytes up to the end of a unit, by its header.
 abbrev pub bytes_in : Sections → UnitHeader → List ℕ
@@ -53,18 +34,30 @@ module _ (s : Sections) (header : UnitHeader) (dies : List Die) (k : ℕ) (die :
     (read : IsUnitIn s header dies) (there : slice_get dies k ≡ Some die) where
   used-there : used_at header.format read.table (bytes_in s header) die.offset
       ≡ Ok (die.tag, stored_attributes true die.attributes)
+  unfolding entry_at
   used-there =
       let again = entries-again s.debug_info header read.table dies read.dies_are k die there in
-      inside-is header.format read.table (bytes_in s header) die.offset
-      (entry-within header.format read.table (bytes_in s header) die.offset
-      ((die.tag, die.attributes), again.0) again.1)
+      let within : die.offset ≤ length (bytes_in s header) =
+      grind (arith, again.1, uleb-moves (bytes_in s header) die.offset) in
+      inside-is header.format read.table (bytes_in s header) die.offset within
       ∙ ap (λ (r : Result ((ℕ × List Attribute) × ℕ) Cause). without_place r) again.1
 
   -- A scope of a unit can be re-read.
   pub scope-there : (kind : ScopeKind) → kind_of die.tag ≡ Some kind
       → scope_entry_at header.format read.table (bytes_in s header) die.offset
       ≡ Ok (scope_entry die kind)
-  scope-there kind is = rw (used-there, is, scope-stored die kind) refl
+  scope-there kind is =
+      let value = value-stored die.attributes in
+      rw (
+        used-there,
+        is,
+        names_at-stored die,
+        value DW_AT_LOW_PC refl,
+        value DW_AT_HIGH_PC refl,
+        value DW_AT_RANGES refl,
+        value DW_AT_CALL_FILE refl,
+        value DW_AT_CALL_LINE refl,
+      ) refl
 
   -- The names and the reference of an entry of a unit can be re-read.
   pub names_at-there : named_entry_at header.format read.table (bytes_in s header) die.offset
@@ -74,8 +67,8 @@ module _ (s : Sections) (header : UnitHeader) (dies : List Die) (k : ℕ) (die :
 -- A unit has the header that is stored for it.
 pub stored-in : (s : Sections) (u : CompilationUnit) (k : UnitEntries)
     → stored_of k ≡ stored_unit_of u → IsUnitIn s u.header u.dies → IsUnitIn s k.header u.dies
-stored-in s u k same = subst (λ (h : UnitHeader). IsUnitIn s h u.dies)
-    (sym (ap (λ (x : StoredUnit). x.header) same))
+stored-in s u k same is =
+    let header = ap (λ (x : StoredUnit). x.header) same in rw header is
 
 -- The entry at a place can be re-read with the stored header of its unit.
 pub reread : (s : Sections) (us : List CompilationUnit) (stored : List UnitEntries)

@@ -6,12 +6,13 @@ use Common.{slice_get_within, get_or_from_slice_get, slice_get-map, LoadFault, i
 use Common.{same-ok, Declaration, UnitHeader, tables_of, Die, RiseWithin, in_section-ok}
 use Common.{EntryBitmap, AddsOffsets, offsets_of, Sections, CompilationUnit, units_read}
 use Common.{all_offsets, AreStored, stored_unit_of, ObjectUnits, length-map, UnitEntries, stored_of}
-use Common.{DebugAbbrev, DebugInfo, false, ◌||◌, slice_get_read, declarations_of}
-use Common.{declarations_limit, units_of, entries_of, table_is, has_entry, with_bases, unit_of}
-use Common.{IsBitmapOf, dies_of, all_entries, all_bases, each_from}
-use Rattle.std.proofs.Common.{subst₂, flat_map}
-use Rattle.dwarf_units.proofs.EntryOrder.{entries-rise}
+use Common.{DebugAbbrev, DebugInfo, false, slice_get_read, declarations_of, declarations_limit}
+use Common.{units_of, entries_of, table_is, has_entry, with_bases, unit_of, dies_of, all_entries}
+use Common.{each_from}
+use Rattle.std.proofs.Common.{◌||◌, subst₂, flat_map}
+use Rattle.dwarf_entries.specs.{Private.EntryOffsets.IsBitmapOf, Private.Passes.all_bases}
 use Rattle.dwarf_entries.specs.Private.ObjectUnits.{units_or_none, units_of_object}
+use Rattle.dwarf_units.proofs.EntryOrder.{entries-rise}
 use Rattle.dwarf_entries.proofs.UnitPasses.HeaderLaws.{HasBounds, headers-in}
 use Rattle.dwarf_entries.proofs.UnitPasses.PassLaws.{each-at, from-map}
 

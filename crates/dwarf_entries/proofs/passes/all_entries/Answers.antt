@@ -16,83 +16,83 @@ use Rattle.dwarf_ranges.specs.Bases.{no_bases}
 use Rattle.dwarf_entries.proofs.passes.all_entries.Invariants.{EntriesSoFar}
 use Rattle.dwarf_entries.proofs.passes.all_entries.Goals as goal
 
+-- Re-reading a valid table fails only because memory ran out.
+only-memory : {X : Type 0} (r : Result X At) (x : X) (fault : LoadFault) → r ≡ Ok x
+    → (fault ≡ memory_fault) ⊎ (in_section DebugAbbrev r ≡ Err fault) → fault ≡ memory_fault
+only-memory r x fault read bad = grind arith
+
+-- The header and the table of the unit at an index.
+pair-at : (section : List ℕ) (headers : List UnitHeader) (tables : List (List Declaration))
+    (index : ℕ) (d : UnitHeader) (table : List Declaration) → tables_of section headers ≡ Ok tables
+    → index < length headers → in_section DebugAbbrev (declarations_of declarations_limit section
+    (get_or headers index d).abbreviations) ≡ Ok table
+    → slice_get (zip headers tables) index ≡ Some (get_or headers index d, table)
+unfolding tables_of
+pair-at section headers tables index d table all within table_read =
+    let same : get_or tables index [] ≡ table = same-ok {E = At} (get_or tables index []) table
+    (sym (table_is section headers tables index d all within) ∙ in_section-ok DebugAbbrev
+    (declarations_of declarations_limit section (get_or headers index d).abbreviations) table
+    table_read) in
+    let sizes = each-length (table_for section) [] headers tables all in
+    let there : index < length tables = omega (arith, sizes, within) in
+    slice_get-get_or (zip headers tables) index (d, [])
+    (omega (arith, length-zip headers tables, sizes, within))
+    ∙ rw (get_or-zip headers tables index (d, []) within there, same) refl
+
 module _ {info : List ℕ} {headers : List UnitHeader} {tables : List (List Declaration)}
-    {bitmap marked : EntryBitmap} {index : ℕ} {stored : List UnitEntries}
-    (so_far : EntriesSoFar info headers tables bitmap marked index stored) (section : List ℕ)
-    (all : tables_of section headers ≡ Ok tables) (d : UnitHeader)
-    (within : index < length headers) where
-  -- Re-reading a valid table fails only because memory ran out.
-  entries-table-fault : (fault : LoadFault) → (fault ≡ memory_fault)
-      ⊎ (in_section DebugAbbrev (declarations_of declarations_limit section
-      (get_or headers index d).abbreviations) ≡ Err fault) → fault ≡ memory_fault
-  entries-table-fault fault bad =
-      let read = table_is section headers tables index d all within in grind arith
+    {bitmap marked : EntryBitmap} {index : ℕ} {stored : List UnitEntries} {header : UnitHeader}
+    {table : List Declaration}
+    (so_far : EntriesSoFar info headers tables bitmap marked index stored)
+    (there : slice_get (zip headers tables) index ≡ Some (header, table)) where
+  entries-next : (after : EntryBitmap) (unit : UnitEntries)
+      → in_section DebugInfo (stored_entries info header table) ≡ Ok (stored_of unit)
+      → ((dies : List Die) → entries_of info header table ≡ Ok dies
+      → AddsOffsets marked after (offsets_of dies))
+      → EntriesSoFar info headers tables bitmap after (index + 1) (stored ++ unit ∷ [])
+  entries-next after unit unit_read adds =
+      let made = so_far.made in
+      let found = after-done (entries_of info header table) (stored_unit header)
+      (stored_of unit) unit_read in
+      let u : CompilationUnit = record { header = header; dies = found.0; bases = no_bases } in
+      let offsets : all_offsets made ++ offsets_of found.0 ≡ all_offsets (made ++ u ∷ []) = rw (
+        map_push dies_of made u,
+        flat_map-append offsets_of (map dies_of made) (found.0 ∷ []),
+        append-nil (offsets_of found.0),
+      ) refl in
+      record {
+        made = made ++ u ∷ [];
+        passed = pass-next so_far.passed (header, table) u there
+            (ap (λ (r : Result (List Die) At). r >>= λ dies. done {Y = CompilationUnit}
+            (record { header = header; dies = dies; bases = no_bases })) found.1);
+        stored_are = rw (
+          map_push stored_of stored unit,
+          map_push stored_unit_of made u,
+          so_far.stored_are,
+          found.2,
+        ) refl;
+        marked_so = rw (← offsets) (adds-more bitmap marked after (all_offsets made)
+            (offsets_of found.0) so_far.marked_so (adds found.0 found.1));
+      }
 
-  module _ (table : List Declaration) (table_read : in_section DebugAbbrev (declarations_of
-      declarations_limit section (get_or headers index d).abbreviations) ≡ Ok table) where
-    -- The header and the table of the unit at the index.
-    pair-at : slice_get (zip headers tables) index ≡ Some (get_or headers index d, table)
-    unfolding tables_of
-    pair-at =
-        let same : get_or tables index [] ≡ table = same-ok {E = At} (get_or tables index []) table
-        (sym (table_is section headers tables index d all within) ∙ in_section-ok DebugAbbrev
-        (declarations_of declarations_limit section (get_or headers index d).abbreviations) table
-        table_read) in
-        let sizes = each-length (table_for section) [] headers tables all in
-        let there : index < length tables = omega (arith, sizes, within) in
-        slice_get-get_or (zip headers tables) index (d, [])
-        (omega (arith, length-zip headers tables, sizes, within))
-        ∙ rw (get_or-zip headers tables index (d, []) within there, same) refl
-
-    entries-next : (after : EntryBitmap) (unit : UnitEntries) → in_section DebugInfo
-        (stored_entries info (get_or headers index d) table) ≡ Ok (stored_of unit)
-        → ((dies : List Die) → entries_of info (get_or headers index d) table ≡ Ok dies
-        → AddsOffsets marked after (offsets_of dies))
-        → EntriesSoFar info headers tables bitmap after (index + 1) (stored ++ unit ∷ [])
-    entries-next after unit unit_read adds =
-        let made = so_far.made in
-        let header = get_or headers index d in
-        let found = after-done (entries_of info header table) (stored_unit header)
-        (stored_of unit) unit_read in
-        let u : CompilationUnit = record { header = header; dies = found.0; bases = no_bases } in
-        let offsets : all_offsets made ++ offsets_of found.0 ≡ all_offsets (made ++ u ∷ []) = rw (
-          map_push dies_of made u,
-          flat_map-append offsets_of (map dies_of made) (found.0 ∷ []),
-          append-nil (offsets_of found.0),
-        ) refl in
-        record {
-          made = made ++ u ∷ [];
-          passed = pass-next so_far.passed (header, table) u pair-at
-              (ap (λ (r : Result (List Die) At). r >>= λ dies. done {Y = CompilationUnit}
-              (record { header = header; dies = dies; bases = no_bases })) found.1);
-          stored_are = rw (
-            map_push stored_of stored unit,
-            map_push stored_unit_of made u,
-            so_far.stored_are,
-            found.2,
-          ) refl;
-          marked_so = rw (← offsets) (adds-more bitmap marked after (all_offsets made)
-              (offsets_of found.0) so_far.marked_so (adds found.0 found.1));
-        }
-
-    entries-fault : {fault : LoadFault}
-        → Faults fault (stored_entries info (get_or headers index d) table)
-        → Faults fault (all_entries info headers tables)
-    entries-fault bad =
-        pass-fault so_far.passed (get_or headers index d, table) pair-at (grind arith)
+  entries-fault : {fault : LoadFault} → Faults fault (stored_entries info header table)
+      → Faults fault (all_entries info headers tables)
+  entries-fault bad = pass-fault so_far.passed (header, table) there (grind arith)
 
 pub loop-header-init : goal.loop-header-init
 loop-header-init c = rw c.new-units.ensures.items (record {
-  so_far = λ tables all.
-      record { made = []; passed = pass-none; stored_are = refl; marked_so = adds-none c.args.bitmap.now };
+  so_far = λ tables all. record {
+    made = [];
+    passed = pass-none;
+    stored_are = refl;
+    marked_so = adds-none c.args.bitmap.now;
+  };
   section = c.requires;
 })
 
 pub returns-in_err-number-clause-units : goal.returns-in_err-number-clause-units
 returns-in_err-number-clause-units c tables all =
     rw (exit _ c.from_residual.ensures.1)
-    (inl (entries-table-fault (c.loop-header.invariant.so_far tables all) _ all _
-    c.loop-header-test.true c.in_err-number.field-0.0
+    (inl (only-memory _ _ _ (table_is _ _ tables _ _ all c.loop-header-test.true)
     (rw c.loop-header.invariant.section at c.in_err-number.ensures.err)))
 
 pub table-table-requires : goal.table-table-requires
@@ -105,8 +105,9 @@ returns-in_err-unit-clause-units c tables all =
     let same : c.table-table.result ≡ found.0 =
     same_Some c.table-table.result found.0 (sym c.table-table.ensures ∙ found.1) in
     rw (exit _ c.from_residual-in_err-unit.ensures.1)
-    (entries-fault (c.loop-header.invariant.so_far tables all) _ all _
-    c.loop-header-test.true _ found.2 (rw same at c.in_err-unit.ensures.decodes))
+    (entries-fault (c.loop-header.invariant.so_far tables all)
+    (pair-at _ _ tables _ _ _ all c.loop-header-test.true found.2)
+    (rw same at c.in_err-unit.ensures.decodes))
 
 pub loop-header-preserved : goal.loop-header-preserved
 loop-header-preserved c =
@@ -115,7 +116,8 @@ loop-header-preserved c =
     same_Some c.table-table.result found.0 (sym c.table-table.ensures ∙ found.1) in
     record {
       so_far = λ tables all. rw c.in_ok-push.ensures.items (entries-next
-          (c.loop-header.invariant.so_far tables all) _ all _ c.loop-header-test.true _ found.2
+          (c.loop-header.invariant.so_far tables all)
+          (pair-at _ _ tables _ _ _ all c.loop-header-test.true found.2)
           c.entries.new.bitmap c.in_ok-unit.unit (rw same at c.in_ok-unit.ensures.decodes)
           (rw same at c.in_ok-unit.ensures.bitmap));
       section = c.in_ok-number.ensures.section ∙ c.loop-header.invariant.section;

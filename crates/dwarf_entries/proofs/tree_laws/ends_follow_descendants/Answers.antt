@@ -1,8 +1,8 @@
 use Rattle.dwarf_entries.proofs
-use proofs.{◌≡◌, ◌↔◌, ℕ, ◌+◌, ◌<◌, List, take, drop, refl, ap, sym, ◌∙◌, arith, Ok, Contains}
-use proofs.{count_by, same_Some, IsBelow, is_scope, Sections, CompilationUnit, Scope, ScopeSite}
-use proofs.{ParsedScope, first_number, all_scopes, IsEntry, sites-rise, sites-below, tree-with}
-use proofs.{scope-at, contained, scopes_in, IsSiteAt, site_at, site-of-entry, AreUnitsIn, units-in}
+use proofs.{◌≡◌, ℕ, ◌+◌, List, take, drop, refl, ap, sym, ◌∙◌, arith, Ok, Contains, count_by}
+use proofs.{same_Some, is_scope, Sections, CompilationUnit, Scope, ScopeSite, ParsedScope}
+use proofs.{first_number, all_scopes, IsEntry, sites-rise, sites-below, tree-with, scope-at}
+use proofs.{contained, scopes_in, IsSiteAt, site_at, site-of-entry, AreUnitsIn, units-in}
 use Rattle.dwarf_entries.proofs.tree_laws.ends_follow_descendants.Goals as goal
 
 -- The site of an entry.

@@ -5,7 +5,6 @@ use proofs.{slice_get_within, Die, RiseWithin, Root, Sections, CompilationUnit, 
 use proofs.{roots_from, AllPairs, All-map, AllPairs-cons, within-le, sites-rise, site-within}
 use proofs.{tree-parts, scope-at, scopes_in, AreUnitsIn, dies-rise, units-in, units-after, from-map}
 use Rattle.std.specs.List.Sorted.{IsStrictlyIncreasing}
-use Rattle.dwarf_entries.specs.TreeLaws.{RiseBelow}
 use Rattle.dwarf_entries.proofs.tree_laws.offsets_rise.Goals as goal
 
 increasing : {X : Type 0} (key : X → ℕ) (xs : List X) → ((i j : ℕ) (x y : X)

@@ -1,10 +1,9 @@
 use Rattle.dwarf_entries.proofs
-use proofs.{◌≡◌, ℕ, zero, suc, ◌+◌, ◌-◌, ◌≤◌, List, length, take, ap, subst, arith, ◌<◌, Some, Ok}
-use proofs.{All, slice_get, take_all, get_or_from_slice_get, Sections, CompilationUnit, Scope}
+use proofs.{◌≡◌, ℕ, zero, suc, ◌+◌, ◌-◌, ◌≤◌, List, length, take, subst, arith, ◌<◌, Some, Ok}
+use proofs.{slice_get, take_all, get_or_from_slice_get, Sections, CompilationUnit, Scope}
 use proofs.{ParsedScope, all_scopes, sum_by_more, tree-parts, all-are, parsed-at, element}
 use Rattle.std.proofs.{Common.sum_by, lemmas.List.Folds.fold-map}
 use Rattle.dwarf_entries.specs.Scopes.{items_limit}
-use Rattle.dwarf_ranges.specs.Ranges.{IsValidRange}
 use Rattle.dwarf_ranges.proofs.{EntryLaws.AllHold, ScopeBudget.{Fits, covers-fits}}
 use Rattle.dwarf_entries.proofs.tree_laws.ranges_are_nonempty.Goals as goal
 

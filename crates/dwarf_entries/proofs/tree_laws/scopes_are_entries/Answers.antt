@@ -1,10 +1,9 @@
 use Rattle.dwarf_entries.proofs
 use proofs.{◌≡◌, ℕ, ◌+◌, true, List, [], drop, take, refl, ap, arith, sym, ◌∙◌, Option, Some, None}
 use proofs.{Ok, Contains, is_some, count_by, slice_get_within, get_or_from_slice_get, each-length}
-use proofs.{ScopeKind, kind_of, is_scope, CompilationUnit, units_read, Scope, ScopeSite}
-use proofs.{ParsedScope, roots_from, first_number, all_sites, parse_scope, all_scopes, length-map}
-use proofs.{IsEntry, tree-parts, tree-with, scope-at, contained, scopes_in, site_at, site-of-entry}
-use proofs.{element}
+use proofs.{ScopeKind, kind_of, is_scope, Scope, ParsedScope, first_number, all_sites, parse_scope}
+use proofs.{all_scopes, length-map, IsEntry, tree-parts, tree-with, scope-at, contained, scopes_in}
+use proofs.{site_at, site-of-entry, element}
 use Rattle.dwarf_entries.proofs.tree_laws.scopes_are_entries.Goals as goal
 
 pub returns-clause-units : goal.returns-clause-units

@@ -12,15 +12,6 @@ use Rattle.dwarf_entries.proofs.units.Units.unit_scopes.Goals as goal
 
 module _ {s : Sections} {us : List CompilationUnit} {number : ℕ} {lists : ScopeLists} {left : ℕ}
     (so_far : AreParsedTo s us number lists left) where
-  -- The list has as many scopes as were resolved.
-  scopes-stored : length lists.scopes.items ≡ number
-  scopes-stored =
-      let sizes = scopes-length (roots_from 0 us) lists.wide.items lists.ranges.items 0
-      lists.scopes.items in
-      let described = ap (λ (ss : List Scope). length ss) so_far.described in
-      let same = length-map so_far.parsed (λ (j : ParsedScope). j.scope) in
-      omega (arith, sizes, described, same, so_far.passed.len)
-
   -- The scope of the site with the number.
   module _ (p : ScopeSite) (there : slice_get (all_sites us) number ≡ Some p) where
     scopes-next : {mid new : ScopeLists} {after items next : ℕ} {facts : ScopeFacts}
@@ -67,7 +58,13 @@ module _ {s : Sections} {us : List CompilationUnit} {number : ℕ} {lists : Scop
       × IsScopeSite us numbers entry left so_far.parsed p
   site-here u index numbers entry found within number_is stored read =
       let p = element (sites_in u u.dies) index within in
-      let sizes = scopes-stored in
+      let sizes : length lists.scopes.items ≡ number = omega (
+        arith,
+        scopes-length (roots_from 0 us) lists.wide.items lists.ranges.items 0 lists.scopes.items,
+        ap (λ (ss : List Scope). length ss) so_far.described,
+        length-map so_far.parsed (λ (j : ParsedScope). j.scope),
+        so_far.passed.len,
+      ) in
       let count = sites-count u u.dies in
       let unit_is = (site-in u u.dies index p.0 p.1).unit_is in
       let is = rw p.1 at read in (
