@@ -65,7 +65,7 @@ pub use Rattle.std.proofs.lemmas.List.Kept.{AllPairs-cons}
 pub use Rattle.std.proofs.lemmas.List.Sorted.{IsPartitionPoint-from_clause, IsPartitionedBy-leb}
 pub use Rattle.std.proofs.lemmas.List.Sums.{count_by_more_yes, sum_by-cons, sum_by-take-le}
 pub use Rattle.std.proofs.{lemmas.List.Sums.sum_by_more, lemmas.Option.get_or_from_slice_get}
-pub use Rattle.std.proofs.lemmas.Option.{same_Some, slice_get-get_or, slice_get-map, slice_get_read}
-pub use Rattle.std.proofs.lemmas.Option.{slice_get_within}
+pub use Rattle.std.proofs.lemmas.Option.{same_Some, slice_get-get_or, slice_get-map, slice_get_past}
+pub use Rattle.std.proofs.lemmas.Option.{slice_get_read, slice_get_within}
 pub use Rattle.std.specs.List.{AllPairs, find, list_any, prefix_len}
 pub use Rattle.std.specs.{List.Sorted.{IsNonDecreasingBy, IsPartitionPoint}, Option.option_or}

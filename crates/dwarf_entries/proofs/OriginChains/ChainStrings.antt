@@ -1,11 +1,11 @@
 -- The names of an entry: the strings of the first names of its origin chain, and the cache of the
 -- names of reference targets.
 use Rattle.dwarf_entries.proofs.Common
-use Common.{◌≡◌, ℕ, List, refl, sym, suc, Bool, true, ◌==◌, ◌∙◌, arith, Option, Result, Ok, Err}
-use Common.{Some, None, DW_AT_LINKAGE_NAME, DW_AT_NAME, Cause, ◌>>=◌, EntryNames, Sections}
-use Common.{CompilationUnit, Member, chain_within, target_of, names_of, IsMember, member_in}
-use Common.{AttributeValue, NamedEntry, UnitPlace, false, TextOffset, name_on, references_limit}
-use Common.{slot_at, IsCacheOf, NameCache, attribute}
+use Common.{same_Some, cond, ◌≡◌, ℕ, List, refl, sym, suc, Bool, true, ◌==◌, ◌∙◌, arith, Option}
+use Common.{Result, Ok, Err, Some, None, DW_AT_LINKAGE_NAME, DW_AT_NAME, Cause, ◌>>=◌, EntryNames}
+use Common.{Sections, CompilationUnit, Member, chain_within, target_of, names_of, IsMember}
+use Common.{member_in, AttributeValue, NamedEntry, UnitPlace, false, TextOffset, name_on}
+use Common.{references_limit, slot_at, IsCacheOf, NameCache, attribute}
 use Rattle.std.proofs.Common.{◌&&◌, if◌then◌else◌}
 use Rattle.dwarf_entries.specs.Private.NameCache.{CachedNames, slot_of, second_names, target_names}
 use Rattle.dwarf_entries.specs.{Private.Members.LeadsTo, Private.Narrow.are_narrow}
@@ -23,10 +23,6 @@ both_names name linkage_name = name >>= λ n. linkage_name
 abbrev cached_names : UnitPlace → EntryNames → CachedNames
 cached_names place names = record { place = place; names = names }
 
-pub cache-none : (s : Sections) (units : List CompilationUnit) (cache : NameCache)
-    → ((slot : ℕ) → slot_at cache slot ≡ None) → IsCacheOf s units cache
-cache-none s units cache none slot packed is = let empty = none slot in cc
-
 -- The cache remains valid after the names of one more entry are added.
 pub cache-more : (s : Sections) (units : List CompilationUnit) (old new : NameCache)
     (place : UnitPlace) (names : EntryNames) → IsCacheOf s units old
@@ -38,13 +34,11 @@ pub cache-more : (s : Sections) (units : List CompilationUnit) (old new : NameCa
 cache-more s units old new place names knew put m there led_is slot packed is =
     by_test ((slot == slot_of place) && are_narrow place names) (sym (put slot) ∙ is)
   where
-    by_test : (here : Bool) → (let o : Option CachedNames =
-        if here then Some (cached_names place names) else slot_at old slot in o ≡ Some packed)
+    by_test : (here : Bool) → cond here (Some (cached_names place names)) (slot_at old slot)
+        ≡ Some packed
         → (m : Member) × (member_in units packed.place.unit packed.place.offset ≡ Ok m)
         × (second_names s units m ≡ Ok packed.names)
-    by_test true h =
-        let same : cached_names place names ≡ packed = grind arith in
-        rw (← same) (m, there, led_is)
+    by_test true h = rw (← same_Some _ packed h) (m, there, led_is)
     by_test false h = knew slot packed h
 
 -- ---- the names of an entry that has no name of its own

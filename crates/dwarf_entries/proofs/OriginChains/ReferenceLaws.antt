@@ -1,9 +1,9 @@
 -- The entry at an offset of .debug_info is found by its bit, in the unit that contains the offset.
 use Rattle.dwarf_entries.proofs.Common
-use Common.{◌≡◌, ◌⊎◌, inl, inr, ℕ, zero, suc, ◌+◌, ◌<◌, ◌≤◌, List, [], ◌∷◌, length, map, get_or}
-use Common.{Bool, true, ◌==◌, refl, sym, ap, ◌∙◌, arith, Option, Some, None, Err, find, slice_get}
-use Common.{option_map, option_or, slice_get-get_or, slice_get_within, AttributeValue, Die}
-use Common.{RiseWithin, UnitEntries, StoredUnit, Sections, CompilationUnit, Member, target_of}
+use Common.{slice_get_past, ◌≡◌, ◌⊎◌, inl, inr, ℕ, zero, suc, ◌+◌, ◌<◌, ◌≤◌, List, [], ◌∷◌, length}
+use Common.{map, get_or, Bool, true, ◌==◌, refl, sym, ap, ◌∙◌, arith, Option, Some, None, Err, find}
+use Common.{slice_get, option_map, option_or, slice_get-get_or, slice_get_within, AttributeValue}
+use Common.{Die, RiseWithin, UnitEntries, StoredUnit, Sections, CompilationUnit, Member, target_of}
 use Common.{AreStored, member_in, Reference, ok_or, cases_lt, IsNonDecreasingBy, IsPartitionPoint}
 use Common.{members_of}
 use Rattle.dwarf_entries.specs.{Private.Members.IsWithin, Names.member_at}
@@ -65,13 +65,6 @@ member-is us n offset u is = rw (is, find-units u [] offset, or-none) refl
 
 -- ---- the unit that contains an offset
 
-nowhere : (us : List CompilationUnit) (offset : ℕ)
-    → ((i : ℕ) (u : CompilationUnit) → slice_get us i ≡ Some u → die_at u offset ≡ None)
-    → find (is_at_offset offset) (members_of us) ≡ None
-nowhere [] offset none = refl
-nowhere (u ∷ us) offset none = find-units u us offset
-    ∙ rw (none zero u refl, nowhere us offset (λ i v found. none (suc i) v found)) refl
-
 -- If no other unit has the entry, it is looked up in the unit at an index.
 only-in : (us : List CompilationUnit) (n offset : ℕ)
     → ((i : ℕ) (u : CompilationUnit) → slice_get us i ≡ Some u → (i ≡ n → ⊥)
@@ -79,9 +72,11 @@ only-in : (us : List CompilationUnit) (n offset : ℕ)
     → find (is_at_offset offset) (members_of us)
     ≡ find (is_at_offset offset) (members_of (option_to_list (slice_get us n)))
 only-in [] n offset none = refl
-only-in (u ∷ us) zero offset none = find-units u us offset
-    ∙ rw (nowhere us offset (λ i v found. none (suc i) v found (λ (e : suc i ≡ zero). cc)))
-    (sym (find-units u [] offset))
+only-in (u ∷ us) zero offset none = find-units u us offset ∙ rw (
+  only-in us (length us) offset (λ i v found differs. none (suc i) v found
+      (λ (e : suc i ≡ zero). cc)),
+  slice_get_past us (length us) (omega arith),
+) (sym (find-units u [] offset))
 only-in (u ∷ us) (suc n) offset none = find-units u us offset
     ∙ rw (none zero u refl (λ (e : zero ≡ suc n). cc)) (only-in us n offset (λ i v found differs.
     none (suc i) v found (λ (e : suc i ≡ suc n). differs (omega (arith, e)))))

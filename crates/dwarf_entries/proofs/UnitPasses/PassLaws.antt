@@ -1,11 +1,11 @@
 -- A pass over a list, which stops at the first element that is refused.
 use Rattle.dwarf_entries.proofs.Common
 use Common.{◌≡◌, ◌⊎◌, ℕ, zero, suc, ◌+◌, ◌<◌, ◌≤◌, List, [], ◌∷◌, ◌++◌, length, map, take, drop}
-use Common.{get_or, refl, ap, sym, ◌∙◌, arith, length-append, Some, None, Result, Ok, Err}
-use Common.{slice_get, take_all, slice_get_within, get_or_from_slice_get, Cause, LoadFault, ◌>>=◌}
-use Common.{at_item, in_section, each-length, PassedTo, DebugInfo, take_more, slice_get_read, At}
-use Common.{each_from, with_offset, Fails, memory_fault}
-use Rattle.std.proofs.{lemmas.List.take-append-drop, lemmas.Option.slice_get_past, Common.drop-cons}
+use Common.{get_or, refl, ap, sym, ◌∙◌, arith, length-append, Some, Result, Ok, Err, slice_get}
+use Common.{take_all, slice_get_within, get_or_from_slice_get, Cause, LoadFault, ◌>>=◌, at_item}
+use Common.{in_section, each-length, PassedTo, DebugInfo, take_more, slice_get_read, At, each_from}
+use Common.{with_offset, Fails, memory_fault}
+use Rattle.std.proofs.{lemmas.List.take-append-drop, Common.drop-cons}
 use Rattle.dwarf_bytes.specs.Items.{each}
 use Rattle.dwarf_bytes.proofs.Items.EachPlaces.{each-append, each-place}
 use Rattle.std.specs.Result.{IsErrAnd}
@@ -31,10 +31,6 @@ pub found-at : {X : Type 0} (list items : List X) (n : ℕ) (x : X) → list ≡
     → (n < length list) × ((d : X) → x ≡ get_or list n d) → slice_get items n ≡ Some x
 found-at list items n x same found =
     rw (← same) (slice_get_read list (length list) n x refl found.0 (found.1 x))
-
-pub not-at : {X : Type 0} (list items : List X) (n : ℕ) → list ≡ items → length list ≤ n
-    → slice_get items n ≡ None
-not-at list items n same past = rw (← same) (slice_get_past list n past)
 
 -- The element that an element of the result was made from.
 pub each-at : {X Y : Type 0} (make : List Y → X → Result Y At) (before : List Y) (xs : List X)

@@ -1,15 +1,14 @@
 -- The units of an object, as they were read from its sections, and what is stored for them.
 use Rattle.dwarf_entries.proofs.Common
-use Common.{◌≡◌, ℕ, zero, suc, ◌<◌, ◌≤◌, List, [], ◌∷◌, length, map, Bool, ◌==◌, refl, ap, sym, ◌∙◌}
-use Common.{arith, get_or, ◌+◌, ◌++◌, Some, Result, Ok, Err, zip, slice_get, list_any}
-use Common.{slice_get_within, get_or_from_slice_get, slice_get-map, LoadFault, in_section, bind_ok}
-use Common.{same-ok, Declaration, UnitHeader, tables_of, Die, RiseWithin, in_section-ok}
-use Common.{EntryBitmap, AddsOffsets, offsets_of, Sections, CompilationUnit, units_read}
-use Common.{all_offsets, AreStored, stored_unit_of, ObjectUnits, length-map, UnitEntries, stored_of}
-use Common.{DebugAbbrev, DebugInfo, false, slice_get_read, declarations_of, declarations_limit}
-use Common.{units_of, entries_of, table_is, has_entry, with_bases, unit_of, dies_of, all_entries}
-use Common.{each_from}
-use Rattle.std.proofs.Common.{◌||◌, subst₂, flat_map}
+use Common.{◌≡◌, ℕ, zero, suc, ◌<◌, ◌≤◌, List, [], ◌∷◌, length, map, refl, ap, sym, arith, get_or}
+use Common.{◌+◌, ◌++◌, Some, Result, Ok, Err, zip, slice_get, slice_get_within}
+use Common.{get_or_from_slice_get, slice_get-map, LoadFault, in_section, bind_ok, same-ok}
+use Common.{Declaration, UnitHeader, tables_of, Die, RiseWithin, in_section-ok, EntryBitmap}
+use Common.{AddsOffsets, Sections, CompilationUnit, units_read, all_offsets, AreStored}
+use Common.{stored_unit_of, ObjectUnits, length-map, UnitEntries, stored_of, DebugAbbrev, DebugInfo}
+use Common.{false, slice_get_read, declarations_of, declarations_limit, units_of, entries_of}
+use Common.{table_is, has_entry, with_bases, unit_of, dies_of, all_entries, each_from}
+use Rattle.std.proofs.Common.{subst₂}
 use Rattle.dwarf_entries.specs.{Private.EntryOffsets.IsBitmapOf, Private.Passes.all_bases}
 use Rattle.dwarf_entries.specs.Private.ObjectUnits.{units_or_none, units_of_object}
 use Rattle.dwarf_units.proofs.EntryOrder.{entries-rise}
@@ -143,10 +142,7 @@ object-units s object same = rw (← same) (by_read (units_read s) refl)
 pub all-marked : (none bitmap : EntryBitmap) (us vs : List CompilationUnit)
     → ((at : ℕ) → has_entry none at ≡ false) → AddsOffsets none bitmap (all_offsets us)
     → map dies_of vs ≡ map dies_of us → IsBitmapOf bitmap vs
-all-marked none bitmap us vs empty adds same at =
-    let p : ℕ → Bool = λ offset. offset == at in
-    adds at ∙ (ap (λ (b : Bool). b || list_any p (all_offsets us)) (empty at)
-    ∙ ap (λ (dies : List (List Die)). list_any p (flat_map offsets_of dies)) (sym same))
+all-marked none bitmap us vs empty adds same at = rw (adds at, empty at, same) refl
 
 -- The unit at an index, which the data is stored for.
 pub record StoredFor (us : List CompilationUnit) (n : ℕ) (k : UnitEntries) : Type 0 where

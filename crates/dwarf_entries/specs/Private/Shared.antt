@@ -41,11 +41,8 @@ IsShort number = IfSome number (λ n. n < 2 ^ 16)
 
 -- A call site that is stored in a list of a given length has an index within it.
 abbrev pub IsInList : ℕ → Calls → ℕ → ℕ → Type 0
-IsInList many calls.Missing file line = Unit {0}
-IsInList many calls.File file line = Unit {0}
-IsInList many calls.Line file line = Unit {0}
-IsInList many calls.Both file line = Unit {0}
 IsInList many calls.Wide file line = wide_index file line < many
+IsInList many c file line = Unit {0}
 
 -- The ranges of the scopes are consecutive, from one index to another. The indexes of their call
 -- sites are within a list of a given length.

@@ -1,5 +1,5 @@
 use Rattle.dwarf_entries.proofs
-use proofs.{refl, scopes-at, found-at, not-at}
+use proofs.{slice_get_past, refl, scopes-at, found-at}
 use Rattle.dwarf_entries.proofs.scope_lists.ScopeLists.get.Goals as goal
 
 pub returns-in_err-scope : goal.returns-in_err-scope
@@ -8,7 +8,8 @@ returns-in_err-scope c roots =
     rw (
       c.from_residual.ensures,
       scopes-at roots lists.wide.items lists.ranges.items 0 lists.scopes.items c.args.number,
-      not-at _ _ c.args.number c.deref.ensures.value c.in_err-scope.ensures.lookup.3,
+      ← c.deref.ensures.value,
+      slice_get_past _ c.args.number c.in_err-scope.ensures.lookup.3,
     ) refl
 
 pub returns : goal.returns

@@ -1,8 +1,9 @@
 use Rattle.dwarf_entries.proofs
-use proofs.{sym, ◌≡◌, ℕ, List, [], ◌∷◌, Bool, true, cond, ◌==◌, refl, ◌∙◌, arith, Option, Some}
-use proofs.{None, is_some, find, option_map, list_any, Die, offsets_of, CompilationUnit}
-use proofs.{all_offsets, member_in, Reference, find_at, ok_or, has_entry, members_of, Finds}
-use proofs.{object-units, is_at_offset, member_of, die_at, find-units, member-is, in-own, seen}
+use proofs.{slice_get, UnitPlace, sym, ◌≡◌, ℕ, List, [], ◌∷◌, Bool, true, cond, ◌==◌, refl, ◌∙◌}
+use proofs.{arith, Option, Some, None, is_some, find, option_map, list_any, Die, offsets_of}
+use proofs.{CompilationUnit, all_offsets, member_in, Reference, find_at, ok_or, has_entry}
+use proofs.{members_of, Finds, object-units, is_at_offset, member_of, die_at, find-units, member-is}
+use proofs.{in-own, seen}
 use Rattle.std.proofs.{lemmas.List.Folds.list_any-append, lemmas.Bool.eqb-true}
 use Rattle.std.specs.List.{position_or_len}
 use Rattle.dwarf_entries.proofs.units.Units.has_entry.Goals as goal
@@ -30,42 +31,37 @@ found-passes : (p : Die → Bool) (dies : List Die) (die : Die) → find p dies 
 found-passes p [] die h = cc
 found-passes p (d ∷ dies) die h = let rest = found-passes p dies die in grind arith
 
+-- The entry at a place is found if the unit has one.
+finds-die : (us : List CompilationUnit) (place : UnitPlace) (u : CompilationUnit)
+    → slice_get us place.unit ≡ Some u → (die : Option Die) → die_at u place.offset ≡ die
+    → member_in us place.unit place.offset ≡ ok_or (option_map (member_of u) die) Reference
+    → Finds us (cond (is_some (option_map (member_of u) die)) (Some place) None)
+    (member_in us place.unit place.offset)
+finds-die us place u of None here outcome = outcome
+finds-die us place u of (Some d) here outcome =
+    let p : Die → Bool = λ die. die.offset == place.offset in (
+      member_of u d,
+      outcome,
+      record {
+        unit_is = of;
+        offset_is = eqb-true d.offset place.offset (found-passes p u.dies d here);
+        index = position_or_len p u.dies;
+        there = sym (find_at p u.dies) ∙ here;
+        found = outcome;
+      },
+    )
+
 pub returns : goal.returns
 returns c within =
     let are = seen c.self.invariant c.self.view_is in
+    let us = c.args.self.now.units in
+    let place = c.args.place in
+    let u = within.of in
     rw (
       c.has_entry.ensures,
-      are.bitmap_is offset,
-      any-members offset us,
-      in-own (object-units _ _ c.self.view_is) unit offset u within.of_is within.low within.high,
-    ) (by_die (die_at u offset) refl (member-is us unit offset u within.of_is))
-  where
-    us : List CompilationUnit
-    us = c.args.self.now.units
-
-    unit : ℕ
-    unit = c.args.place.unit
-
-    offset : ℕ
-    offset = c.args.place.offset
-
-    u : CompilationUnit
-    u = within.of
-
-    by_die : (die : Option Die) → die_at u offset ≡ die
-        → member_in us unit offset ≡ ok_or (option_map (member_of u) die) Reference
-        → Finds us (cond (is_some (option_map (member_of u) die)) (Some c.args.place) None)
-        (member_in us unit offset)
-    by_die None here outcome = outcome
-    by_die (Some d) here outcome =
-        let p : Die → Bool = λ die. die.offset == offset in (
-          member_of u d,
-          outcome,
-          record {
-            unit_is = within.of_is;
-            offset_is = eqb-true d.offset offset (found-passes p u.dies d here);
-            index = position_or_len p u.dies;
-            there = sym (find_at p u.dies) ∙ here;
-            found = outcome;
-          },
-        )
+      are.bitmap_is place.offset,
+      any-members place.offset us,
+      in-own (object-units _ _ c.self.view_is) place.unit place.offset u within.of_is within.low
+          within.high,
+    ) (finds-die us place u within.of_is (die_at u place.offset) refl
+    (member-is us place.unit place.offset u within.of_is))

@@ -1,6 +1,6 @@
 use Rattle.dwarf_entries.proofs
 use proofs.{sym, ◌∙◌, List, refl, Die, in_section-ok, sections_of, units_read, DebugAbbrev}
-use proofs.{stored_unit, cache-none, bases-stay, all-marked, exit, step-fault}
+use proofs.{stored_unit, bases-stay, all-marked, exit, step-fault}
 use Rattle.dwarf_entries.proofs.units.Units.read.Goals as goal
 
 pub returns-in_err-headers-clause-units : goal.returns-in_err-headers-clause-units
@@ -51,7 +51,7 @@ invariant_of-result c =
       bases_are = all.2;
       strings_are = c.of.ensures;
       reader_is = c.new-2.ensures;
-      cache_is = cache-none s all.0 c.new-3.result c.new-3.ensures;
+      cache_is = λ slot packed is. let empty = c.new-3.ensures slot in cc;
     })
 
 pub returns-clause-units : goal.returns-clause-units
