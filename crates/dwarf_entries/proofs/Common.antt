@@ -1,6 +1,6 @@
 -- The names from elsewhere that the proofs of this crate cite.
-pub use Rattle.dwarf_bytes.proofs.{Items.EachPlaces.each-length, Numbers.Advance.after-bind}
-pub use Rattle.dwarf_bytes.proofs.{Numbers.Advance.{bind_ok, chosen}, Numbers.Moves.same-ok}
+pub use Rattle.dwarf_bytes.proofs.{Items.EachPlaces.each-length, Numbers.Advance.bind_ok}
+pub use Rattle.dwarf_bytes.proofs.Numbers.Moves.{same-ok}
 pub use Rattle.dwarf_bytes.specs.{Bind.◌>>=◌, Items.{At, Lists, with_offset}, Refusals.Fails}
 pub use Rattle.dwarf_bytes.specs.Refusals.{at_item, in_section, memory_fault}
 pub use Rattle.dwarf_bytes.specs.declared.constants.TheConstants.{DW_AT_LINKAGE_NAME, DW_AT_NAME}
@@ -52,13 +52,13 @@ pub use Rattle.dwarf_walk.specs.declared.unit_entries.NamedEntry.{NamedEntry}
 pub use Rattle.dwarf_walk.specs.declared.unit_entries.ScopeEntry.{ScopeEntry}
 pub use Rattle.dwarf_walk.specs.declared.unit_entries.UnitEntries.{UnitEntries}
 pub use Rattle.std.proofs.Common.{All, Bool, Contains, Err, List, None, Ok, Option, Result, Some}
-pub use Rattle.std.proofs.Common.{[], ap, append-nil, append_assoc, arith, cond, count_by, drop}
-pub use Rattle.std.proofs.Common.{false, get_or, inl, inr, is_some, length, length-append}
-pub use Rattle.std.proofs.Common.{length-take, map, nat_le, nat_lt, ok_or, option_map, refl, rules}
-pub use Rattle.std.proofs.Common.{slice_get, subst, suc, sym, take, true, zero, zip, ℕ, ◌++◌, ◌+◌}
-pub use Rattle.std.proofs.Common.{◌-◌, ◌<◌, ◌==◌, ◌↔◌, ◌∙◌, ◌∷◌, ◌≡◌, ◌≤◌, ◌⊎◌}
-pub use Rattle.std.proofs.{lemmas.Bool.{cases_lt, leb-false, leb-true}, lemmas.Grind.common_steps}
-pub use Rattle.std.proofs.lemmas.List.{length-drop, length-map, map_push, take_all, take_more}
+pub use Rattle.std.proofs.Common.{[], ap, append-nil, arith, cond, count_by, drop, false, get_or}
+pub use Rattle.std.proofs.Common.{inl, inr, is_some, length, length-append, length-take, map}
+pub use Rattle.std.proofs.Common.{nat_le, nat_lt, ok_or, option_map, refl, rules, slice_get, subst}
+pub use Rattle.std.proofs.Common.{suc, sym, take, true, zero, zip, ℕ, ◌++◌, ◌+◌, ◌-◌, ◌<◌, ◌==◌}
+pub use Rattle.std.proofs.{Common.{◌↔◌, ◌∙◌, ◌∷◌, ◌≡◌, ◌≤◌, ◌⊎◌}, lemmas.Bool.{cases_lt, leb-false}}
+pub use Rattle.std.proofs.{lemmas.Bool.leb-true, lemmas.Grind.common_steps, lemmas.List.length-drop}
+pub use Rattle.std.proofs.lemmas.List.{length-map, map_push, take_all, take_more}
 pub use Rattle.std.proofs.lemmas.List.Elements.{All-cons, All-contains, All-map, All-nil}
 pub use Rattle.std.proofs.{lemmas.List.Elements.All-weaker, lemmas.List.Folds.find_at}
 pub use Rattle.std.proofs.lemmas.List.Kept.{AllPairs-cons}

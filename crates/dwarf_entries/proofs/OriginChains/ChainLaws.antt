@@ -4,7 +4,8 @@ use Rattle.dwarf_entries.proofs.Common
 use Common.{◌≡◌, ℕ, zero, suc, ◌+◌, List, [], ◌∷◌, ◌++◌, refl, sym, ap, ◌∙◌, arith, Option, Some}
 use Common.{None, Result, Ok, Err, slice_get, option_map, ◌-◌, option_or, Cause, ◌>>=◌}
 use Common.{AttributeValue, NamedEntry, UnitPlace, CompilationUnit, Member, target_of, chain_within}
-use Common.{IsMember, Reference, append_assoc, attribute, first_on, IsPlaceOf, Finds}
+use Common.{IsMember, Reference, attribute, first_on, IsPlaceOf, Finds}
+use Rattle.std.proofs.Common.{append_assoc}
 use Rattle.dwarf_entries.specs.{Names.of_member, Private.Members.{IsFirst, AreFirst, FindsFirst}}
 use Rattle.dwarf_entries.specs.declared.origin_chains.UnitAttribute.{UnitAttribute}
 use Rattle.dwarf_entries.specs.declared.origin_chains.UnitEntry.{UnitEntry}

@@ -1,11 +1,10 @@
 -- The roots of units: the loop that returns them, their order, and the root of a scope.
 use Rattle.dwarf_entries.proofs.Common
-use Common.{◌≡◌, ℕ, zero, suc, ◌+◌, ◌<◌, ◌≤◌, List, [], ◌∷◌, ◌++◌, length, take, get_or, refl, ap}
-use Common.{sym, ◌∙◌, arith, append-nil, Bool, Option, Some, None, count_by, slice_get, nat_lt}
-use Common.{sum_by-cons, slice_get_within, get_or_from_slice_get, Die, UnitEntries, is_scope}
-use Common.{StoredUnit, Root, CompilationUnit, root_of, roots_from, stmt_list_of, number_of_scopes}
-use Common.{first_number, find, append_assoc, take_more, sum_by-take-le, find_at, IsNonDecreasingBy}
-use Common.{IsPartitionPoint}
+use Common.{◌≡◌, ℕ, zero, suc, ◌+◌, ◌<◌, ◌≤◌, List, [], ◌∷◌, ◌++◌, length, take, get_or, ap, sym}
+use Common.{◌∙◌, arith, Bool, Option, Some, None, count_by, slice_get, nat_lt, sum_by-cons}
+use Common.{slice_get_within, get_or_from_slice_get, UnitEntries, is_scope, StoredUnit, Root}
+use Common.{CompilationUnit, roots_from, stmt_list_of, number_of_scopes, first_number, find}
+use Common.{take_more, sum_by-take-le, find_at, IsNonDecreasingBy, IsPartitionPoint}
 use Rattle.dwarf_entries.specs.{TreeLaws.ArePartsFrom, Scopes.stmt_list_by_number}
 use Rattle.std.proofs.{lemmas.List.Sums.position_or_len_is, lemmas.Bool.{lt-ltb, le-ltb}}
 use Rattle.dwarf_walk.specs.{declared.unit_entries.RootEntry.RootEntry, Stored.root_in}
@@ -18,52 +17,40 @@ root_list first past None = []
 root_list first past (Some root) = record
     { offset = root.offset; stmt_list = root.stmt_list; first = first; past = past } ∷ []
 
-root_of-is : (first past : ℕ) (dies : List Die) (roots : List Root) → root_of first past dies roots
-    ≡ root_list first past (root_in dies) ++ roots
-root_of-is first past [] roots = refl
-root_of-is first past (root ∷ dies) roots = refl
-
 -- The roots after one more unit.
 roots-push : (number : ℕ) (us : List CompilationUnit) (u : CompilationUnit) (first past : ℕ)
     → first ≡ number + number_of_scopes us → past ≡ first + count_by is_scope u.dies
     → roots_from number (us ++ u ∷ [])
     ≡ roots_from number us ++ root_list first past (root_in u.dies)
-roots-push number [] u first past first_is past_is =
-    let start : number ≡ first = omega arith in
-    let end : number + count_by is_scope u.dies ≡ past = omega arith in
-    rw (end, start) (root_of-is first past u.dies []
-    ∙ append-nil (root_list first past (root_in u.dies)))
+roots-push number [] u first past first_is past_is = grind arith
 roots-push number (v ∷ us) u first past first_is past_is =
-    let next : ℕ = number + count_by is_scope v.dies in
     let sum = sum_by-cons (λ (w : CompilationUnit). count_by is_scope w.dies) v us in
-    rw (
-      root_of-is number next v.dies (roots_from next (us ++ u ∷ [])),
-      roots-push next us u first past (omega (arith, first_is, sum)) past_is,
-      root_of-is number next v.dies (roots_from next us),
-      append_assoc (root_list number next (root_in v.dies)) (roots_from next us),
-    ) refl
+    let rest = roots-push (number + count_by is_scope v.dies) us u first past in
+    grind (arith, sum, rest)
 
 module _ {us : List CompilationUnit} {index : ℕ} {unit : UnitEntries}
     (here : StoredFor us index unit) (first past : ℕ) (first_is : first ≡ first_number us index)
     (past_is : past ≡ first + unit.scopes.len) where
+  ends : past ≡ first + count_by is_scope here.unit.dies
+  ends = omega (
+    arith,
+    past_is,
+    sites-stored unit here.unit here.stored,
+    sites-count here.unit here.unit.dies,
+    unit.scopes.ok.0,
+  )
+
   -- The number of the first scope of the next unit, which is at most the number of all scopes.
   pub past-is : (past ≡ first_number us (index + 1)) × (past ≤ number_of_scopes us)
   past-is =
-      let count = sites-stored unit here.unit here.stored in
       let next = first-next us index here.unit here.is in
       let fits = sum_by-take-le (λ (u : CompilationUnit). count_by is_scope u.dies) us (index + 1)
-      in
-      let sites = sites-count here.unit here.unit.dies in
-      let e : past ≡ first_number us (index + 1) =
-      omega (arith, past_is, first_is, next, count, sites, unit.scopes.ok.0) in
-      (e, omega (arith, e, fits))
+      in (omega (arith, ends, first_is, next), omega (arith, ends, first_is, next, fits))
 
   pub roots-next : (found : Option RootEntry) (roots : List Root) → unit.root ≡ found
       → roots ≡ roots_from 0 (take index us)
       → roots ++ root_list first past found ≡ roots_from 0 (take (index + 1) us)
   roots-next found roots found_is so_far =
-      let count = sites-stored unit here.unit here.stored in
-      let sites = sites-count here.unit here.unit.dies in
       let root : found ≡ root_in here.unit.dies =
       sym found_is ∙ ap (λ (k : StoredUnit). k.root) here.stored in
       rw (
@@ -71,8 +58,7 @@ module _ {us : List CompilationUnit} {index : ℕ} {unit : UnitEntries}
         root,
         take_more us index here.unit (slice_get_within us index here.unit here.is),
         get_or_from_slice_get us index here.unit here.unit here.is,
-      ) (sym (roots-push 0 (take index us) here.unit first past (omega (arith, first_is))
-      (omega (arith, past_is, count, sites, unit.scopes.ok.0))))
+      ) (sym (roots-push 0 (take index us) here.unit first past (omega (arith, first_is)) ends))
 
 -- The scopes of the roots end in order, after a lower bound.
 parts-rise : (number end : ℕ) (roots : List Root) → ArePartsFrom number end roots → (i j : ℕ)
@@ -88,14 +74,6 @@ parts-rise number end (root ∷ roots) parts (suc i) (suc j) d le lt =
     let later = parts-rise root.past end roots parts.2 i j d (omega (arith, le)) (omega (arith, lt))
     in (omega (arith, parts.1, later.0), later.1)
 
--- The root of a unit in front.
-parts-cons : (number past end : ℕ) (dies : List Die) (roots : List Root)
-    → past ≡ number + count_by is_scope dies → ArePartsFrom past end roots
-    → ArePartsFrom number end (root_of number past dies roots)
-parts-cons number past end [] roots is rest =
-    let same : past ≡ number = omega (arith, is) in rw (← same) rest
-parts-cons number past end (root ∷ dies) roots is rest = (refl, omega (arith, is), rest)
-
 -- The roots partition the numbers of the scopes.
 pub roots-part : (number : ℕ) (units : List CompilationUnit)
     → ArePartsFrom number (number + number_of_scopes units) (roots_from number units)
@@ -106,7 +84,7 @@ roots-part number (unit ∷ units) =
     let end : past + number_of_scopes units ≡ number + number_of_scopes (unit ∷ units) =
     omega (arith, sum) in
     let rest = roots-part past units in
-    parts-cons number past _ unit.dies (roots_from past units) refl (rw end at rest)
+    grind (arith, rw end at rest)
 
 pub ends-rise : (us : List CompilationUnit) (roots : List Root) → roots ≡ roots_from 0 us
     → IsNonDecreasingBy (λ r. r.past) roots

@@ -1,9 +1,9 @@
 use Rattle.dwarf_entries.proofs
 use proofs.{◌≡◌, ℕ, ◌+◌, ◌≤◌, List, [], ◌∷◌, ◌++◌, length, take, ◌∙◌, subst, arith, length-take, Ok}
-use proofs.{nat_le, list_any, leb-true, Format, Declaration, All-contains, Lists, after-bind}
-use proofs.{chosen, HasBounds, headers-in}
+use proofs.{nat_le, list_any, leb-true, Format, Declaration, All-contains, Lists, HasBounds}
+use proofs.{headers-in}
+use Rattle.dwarf_bytes.proofs.{Numbers.Advance.{after-bind, chosen}, Numbers.Moves.same-end}
 use Rattle.dwarf_bytes.specs.Items.{End}
-use Rattle.dwarf_bytes.proofs.Numbers.Moves.{same-end}
 use Rattle.std.specs.List.{filter_map}
 use Rattle.dwarf_units.specs.Entries.{LocatedNode, is_root, depth_after, node_at_depth, node_at}
 use Rattle.dwarf_units.specs.Entries.{die_of}

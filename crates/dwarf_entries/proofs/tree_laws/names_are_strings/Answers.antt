@@ -1,14 +1,12 @@
 use Rattle.dwarf_entries.proofs
-use proofs.{bind_ok, ◌≡◌, ℕ, ◌+◌, List, length, refl, arith, Option, Some, None, Ok, All, ◌==◌}
-use proofs.{DW_AT_LINKAGE_NAME, DW_AT_NAME, same-ok, AttributeValue, EntryNames, Sections}
-use proofs.{CompilationUnit, Member, chain_within, names_of, Scope, Tree, tree_of, DebugInfo}
-use proofs.{after-bind, chosen, TextOffset, first_on, name_on, references_limit, tree-parts}
+use proofs.{◌>>=◌, Cause, Bool, cond, Result, bind_ok, ◌≡◌, ℕ, ◌+◌, List, length, refl, arith}
+use proofs.{Option, Some, None, Ok, All, DW_AT_LINKAGE_NAME, DW_AT_NAME, same-ok, AttributeValue}
+use proofs.{EntryNames, Sections, CompilationUnit, Member, chain_within, names_of, Scope, Tree}
+use proofs.{tree_of, DebugInfo, TextOffset, first_on, name_on, references_limit, tree-parts}
 use proofs.{all-are, parsed-at}
 use Rattle.dwarf_bytes.proofs.{Numbers.Advance.reading-ok, Strings.StringLaws.text-encoded}
 use Rattle.dwarf_entries.specs.{Names.{text_in, text_of}, TreeLaws.{section_bytes, IsTextOf}}
 use Rattle.std.proofs.Common.{IfSome}
-use Rattle.dwarf_bytes.specs.declared.constants.TheConstants.{DW_FORM_LINE_STRP, DW_FORM_STRING}
-use Rattle.dwarf_bytes.specs.declared.constants.TheConstants.{DW_FORM_STRP}
 use Rattle.dwarf_bytes.specs.declared.fault.Section.{Section}
 use Rattle.dwarf_bytes.specs.{declared.tables.TableKind.TheVariants.StrOffsets, Items.reading}
 use Rattle.dwarf_bytes.specs.Numbers.{cstr_at, text_at}
@@ -36,21 +34,23 @@ text_in-is_text s name bytes at found bytes_are h =
 
 -- ---- the names of a scope
 
+-- A property of the string that one of four reads finds.
+of-text : {X : Type 0} (P : Type 0) (a b c : Bool) (x y z : Result X Cause) (r : Result ℕ Cause)
+    (w : ℕ → Result X Cause) (found : X) → cond a x (cond b y (cond c z (r >>= w))) ≡ Ok found
+    → (x ≡ Ok found → P) → (y ≡ Ok found → P) → (z ≡ Ok found → P) → ((at : ℕ) → w at ≡ Ok found → P)
+    → P
+of-text P a b c x y z r w found h one two three four = grind arith
+
 text_of-is_text : (s : Sections) (str_offsets : Option Table) (value : AttributeValue)
     (found : TextOffset) → text_of s str_offsets value ≡ Ok found → IsTextOf s found
 text_of-is_text s str_offsets value found h =
-    let P : Type 0 = IsTextOf s found in
-    chosen (value.form == DW_FORM_STRING) _ _ (Ok found) h P
-    (λ _ is. text_in-is_text s DebugInfo s.debug_info value.number found refl is)
-    (λ _ h1.
-    chosen (value.form == DW_FORM_STRP) _ _ (Ok found) h1 P
-    (λ _ is. text_in-is_text s DebugStr s.debug_str value.number found refl is) (λ _ h2.
-    chosen (value.form == DW_FORM_LINE_STRP) _ _ (Ok found) h2 P
-    (λ _ is. text_in-is_text s DebugLineStr s.debug_line_str value.number found refl is)
-    (λ _ h3.
-    after-bind (item_at StrOffsets s.debug_str_offsets str_offsets value.number)
-    (λ offset. text_in DebugStr s.debug_str offset) found h3 P (λ offset _ last.
-    text_in-is_text s DebugStr s.debug_str offset found refl last))))
+    of-text (IsTextOf s found) _ _ _ _ _ _
+    (item_at StrOffsets s.debug_str_offsets str_offsets value.number)
+    (text_in DebugStr s.debug_str) found h
+    (text_in-is_text s DebugInfo s.debug_info value.number found refl)
+    (text_in-is_text s DebugStr s.debug_str value.number found refl)
+    (text_in-is_text s DebugLineStr s.debug_line_str value.number found refl)
+    (λ at. text_in-is_text s DebugStr s.debug_str at found refl)
 
 first-is_text : (s : Sections) (first : Option (CompilationUnit × AttributeValue))
     (found : Option TextOffset) → optional (λ at. text_of s at.0.bases.str_offsets at.1) first
