@@ -31,7 +31,6 @@ pub use Rattle.dwarf_entries.specs.declared.origin_chains.EntryNames.{EntryNames
 pub use Rattle.dwarf_entries.specs.declared.references.UnitPlace.{UnitPlace}
 pub use Rattle.dwarf_entries.specs.{declared.scope.Root.Root, declared.scope.ScopeFacts.ScopeFacts}
 pub use Rattle.dwarf_entries.specs.declared.scope_lists.ScopeLists.{ScopeLists}
-pub use Rattle.dwarf_entries.specs.declared.text_offset.TextOffset.{TextOffset}
 pub use Rattle.dwarf_entries.specs.declared.unit_scopes.ScopeNumbers.{ScopeNumbers}
 unfoldable pub use Rattle.dwarf_entries.specs.{Names.chain_within, Scopes.tree_of, Units.units_read}
 pub use Rattle.dwarf_forms.specs.{Declarations.Declaration, Tables.declarations_of}
@@ -52,13 +51,13 @@ pub use Rattle.dwarf_walk.specs.declared.unit_entries.NamedEntry.{NamedEntry}
 pub use Rattle.dwarf_walk.specs.declared.unit_entries.ScopeEntry.{ScopeEntry}
 pub use Rattle.dwarf_walk.specs.declared.unit_entries.UnitEntries.{UnitEntries}
 pub use Rattle.std.proofs.Common.{All, Bool, Contains, Err, List, None, Ok, Option, Result, Some}
-pub use Rattle.std.proofs.Common.{[], ap, append-nil, arith, cond, count_by, drop, false, get_or}
-pub use Rattle.std.proofs.Common.{inl, inr, is_some, length, length-append, length-take, map}
-pub use Rattle.std.proofs.Common.{nat_le, nat_lt, ok_or, option_map, refl, rules, slice_get, subst}
-pub use Rattle.std.proofs.Common.{suc, sym, take, true, zero, zip, ℕ, ◌++◌, ◌+◌, ◌-◌, ◌<◌, ◌==◌}
-pub use Rattle.std.proofs.{Common.{◌↔◌, ◌∙◌, ◌∷◌, ◌≡◌, ◌≤◌, ◌⊎◌}, lemmas.Bool.{cases_lt, leb-false}}
-pub use Rattle.std.proofs.{lemmas.Bool.leb-true, lemmas.Grind.common_steps, lemmas.List.length-drop}
-pub use Rattle.std.proofs.lemmas.List.{length-map, map_push, take_all, take_more}
+pub use Rattle.std.proofs.Common.{Vec, [], ap, append-nil, arith, cond, count_by, drop, false}
+pub use Rattle.std.proofs.Common.{get_or, inl, inr, is_some, length, length-append, length-take}
+pub use Rattle.std.proofs.Common.{map, nat_le, nat_lt, ok_or, option_map, refl, rules, slice_get}
+pub use Rattle.std.proofs.Common.{subst, suc, sym, take, true, zero, zip, ℕ, ◌++◌, ◌+◌, ◌-◌, ◌<◌}
+pub use Rattle.std.proofs.{Common.{◌==◌, ◌↔◌, ◌∙◌, ◌∷◌, ◌≡◌, ◌≤◌, ◌⊎◌}, lemmas.Bool.cases_lt}
+pub use Rattle.std.proofs.{lemmas.Bool.{leb-false, leb-true}, lemmas.Grind.common_steps}
+pub use Rattle.std.proofs.lemmas.List.{length-drop, length-map, map_push, take_all, take_more}
 pub use Rattle.std.proofs.lemmas.List.Elements.{All-cons, All-contains, All-map, All-nil}
 pub use Rattle.std.proofs.{lemmas.List.Elements.All-weaker, lemmas.List.Folds.find_at}
 pub use Rattle.std.proofs.lemmas.List.Kept.{AllPairs-cons}
@@ -69,3 +68,4 @@ pub use Rattle.std.proofs.lemmas.Option.{same_Some, slice_get-get_or, slice_get-
 pub use Rattle.std.proofs.lemmas.Option.{slice_get_read, slice_get_within}
 pub use Rattle.std.specs.List.{AllPairs, find, list_any, prefix_len}
 pub use Rattle.std.specs.{List.Sorted.{IsNonDecreasingBy, IsPartitionPoint}, Option.option_or}
+pub use Rattle.std.specs.declared.alloc.Global.{Global}

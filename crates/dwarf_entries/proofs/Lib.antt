@@ -10,7 +10,6 @@ pub use UnitPasses.PassLaws.*
 pub use UnitPasses.HeaderLaws.*
 pub use UnitPasses.UnitLaws.*
 pub use UnitPasses.RereadLaws.*
-pub use UnitPasses.ObjectLaws.*
 pub use ScopePasses.SiteLaws.*
 pub use ScopePasses.PushedScopes.*
 pub use ScopePasses.RootsPass.*

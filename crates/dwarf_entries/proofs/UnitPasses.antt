@@ -2,4 +2,3 @@ pub mod PassLaws
 pub mod HeaderLaws
 pub mod UnitLaws
 pub mod RereadLaws
-pub mod ObjectLaws

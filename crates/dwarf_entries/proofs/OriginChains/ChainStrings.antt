@@ -1,22 +1,15 @@
 -- The names of an entry: the strings of the first names of its origin chain, and the cache of the
 -- names of reference targets.
 use Rattle.dwarf_entries.proofs.Common
-use Common.{same_Some, cond, ◌≡◌, ℕ, List, refl, sym, suc, Bool, true, ◌==◌, ◌∙◌, arith, Option}
-use Common.{Result, Ok, Err, Some, None, DW_AT_LINKAGE_NAME, DW_AT_NAME, Cause, ◌>>=◌, EntryNames}
-use Common.{Sections, CompilationUnit, Member, chain_within, target_of, names_of, IsMember}
-use Common.{member_in, AttributeValue, NamedEntry, UnitPlace, false, TextOffset, name_on}
-use Common.{references_limit, slot_at, IsCacheOf, NameCache, attribute}
+use Common.{same_Some, cond, ◌≡◌, ℕ, List, refl, sym, suc, Bool, true, ◌==◌, ◌∙◌, arith, Result, Ok}
+use Common.{Err, Some, None, DW_AT_LINKAGE_NAME, DW_AT_NAME, Cause, ◌>>=◌, EntryNames, Sections}
+use Common.{CompilationUnit, Member, chain_within, target_of, names_of, IsMember, member_in}
+use Common.{AttributeValue, NamedEntry, UnitPlace, false, name_on, references_limit, slot_at}
+use Common.{IsCacheOf, NameCache, attribute}
 use Rattle.std.proofs.Common.{◌&&◌, if◌then◌else◌}
 use Rattle.dwarf_entries.specs.Private.NameCache.{CachedNames, slot_of, second_names, target_names}
 use Rattle.dwarf_entries.specs.{Private.Members.LeadsTo, Private.Narrow.are_narrow}
 use Rattle.dwarf_entries.proofs.OriginChains.ChainLaws.{in_front, stepped}
-
--- ---- the strings
-
-abbrev pub both_names : Result (Option TextOffset) Cause → Result (Option TextOffset) Cause
-    → Result EntryNames Cause
-both_names name linkage_name = name >>= λ n. linkage_name
-    >>= λ l. Ok (record { name = n; linkage_name = l })
 
 -- ---- the cached names
 
@@ -44,7 +37,8 @@ cache-more s units old new place names knew put m there led_is slot packed is =
 -- ---- the names of an entry that has no name of its own
 
 abbrev on_path : Sections → List Member → Result EntryNames Cause
-on_path s path = both_names (name_on DW_AT_NAME s path) (name_on DW_AT_LINKAGE_NAME s path)
+on_path s path = name_on DW_AT_NAME s path >>= λ name. name_on DW_AT_LINKAGE_NAME s path
+    >>= λ linkage_name. Ok (record { name = name; linkage_name = linkage_name })
 
 -- If the program stores no name in an entry, the names are those of the target of its reference.
 pub names-by-reference : (s : Sections) (units : List CompilationUnit) (number : ℕ)

@@ -41,15 +41,15 @@ sites-nest {p = p} {q = q} a b lt within =
     let under = (sites-below a b).1 (lt, within) in
     let there = in-unit-of a b under.0 in
     let ends = ends-within p.member.unit.dies a.is.index b.is.index p.member.die q.member.die
-    a.is.there there.there (ap is_some a.is.kind_is) (ap is_some b.is.kind_is) under.1 in
+    a.is.there there.0 (ap is_some a.is.kind_is) (ap is_some b.is.kind_is) under.1 in
     omega (
       arith,
       ends,
       a.number_is,
       a.is.number_is,
       a.is.inside_is,
-      there.number_is,
-      there.inside_is,
+      there.1,
+      there.2,
     )
 
 pub scopes-in-order : (s : Sections) (tree : Tree) → tree_of s ≡ Ok tree → AreInOrder tree.scopes

@@ -51,24 +51,19 @@ before-later {us} {n} {p} at j lt =
       ),
     )
 
--- A site of the same unit as another.
-pub record IsInUnitOf {us : List CompilationUnit} {n m : ℕ} {p q : ScopeSite}
-    (a : IsSiteAt us n p) (b : IsSiteAt us m q) : Type 0 where
-  pub there : slice_get p.member.unit.dies b.is.index ≡ Some q.member.die
-  pub number_is : m ≡ first_number us a.unit
-      + count_by is_scope (take b.is.index p.member.unit.dies)
-  pub inside_is : q.inside ≡ count_by is_scope
-      (below q.member.die (drop (b.is.index + 1) p.member.unit.dies))
-
+-- A site of the same unit as another: its entry, its number, and the number of scopes below it.
 pub in-unit-of : {us : List CompilationUnit} {n m : ℕ} {p q : ScopeSite} (a : IsSiteAt us n p)
-    (b : IsSiteAt us m q) → a.unit ≡ b.unit → IsInUnitOf a b
+    (b : IsSiteAt us m q) → a.unit ≡ b.unit → let dies : List Die = p.member.unit.dies in
+    (slice_get dies b.is.index ≡ Some q.member.die)
+    × (m ≡ first_number us a.unit + count_by is_scope (take b.is.index dies))
+    × (q.inside ≡ count_by is_scope (below q.member.die (drop (b.is.index + 1) dies)))
 in-unit-of {us} {n} {m} {p} {q} a b e =
     let same : p.member.unit ≡ q.member.unit = grind (arith, a.unit_is, b.unit_is) in
-    record {
-      there = rw same b.is.there;
-      number_is = rw same (omega (arith, b.number_is, b.is.number_is, ap (first_number us) e));
-      inside_is = rw same b.is.inside_is;
-    }
+    rw (same, ap (first_number us) e) (
+      b.is.there,
+      omega (arith, b.number_is, b.is.number_is),
+      b.is.inside_is,
+    )
 
 -- ---- the sites below another
 
@@ -83,14 +78,14 @@ sites-below {us} {n} {m} {p} {q} a b =
     let before = before-later b a.unit in
     let there = in-unit-of a b in
     let between = λ (e : a.unit ≡ b.unit). scopes-between p.member.unit.dies a.is.index b.is.index
-    p.member.die q.member.die a.is.there (there e).there (ap is_some a.is.kind_is)
+    p.member.die q.member.die a.is.there (there e).0 (ap is_some a.is.kind_is)
     (ap is_some b.is.kind_is) in
     let place = a.is.number_is in
     let inside = a.is.inside_is in (
       λ below. let numbers = (between below.0).0 below.1 in
-          omega (arith, a.number_is, place, inside, (there below.0).number_is, numbers.0, numbers.1),
+          omega (arith, a.number_is, place, inside, (there below.0).1, numbers.0, numbers.1),
       λ numbers. let e : a.unit ≡ b.unit = grind (arith, a.number_is, b.number_is) in
-          (e, (between e).1 (grind (arith, a.number_is, place, inside, (there e).number_is))),
+          (e, (between e).1 (grind (arith, a.number_is, place, inside, (there e).1))),
     )
 
 -- A scope with a lower number is in an earlier unit, or earlier in the same unit.

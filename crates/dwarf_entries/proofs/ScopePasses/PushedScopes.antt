@@ -1,7 +1,7 @@
 -- The scopes of a result in the lists that they share, and one more scope after them.
 use Rattle.dwarf_entries.proofs.Common
-use Common.{◌≡◌, ℕ, zero, suc, ◌-◌, List, [], ◌∷◌, length, take, drop, refl, ap, sym, ◌∙◌, arith}
-use Common.{◌+◌, ◌≤◌, ◌++◌, length-append, slice_get, option_map, None, Range, Root, Scope}
+use Common.{Global, Vec, ◌≡◌, ℕ, zero, suc, ◌-◌, List, [], ◌∷◌, length, take, drop, refl, ap, sym}
+use Common.{◌∙◌, arith, ◌+◌, ◌≤◌, ◌++◌, length-append, slice_get, option_map, None, Range, Root}
 use Common.{take_all, CallSite, scopes_from, facts_of, IsPushed, ScopeFacts, ScopeLists}
 use Common.{common_steps, length-drop}
 use Rattle.dwarf_entries.specs.Scopes.{scope_of, call_site, scopes_of, wide_index}
@@ -94,38 +94,28 @@ in_list-push many more first past new (t ∷ ts) s in_list ends inside =
     (in_list.0, grind arith, in_list-push many more t.ranges_end past new ts s in_list.2 ends inside)
 
 -- The contents of the lists after one more scope.
-pub record Pushed (roots : List Root) (old new : ScopeLists) (scope : Scope) : Type 0 where
-  pub described : scopes_of roots new ≡ scopes_of roots old ++ scope ∷ []
-  pub in_list : AreConsecutive (length new.wide.items) 0 (length new.ranges.items) new.scopes.items
-
-pub pushed : (roots : List Root) (old mid new : ScopeLists) (found : List Range)
-    (facts : ScopeFacts) → AreConsecutive (length old.wide.items) 0 (length old.ranges.items)
-    old.scopes.items
-    → mid.scopes.items ≡ old.scopes.items → mid.wide.items ≡ old.wide.items
-    → mid.ranges.items ≡ old.ranges.items ++ found → IsPushed facts mid new
-    → Pushed roots old new (facts_of roots found facts)
-pushed roots old mid new found facts in_list scopes_stay wide_stays ranges_grow is =
-    let s : StoredScope = is.s in
-    let more : List CallSite = is.packs.more in
-    let added = length-append old.wide.items more in
-    let wide : new.wide.items ≡ old.wide.items ++ more = is.packs.added ∙ rw wide_stays refl in
-    let ranges : new.ranges.items ≡ old.ranges.items ++ found = is.ranges ∙ ranges_grow in
-    let scopes : new.scopes.items ≡ old.scopes.items ++ s ∷ [] = is.scopes ∙ rw scopes_stay refl in
-    let size : length mid.ranges.items ≡ length old.ranges.items + length found =
-    rw ranges_grow (length-append old.ranges.items found) in
-    let ends : s.ranges_end ≡ length old.ranges.items + length found =
-    omega (arith, is.packs.ends, size) in
-    let described = rw wide at is.packs.tells roots found in
-    record {
-      described = rw (
-        wide,
-        ranges,
-        scopes,
-        scopes-push roots old.wide.items more old.ranges.items
-            found 0 old.scopes.items s in_list ends,
+pub pushed : (roots : List Root) (old new : ScopeLists) (ranges : Vec Range Global)
+    (found : List Range) (facts : ScopeFacts) → AreConsecutive (length old.wide.items) 0
+    (length old.ranges.items) old.scopes.items
+    → ranges.items ≡ old.ranges.items ++ found → IsPushed facts (record old { ranges = ranges }) new
+    → (scopes_of roots new ≡ scopes_of roots old ++ facts_of roots found facts ∷ [])
+    × AreConsecutive (length new.wide.items) 0 (length new.ranges.items) new.scopes.items
+pushed roots old new ranges found facts in_list grown is =
+    let added = length-append old.wide.items is.packs.more in
+    let all : new.ranges.items ≡ old.ranges.items ++ found = is.ranges ∙ grown in
+    let sum = length-append old.ranges.items found in
+    let ends : is.s.ranges_end ≡ length old.ranges.items + length found =
+    is.packs.ends ∙ rw grown sum in
+    let described = rw is.packs.added at is.packs.tells roots found in (
+      rw (
+        is.packs.added,
+        all,
+        is.scopes,
+        scopes-push roots old.wide.items is.packs.more old.ranges.items found 0 old.scopes.items
+            is.s in_list ends,
         described,
-      ) refl;
-      in_list = rw (wide, ranges, scopes, added, length-append old.ranges.items found) (in_list-push
-          (length old.wide.items) (length more) 0 (length old.ranges.items) (length found)
-          old.scopes.items s in_list ends (rw (wide, added) at is.packs.in_list));
-    }
+      ) refl,
+      rw (is.packs.added, all, is.scopes, added, sum) (in_list-push (length old.wide.items)
+          (length is.packs.more) 0 (length old.ranges.items) (length found) old.scopes.items is.s
+          in_list ends (rw (is.packs.added, added) at is.packs.in_list)),
+    )

@@ -1,16 +1,19 @@
 -- The units of an object, as they were read from its sections, and what is stored for them.
 use Rattle.dwarf_entries.proofs.Common
-use Common.{◌≡◌, ℕ, zero, suc, ◌<◌, ◌≤◌, List, [], ◌∷◌, length, map, refl, ap, sym, arith, get_or}
-use Common.{◌+◌, ◌++◌, Some, Result, Ok, Err, zip, slice_get, slice_get_within}
+use Common.{IsCacheOf, NameCache, ◌≡◌, ℕ, zero, suc, ◌<◌, ◌≤◌, List, [], ◌∷◌, length, map, refl, ap}
+use Common.{sym, arith, get_or, ◌+◌, ◌++◌, Some, Result, Ok, Err, zip, slice_get, slice_get_within}
 use Common.{get_or_from_slice_get, slice_get-map, LoadFault, in_section, bind_ok, same-ok}
 use Common.{Declaration, UnitHeader, tables_of, Die, RiseWithin, in_section-ok, EntryBitmap}
 use Common.{AddsOffsets, Sections, CompilationUnit, units_read, all_offsets, AreStored}
 use Common.{stored_unit_of, ObjectUnits, length-map, UnitEntries, stored_of, DebugAbbrev, DebugInfo}
 use Common.{false, slice_get_read, declarations_of, declarations_limit, units_of, entries_of}
 use Common.{table_is, has_entry, with_bases, unit_of, dies_of, all_entries, each_from}
-use Rattle.std.proofs.Common.{subst₂}
+use Rattle.dwarf_entries.specs.Private.ObjectUnits.{AreUnitsOf, units_or_none, units_of_object}
+use Rattle.dwarf_entries.specs.declared.units.Units.TheInside.{Inside}
 use Rattle.dwarf_entries.specs.{Private.EntryOffsets.IsBitmapOf, Private.Passes.all_bases}
-use Rattle.dwarf_entries.specs.Private.ObjectUnits.{units_or_none, units_of_object}
+use Rattle.dwarf_walk.specs.Private.Rereading.{IsReaderOf}
+use Rattle.dwarf_walk.specs.declared.entry_reader.EntryReader.{EntryReader}
+use Rattle.std.proofs.Common.{subst₂}
 use Rattle.dwarf_units.proofs.EntryOrder.{entries-rise}
 use Rattle.dwarf_entries.proofs.UnitPasses.HeaderLaws.{HasBounds, headers-in}
 use Rattle.dwarf_entries.proofs.UnitPasses.PassLaws.{each-at, from-map}
@@ -176,3 +179,29 @@ module _ (stored : List UnitEntries) (us : List CompilationUnit) (same : AreStor
       let within = slice_get_within us n u found in
       let inside : n < length stored = omega (arith, stored-length, within) in
       stored-index n k u (slice_get_read stored _ n k refl inside is) found
+
+-- ---- what the program stores for the units of an object
+
+-- The same for the object that contracts name.
+pub seen : {v w : ObjectUnits} {u : Inside} → AreUnitsOf v u → v ≡ w → AreUnitsOf w u
+seen are same = rw (← same) are
+
+-- The units in a slice of the stored units.
+pub seen-units : {v w : ObjectUnits} {u : Inside} {slice : List UnitEntries} → AreUnitsOf v u
+    → v ≡ w → slice ≡ u.units.items → AreStored slice w.units
+seen-units are same slice_is = rw (slice_is, ← same) are.stored_are
+
+-- The same with another reader and another cache.
+pub with-parts : {v w : ObjectUnits} {u : Inside} {reader : EntryReader} {cache : NameCache}
+    → AreUnitsOf v u → v ≡ w → IsReaderOf w.sections reader → IsCacheOf w.sections w.units cache
+    → AreUnitsOf v (record u { reader = reader; cache = cache })
+with-parts are same reader_is cache_is =
+    let now = seen are same in
+    rw same (record {
+      stored_are = now.stored_are;
+      bitmap_is = now.bitmap_is;
+      bases_are = now.bases_are;
+      strings_are = now.strings_are;
+      reader_is = reader_is;
+      cache_is = cache_is;
+    })

@@ -2,10 +2,10 @@ use Rattle.dwarf_entries.proofs
 use proofs.{◌>>=◌, Cause, Bool, cond, Result, bind_ok, ◌≡◌, ℕ, ◌+◌, List, length, refl, arith}
 use proofs.{Option, Some, None, Ok, All, DW_AT_LINKAGE_NAME, DW_AT_NAME, same-ok, AttributeValue}
 use proofs.{EntryNames, Sections, CompilationUnit, Member, chain_within, names_of, Scope, Tree}
-use proofs.{tree_of, DebugInfo, TextOffset, first_on, name_on, references_limit, tree-parts}
-use proofs.{all-are, parsed-at}
+use proofs.{tree_of, DebugInfo, first_on, name_on, references_limit, tree-parts, all-are, parsed-at}
+use Rattle.dwarf_entries.specs.{declared.text_offset.TextOffset.TextOffset, Names.text_in}
+use Rattle.dwarf_entries.specs.{Names.text_of, TreeLaws.{section_bytes, IsTextOf}}
 use Rattle.dwarf_bytes.proofs.{Numbers.Advance.reading-ok, Strings.StringLaws.text-encoded}
-use Rattle.dwarf_entries.specs.{Names.{text_in, text_of}, TreeLaws.{section_bytes, IsTextOf}}
 use Rattle.std.proofs.Common.{IfSome}
 use Rattle.dwarf_bytes.specs.declared.fault.Section.{Section}
 use Rattle.dwarf_bytes.specs.{declared.tables.TableKind.TheVariants.StrOffsets, Items.reading}

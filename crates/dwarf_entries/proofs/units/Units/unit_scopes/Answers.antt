@@ -1,7 +1,7 @@
 use Rattle.dwarf_entries.proofs
-use proofs.{◌<◌, ◌≡◌, ℕ, ◌+◌, List, [], ◌∷◌, ◌++◌, length, ap, arith, refl, inl, ◌∙◌, Ok, Some}
-use proofs.{slice_get, map_push, length-map, Cause, LoadFault, at_item, Sections, Root}
-use proofs.{CompilationUnit, ParsedScope, ScopeSite, Scope, scope_at, sites_in, roots_from}
+use proofs.{Range, Global, Vec, ◌<◌, ◌≡◌, ℕ, ◌+◌, List, [], ◌∷◌, ◌++◌, length, ap, arith, refl, inl}
+use proofs.{◌∙◌, Ok, Some, slice_get, map_push, length-map, Cause, LoadFault, at_item, Sections}
+use proofs.{Root, CompilationUnit, ParsedScope, ScopeSite, Scope, scope_at, sites_in, roots_from}
 use proofs.{AreParsedTo, first_number, all_sites, all_scopes, DebugInfo, Fails, ScopeEntry}
 use proofs.{ScopeFacts, ScopeLists, ScopeNumbers, IsScopeSite, AddsFacts, facts_of, IsPushed}
 use proofs.{by_number, pushed, scopes-length, site-in, sites-count, first-next, all-sites-at}
@@ -14,30 +14,27 @@ module _ {s : Sections} {us : List CompilationUnit} {number : ℕ} {lists : Scop
     (so_far : AreParsedTo s us number lists left) where
   -- The scope of the site with the number.
   module _ (p : ScopeSite) (there : slice_get (all_sites us) number ≡ Some p) where
-    scopes-next : {mid new : ScopeLists} {after items next : ℕ} {facts : ScopeFacts}
-        → AddsFacts (roots_from 0 us) (Ok (facts, items)) lists.ranges.items mid.ranges.items
-        (scope_at s us so_far.parsed p)
-        → mid.scopes.items ≡ lists.scopes.items → mid.wide.items ≡ lists.wide.items
-        → IsPushed facts mid new → after + items ≡ left → next ≡ number + 1
-        → AreParsedTo s us next new after
-    scopes-next {mid} {new} {after} {items} {next} {facts} (found, read, grown) scopes_stay
-        wide_stays is counted next_is =
+    scopes-next : {ranges : Vec Range Global} {new : ScopeLists} {after items next : ℕ}
+        {facts : ScopeFacts} → AddsFacts (roots_from 0 us) (Ok (facts, items)) lists.ranges.items
+        ranges.items (scope_at s us so_far.parsed p)
+        → IsPushed facts (record lists { ranges = ranges }) new → after + items ≡ left
+        → next ≡ number + 1 → AreParsedTo s us next new after
+    scopes-next {ranges} {new} {after} {items} {next} {facts} (found, read, grown) is counted
+        next_is =
         let parsed = so_far.parsed in
         let roots : List Root = roots_from 0 us in
         let one : ParsedScope = record { scope = facts_of roots found facts; items = items } in
         let sum = sum_by_push (λ (j : ParsedScope). j.items) parsed one in
-        let rest = pushed roots lists mid new found facts so_far.in_list scopes_stay wide_stays
-        grown is in
+        let rest = pushed roots lists new ranges found facts so_far.in_list grown is in
         record {
           parsed = parsed ++ one ∷ [];
           passed = rw next_is (pass-next so_far.passed p one there (rw read refl));
           described = rw (
-            rest.described,
+            rest.0,
             so_far.described,
-            map_push (λ (j : ParsedScope). j.scope)
-                parsed one,
+            map_push (λ (j : ParsedScope). j.scope) parsed one,
           ) refl;
-          in_list = rest.in_list;
+          in_list = rest.1;
           counted = omega (arith, so_far.counted, counted, sum);
         }
 
@@ -114,9 +111,9 @@ loop-index-preserved c = record {
       (c.len.ensures ∙ c.loop-index.lists.scopes.ok.0)
       ((rw c.loop-index.invariant.same at c.in_ok-entry.ensures.site) u.0 u.1) in
       scopes-next so_far here.0 here.1
-      {mid = record c.loop-index.lists { ranges = c.scope.new.ranges }}
+      {ranges = c.scope.new.ranges}
       ((rw (c.in_ok-entry.ensures.same ∙ c.loop-index.invariant.same) at c.in-Ok.ensures.parsed)
-      so_far.parsed here.0 here.2) refl refl c.in_ok-push-in-Ok.ensures
+      so_far.parsed here.0 here.2) c.in_ok-push-in-Ok.ensures
       (omega (arith, c.in-Ok.ensures.budget)) (omega arith);
 }
 
