@@ -36,14 +36,14 @@ unfoldable pub use Rattle.dwarf_entries.specs.{Names.chain_within, Scopes.tree_o
 pub use Rattle.dwarf_forms.specs.{Declarations.Declaration, Tables.declarations_of}
 pub use Rattle.dwarf_ranges.specs.{declared.bases.Bases.Bases, declared.range.Range.Range}
 pub use Rattle.dwarf_units.proofs.TableLaws.{in_section-ok, table_is}
-pub use Rattle.dwarf_units.specs.Entries.{Die, IsBelow, attribute, below}
-pub use Rattle.dwarf_units.specs.{Private.Rising.RiseWithin, Units.declarations_limit}
+pub use Rattle.dwarf_units.specs.{Entries.{Die, IsBelow, below}, Private.Rising.RiseWithin}
+pub use Rattle.dwarf_units.specs.Units.{declarations_limit}
 pub use Rattle.dwarf_units.specs.declared.attributes.AttributeValue.{AttributeValue}
 pub use Rattle.dwarf_units.specs.declared.unit_headers.UnitHeader.{UnitHeader}
 unfoldable pub use Rattle.dwarf_units.specs.{Entries.entries_of, Units.{tables_of, units_of}}
 pub use Rattle.dwarf_walk.proofs.RereadLaws.{again-memory}
-pub use Rattle.dwarf_walk.specs.EntryBitmap.{AddsOffsets, has_entry, offsets_of}
-pub use Rattle.dwarf_walk.specs.{ScopeEntries.{is_scope, kind_of}, Sections.{Sections, sections_of}}
+pub use Rattle.dwarf_walk.specs.{EntryBitmap.{AddsOffsets, offsets_of}, ScopeEntries.is_scope}
+pub use Rattle.dwarf_walk.specs.{ScopeEntries.kind_of, Sections.{Sections, sections_of}}
 pub use Rattle.dwarf_walk.specs.Stored.{StoredUnit, named_entry, scope_entry, stored_of}
 pub use Rattle.dwarf_walk.specs.{Stored.stored_unit, declared.entry_bitmap.EntryBitmap.EntryBitmap}
 pub use Rattle.dwarf_walk.specs.declared.scope_kind.ScopeKind.{ScopeKind}

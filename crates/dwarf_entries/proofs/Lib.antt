@@ -15,9 +15,7 @@ pub use ScopePasses.PushedScopes.*
 pub use ScopePasses.RootsPass.*
 pub use ScopePasses.DataLaws.*
 pub use OriginChains.ChainLaws.*
-pub use OriginChains.ChainStrings.*
 pub use OriginChains.ReferenceLaws.*
 pub use Results.BelowLaws.*
-pub use Results.SiteOrder.*
 pub use Results.TreeParts.*
 pub use Results.ScopePlaces.*

@@ -1,3 +1,2 @@
 pub mod ChainLaws
-pub mod ChainStrings
 pub mod ReferenceLaws

@@ -1,4 +1,3 @@
 pub mod BelowLaws
-pub mod SiteOrder
 pub mod TreeParts
 pub mod ScopePlaces

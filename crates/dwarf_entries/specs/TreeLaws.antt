@@ -1,5 +1,5 @@
 -- Theorems about the result for a whole object.
-use Rattle.std.specs.Prelude.{◌≡◌, ◌≢◌, ℕ, ◌+◌, ◌<◌, ◌≤◌, List, [], ◌∷◌, length, take, drop, Some}
+use Rattle.std.specs.Prelude.{◌≡◌, ℕ, ◌<◌, ◌≤◌, List, [], ◌∷◌, length, take, Some}
 use Rattle.std.specs.{Prelude.{Ok, All, slice_get}, List.Sorted.IsStrictlyIncreasing}
 use Rattle.dwarf_bytes.specs.{declared.fault.Section.Section, Items.Lists, Numbers.IsEncodedAt}
 use Rattle.dwarf_bytes.specs.Numbers.{IsText}

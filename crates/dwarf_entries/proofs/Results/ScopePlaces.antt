@@ -1,16 +1,163 @@
--- The scopes of an object are in order: the number of each is its index, and a scope that starts
--- inside another one also ends inside it.
+-- The order of scope sites, of their entries, and of the scopes of an object: the number of each is
+-- its index, and a scope that starts inside another one also ends inside it.
 use Rattle.dwarf_entries.proofs.Common
-use Common.{◌≡◌, ℕ, suc, ◌+◌, ◌<◌, ◌≤◌, List, [], ◌∷◌, length, get_or, refl, ap, arith, Some}
-use Common.{slice_get, is_some, Ok, length-map, slice_get-get_or, slice_get_within, each-length}
-use Common.{CompilationUnit, Scope, ScopeSite, ParsedScope, Tree, tree_of, parse_scope, all_sites}
-use Common.{Sections, AreNumbered, AreInOrder}
-use Rattle.dwarf_entries.specs.Order.{AreNested}
+use Common.{◌≡◌, ◌⊎◌, ℕ, zero, suc, ◌+◌, ◌<◌, ◌≤◌, cond, List, [], ◌∷◌, take, drop, ap, ◌∙◌, arith}
+use Common.{◌↔◌, Some, slice_get, is_some, count_by, nat_lt, get_or_from_slice_get}
+use Common.{slice_get_within, Die, below, IsBelow, RiseWithin, is_scope, Sections, CompilationUnit}
+use Common.{ScopeSite, first_number, prefix_len, sum_by-take-le, count_by_more_yes, common_steps}
+use Common.{length, get_or, refl, Ok, length-map, slice_get-get_or, each-length, Scope, ParsedScope}
+use Common.{Tree, tree_of, parse_scope, all_sites, AreNumbered, AreInOrder}
+use Rattle.std.proofs.{lemmas.List.Sums.sum_by-take-drop, lemmas.List.take-take}
 use Rattle.std.proofs.lemmas.List.Elements.{recursion_from_All}
-use Rattle.dwarf_entries.proofs.Results.SiteOrder.{sites-below, in-unit-of, before-later}
-use Rattle.dwarf_entries.proofs.{Results.BelowLaws.ends-within, Results.TreeParts.tree-parts}
-use Rattle.dwarf_entries.proofs.Results.TreeParts.{scope-at, scopes_in}
-use Rattle.dwarf_entries.proofs.ScopePasses.SiteLaws.{IsSiteAt, first-all}
+use Rattle.dwarf_entries.proofs.OriginChains.ReferenceLaws.{within-le}
+use Rattle.dwarf_entries.proofs.Results.BelowLaws.{counted-rises, scopes-between, ends-within}
+use Rattle.dwarf_entries.proofs.ScopePasses.SiteLaws.{IsSiteAt, first-next, first-all}
+use Rattle.dwarf_entries.proofs.UnitPasses.UnitLaws.{AreUnitsIn, dies-rise}
+use Rattle.dwarf_entries.proofs.Results.TreeParts.{tree-parts, scope-at, scopes_in}
+use Rattle.dwarf_entries.specs.Order.{AreNested}
+
+-- ---- the order of numbers
+
+pub first-rises : (us : List CompilationUnit) (i j : ℕ) → i ≤ j
+    → first_number us i ≤ first_number us j
+first-rises us i j le = rw (← take-take i j us le)
+    (sum_by-take-le (λ (u : CompilationUnit). count_by is_scope u.dies) (take j us) i)
+
+few-below : (die : Die) (dies : List Die)
+    → count_by is_scope (below die dies) ≤ count_by is_scope dies
+few-below die dies = sum_by-take-le (λ x. cond (is_scope x) 1 0) dies
+    (prefix_len (λ (d : Die). nat_lt die.depth d.depth) dies)
+
+-- A scope ends before the scopes of any later unit.
+pub before-later : {us : List CompilationUnit} {n : ℕ} {p : ScopeSite} (at : IsSiteAt us n p)
+    (j : ℕ) → at.unit < j
+    → (n < first_number us j) × (n + 1 + p.inside ≤ first_number us j)
+before-later {us} {n} {p} at j lt =
+    let dies : List Die = p.member.unit.dies in
+    let k : ℕ = at.is.index in
+    let here = get_or_from_slice_get dies k p.member.die p.member.die at.is.there in
+    let more = count_by_more_yes is_scope dies k p.member.die
+    (slice_get_within dies k p.member.die at.is.there)
+    (ap is_scope here ∙ ap is_some at.is.kind_is) in
+    let whole = sum_by-take-drop (λ (x : Die). cond (is_scope x) 1 0) dies (k + 1) in
+    let few = few-below p.member.die (drop (k + 1) dies) in
+    let next = first-next us at.unit p.member.unit at.unit_is in
+    let rises = first-rises us (at.unit + 1) j (omega (arith, lt)) in (
+      omega (arith, at.number_is, at.is.number_is, more, whole, next, rises),
+      omega (
+        arith,
+        at.number_is,
+        at.is.number_is,
+        more,
+        whole,
+        next,
+        rises,
+        at.is.inside_is,
+        few,
+      ),
+    )
+
+-- A site of the same unit as another: its entry, its number, and the number of scopes below it.
+pub in-unit-of : {us : List CompilationUnit} {n m : ℕ} {p q : ScopeSite} (a : IsSiteAt us n p)
+    (b : IsSiteAt us m q) → a.unit ≡ b.unit → let dies : List Die = p.member.unit.dies in
+    (slice_get dies b.is.index ≡ Some q.member.die)
+    × (m ≡ first_number us a.unit + count_by is_scope (take b.is.index dies))
+    × (q.inside ≡ count_by is_scope (below q.member.die (drop (b.is.index + 1) dies)))
+in-unit-of {us} {n} {m} {p} {q} a b e =
+    let same : p.member.unit ≡ q.member.unit = grind (arith, a.unit_is, b.unit_is) in
+    rw (same, ap (first_number us) e) (
+      b.is.there,
+      omega (arith, b.number_is, b.is.number_is),
+      b.is.inside_is,
+    )
+
+-- ---- the sites below another
+
+-- A site is below another in the same unit if and only if its number is between the other's number
+-- and end.
+pub sites-below : {us : List CompilationUnit} {n m : ℕ} {p q : ScopeSite} (a : IsSiteAt us n p)
+    (b : IsSiteAt us m q)
+    → ((a.unit ≡ b.unit) × IsBelow p.member.unit.dies b.is.index a.is.index)
+    ↔ ((n < m) × (m < n + 1 + p.inside))
+sites-below {us} {n} {m} {p} {q} a b =
+    let past = before-later a b.unit in
+    let before = before-later b a.unit in
+    let there = in-unit-of a b in
+    let between = λ (e : a.unit ≡ b.unit). scopes-between p.member.unit.dies a.is.index b.is.index
+    p.member.die q.member.die a.is.there (there e).0 (ap is_some a.is.kind_is)
+    (ap is_some b.is.kind_is) in
+    let place = a.is.number_is in
+    let inside = a.is.inside_is in (
+      λ below. let numbers = (between below.0).0 below.1 in
+          omega (arith, a.number_is, place, inside, (there below.0).1, numbers.0, numbers.1),
+      λ numbers. let e : a.unit ≡ b.unit = grind (arith, a.number_is, b.number_is) in
+          (e, (between e).1 (grind (arith, a.number_is, place, inside, (there e).1))),
+    )
+
+-- A scope with a lower number is in an earlier unit, or earlier in the same unit.
+pub site-order : {us : List CompilationUnit} {n m : ℕ} {p q : ScopeSite} (a : IsSiteAt us n p)
+    (b : IsSiteAt us m q) → n < m
+    → (a.unit < b.unit) ⊎ ((p.member.unit ≡ q.member.unit) × (a.is.index < b.is.index))
+site-order {us} {n} {m} {p} {q} a b less =
+    let counts = counted-rises is_scope p.member.unit.dies b.is.index a.is.index in
+    let past = before-later b a.unit in
+    grind (
+      arith,
+      a.unit_is,
+      b.unit_is,
+      a.number_is,
+      a.is.number_is,
+      b.number_is,
+      b.is.number_is,
+    )
+
+-- ---- the order of offsets
+
+pub rise-at : (from end : ℕ) (dies : List Die) (k : ℕ) (d : Die) → RiseWithin from end dies
+    → slice_get dies k ≡ Some d → (from ≤ d.offset) × (d.offset < end)
+rise-at from end [] k d rise h = cc
+rise-at from end (x ∷ dies) zero d rise h =
+    grind (arith, common_steps, within-le (suc x.offset) end dies rise.1)
+rise-at from end (x ∷ dies) (suc k) d rise h =
+    grind (arith, rise-at (suc x.offset) end dies k d rise.1 h)
+
+pub rise-order : (from end : ℕ) (dies : List Die) (i j : ℕ) (d e : Die) → RiseWithin from end dies
+    → slice_get dies i ≡ Some d → slice_get dies j ≡ Some e → i < j → d.offset < e.offset
+rise-order from end [] i j d e rise d_is e_is lt = cc
+rise-order from end (x ∷ dies) i zero d e rise d_is e_is lt = absurd (omega (arith, lt))
+rise-order from end (x ∷ dies) zero (suc j) d e rise d_is e_is lt =
+    grind (arith, rise-at (suc x.offset) end dies j e rise.1 e_is)
+rise-order from end (x ∷ dies) (suc i) (suc j) d e rise d_is e_is lt =
+    rise-order (suc x.offset) end dies i j d e rise.1 d_is e_is (omega (arith, lt))
+
+-- A site is within its unit, and the offsets of sites are strictly increasing.
+pub site-within : {s : Sections} {us : List CompilationUnit} {n : ℕ} {p : ScopeSite}
+    → AreUnitsIn s us → (a : IsSiteAt us n p)
+    → (p.member.unit.header.start ≤ p.member.die.offset)
+    × (p.member.die.offset < p.member.unit.header.end)
+site-within {p = p} are a =
+    rise-at p.member.unit.header.start p.member.unit.header.end p.member.unit.dies a.is.index
+    p.member.die (dies-rise (are.each_is a.unit p.member.unit a.unit_is)) a.is.there
+
+pub sites-rise : {s : Sections} {us : List CompilationUnit} {n m : ℕ} {p q : ScopeSite}
+    → AreUnitsIn s us → (a : IsSiteAt us n p) (b : IsSiteAt us m q) → n < m
+    → p.member.die.offset < q.member.die.offset
+sites-rise {us = us} {p = p} {q = q} are a b less =
+    let rise = rise-order q.member.unit.header.start q.member.unit.header.end q.member.unit.dies
+    a.is.index b.is.index p.member.die q.member.die
+    (dies-rise (are.each_is b.unit q.member.unit b.unit_is)) in
+    grind (
+      arith,
+      site-order a b less,
+      site-within are a,
+      site-within are b,
+      are.apart a.unit b.unit p.member.unit q.member.unit a.unit_is b.unit_is,
+      rise,
+      a.is.there,
+      b.is.there,
+    )
+
+-- ---- the order of scopes
 
 numbered : (m total : ℕ) (ss : List Scope) → m + length ss ≡ total
     → ((i : ℕ) (s : Scope) → slice_get ss i ≡ Some s

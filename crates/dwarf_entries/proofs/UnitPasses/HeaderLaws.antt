@@ -1,9 +1,9 @@
 -- The units of .debug_info are contiguous, and their headers have bounds.
 use Rattle.dwarf_entries.proofs.Common
-use Common.{◌≡◌, ℕ, ◌+◌, ◌<◌, ◌≤◌, List, [], ◌∷◌, ◌++◌, length, arith, Ok, All, All-nil, All-cons}
+use Common.{◌≡◌, ℕ, ◌<◌, ◌≤◌, List, [], ◌∷◌, ◌++◌, length, arith, Ok, All, All-nil, All-cons}
 use Common.{All-weaker, Format, bind_ok, same-ok, UnitHeader, length-take, AllPairs, AllPairs-cons}
 use Common.{Lists, units_of}
-use Rattle.std.proofs.{lemmas.List.Kept.AllPairs-filter, Common.{not, filter}}
+use Rattle.std.proofs.{lemmas.List.Kept.AllPairs-filter, Common.filter}
 use Rattle.std.proofs.lemmas.List.Elements.{All-filter}
 use Rattle.dwarf_bytes.specs.Items.{items_from}
 use Rattle.dwarf_units.specs.Units.{is_read, header_in, unit_at, header_at, headers_of}

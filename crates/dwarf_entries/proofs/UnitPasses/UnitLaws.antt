@@ -1,18 +1,18 @@
 -- The units of an object, as they were read from its sections, and what is stored for them.
 use Rattle.dwarf_entries.proofs.Common
 use Common.{IsCacheOf, NameCache, ◌≡◌, ℕ, zero, suc, ◌<◌, ◌≤◌, List, [], ◌∷◌, length, map, refl, ap}
-use Common.{sym, arith, get_or, ◌+◌, ◌++◌, Some, Result, Ok, Err, zip, slice_get, slice_get_within}
+use Common.{sym, arith, get_or, ◌++◌, Some, Result, Ok, Err, zip, slice_get, slice_get_within}
 use Common.{get_or_from_slice_get, slice_get-map, LoadFault, in_section, bind_ok, same-ok}
 use Common.{Declaration, UnitHeader, tables_of, Die, RiseWithin, in_section-ok, EntryBitmap}
 use Common.{AddsOffsets, Sections, CompilationUnit, units_read, all_offsets, AreStored}
 use Common.{stored_unit_of, ObjectUnits, length-map, UnitEntries, stored_of, DebugAbbrev, DebugInfo}
 use Common.{false, slice_get_read, declarations_of, declarations_limit, units_of, entries_of}
-use Common.{table_is, has_entry, with_bases, unit_of, dies_of, all_entries, each_from}
+use Common.{table_is, with_bases, unit_of, dies_of, all_entries, each_from}
+use Rattle.dwarf_walk.specs.{EntryBitmap.has_entry, Private.Rereading.IsReaderOf}
+use Rattle.dwarf_walk.specs.declared.entry_reader.EntryReader.{EntryReader}
 use Rattle.dwarf_entries.specs.Private.ObjectUnits.{AreUnitsOf, units_or_none, units_of_object}
 use Rattle.dwarf_entries.specs.declared.units.Units.TheInside.{Inside}
 use Rattle.dwarf_entries.specs.{Private.EntryOffsets.IsBitmapOf, Private.Passes.all_bases}
-use Rattle.dwarf_walk.specs.Private.Rereading.{IsReaderOf}
-use Rattle.dwarf_walk.specs.declared.entry_reader.EntryReader.{EntryReader}
 use Rattle.std.proofs.Common.{subst₂}
 use Rattle.dwarf_units.proofs.EntryOrder.{entries-rise}
 use Rattle.dwarf_entries.proofs.UnitPasses.HeaderLaws.{HasBounds, headers-in}

@@ -1,5 +1,4 @@
-use Rattle.dwarf_entries.proofs
-use proofs.{scopes-in-order}
+use Rattle.dwarf_entries.proofs.{scopes-in-order}
 use Rattle.dwarf_entries.proofs.laws.scopes_are_in_order.Goals as goal
 
 pub returns : goal.returns

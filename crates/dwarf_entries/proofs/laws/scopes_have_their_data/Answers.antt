@@ -1,5 +1,4 @@
-use Rattle.dwarf_entries.proofs
-use proofs.{data-of}
+use Rattle.dwarf_entries.proofs.{data-of}
 use Rattle.dwarf_entries.proofs.laws.scopes_have_their_data.Goals as goal
 
 pub returns : goal.returns

@@ -1,8 +1,7 @@
 use Rattle.dwarf_entries.proofs
-use proofs.{sections_of, arith, ◌≡◌, ◌+◌, [], ◌∷◌, ◌++◌, refl, ap, sym, ◌∙◌, map_push}
-use proofs.{in_section-ok, UnitEntries, Sections, StoredUnit, stored_of, CompilationUnit}
-use proofs.{stored_unit_of, bases_of, DebugInfo, first-fault, pass-next, pass-fault, pass-none}
-use proofs.{exit, stored-item}
+use proofs.{sections_of, arith, ◌≡◌, [], ◌∷◌, ◌++◌, refl, ap, sym, ◌∙◌, map_push, in_section-ok}
+use proofs.{UnitEntries, Sections, StoredUnit, stored_of, CompilationUnit, stored_unit_of, bases_of}
+use proofs.{DebugInfo, first-fault, pass-next, pass-fault, pass-none, exit, stored-item}
 use Rattle.dwarf_entries.specs.{Private.Passes.bases_in, Units.bases_of_first}
 use Rattle.dwarf_entries.proofs.passes.all_bases.Goals as goal
 

@@ -1,6 +1,5 @@
-use Rattle.dwarf_entries.proofs
-use proofs.{List, ◌≡◌, ℕ, map, sections_of, Sections, CompilationUnit, AreStored, Bases, PassedTo}
-use proofs.{bases_of, with_bases}
+use Rattle.dwarf_entries.proofs.{List, ◌≡◌, ℕ, map, sections_of, Sections, CompilationUnit}
+use Rattle.dwarf_entries.proofs.{AreStored, Bases, PassedTo, bases_of, with_bases}
 use Rattle.dwarf_entries.proofs.passes.all_bases.Given as goal
 
 -- The units before the index, and the bases that their roots define.

@@ -1,6 +1,5 @@
-use Rattle.dwarf_entries.proofs
-use proofs.{nat_le, leb-true, UnitEntries, rules, leb-false, IsPartitionedBy-leb}
-use proofs.{IsPartitionPoint-from_clause}
+use Rattle.dwarf_entries.proofs.{nat_le, leb-true, UnitEntries, rules, leb-false}
+use Rattle.dwarf_entries.proofs.{IsPartitionedBy-leb, IsPartitionPoint-from_clause}
 use Rattle.dwarf_entries.proofs.references.ends_by.Goals as goal
 
 pub returns-clause-parts : goal.returns-clause-parts

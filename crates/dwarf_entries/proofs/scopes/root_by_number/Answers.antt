@@ -1,6 +1,5 @@
-use Rattle.dwarf_entries.proofs
-use proofs.{nat_le, leb-true, Root, rules, leb-false, IsPartitionedBy-leb}
-use proofs.{IsPartitionPoint-from_clause, by_partition}
+use Rattle.dwarf_entries.proofs.{nat_le, leb-true, Root, rules, leb-false, IsPartitionedBy-leb}
+use Rattle.dwarf_entries.proofs.{IsPartitionPoint-from_clause, by_partition}
 use Rattle.dwarf_entries.proofs.scopes.root_by_number.Goals as goal
 
 pub returns : goal.returns

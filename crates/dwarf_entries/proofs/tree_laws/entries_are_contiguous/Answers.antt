@@ -1,7 +1,6 @@
-use Rattle.dwarf_entries.proofs
-use proofs.{◌≡◌, ℕ, ◌+◌, ◌≤◌, List, [], ◌∷◌, ◌++◌, length, take, ◌∙◌, subst, arith, length-take, Ok}
-use proofs.{nat_le, list_any, leb-true, Format, Declaration, All-contains, Lists, HasBounds}
-use proofs.{headers-in}
+use Rattle.dwarf_entries.proofs.{◌≡◌, ℕ, ◌≤◌, List, [], ◌∷◌, ◌++◌, length, take, ◌∙◌, subst, arith}
+use Rattle.dwarf_entries.proofs.{length-take, Ok, nat_le, list_any, leb-true, Format, Declaration}
+use Rattle.dwarf_entries.proofs.{All-contains, Lists, HasBounds, headers-in}
 use Rattle.dwarf_bytes.proofs.{Numbers.Advance.{after-bind, chosen}, Numbers.Moves.same-end}
 use Rattle.dwarf_bytes.specs.Items.{End}
 use Rattle.std.specs.List.{filter_map}

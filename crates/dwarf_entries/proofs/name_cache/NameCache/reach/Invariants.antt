@@ -1,5 +1,4 @@
-use Rattle.dwarf_entries.proofs
-use proofs.{◌≡◌, ◌-◌, ◌+◌, ℕ, length, slot_at}
+use Rattle.dwarf_entries.proofs.{◌≡◌, ◌-◌, ◌+◌, ℕ, length, slot_at}
 use Rattle.dwarf_entries.proofs.name_cache.NameCache.reach.Given as goal
 
 abbrev pub invariant-loop-self : goal.invariant-loop-self

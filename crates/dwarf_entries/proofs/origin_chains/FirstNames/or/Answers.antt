@@ -1,5 +1,4 @@
-use Rattle.dwarf_entries.proofs
-use proofs.{ap, DW_AT_LINKAGE_NAME, DW_AT_NAME, NamedEntry, first-more}
+use Rattle.dwarf_entries.proofs.{ap, DW_AT_LINKAGE_NAME, DW_AT_NAME, NamedEntry, first-more}
 use Rattle.dwarf_entries.proofs.origin_chains.FirstNames.or.Goals as goal
 
 pub returns : goal.returns

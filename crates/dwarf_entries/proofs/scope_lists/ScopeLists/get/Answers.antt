@@ -1,5 +1,4 @@
-use Rattle.dwarf_entries.proofs
-use proofs.{slice_get_past, refl, scopes-at, found-at}
+use Rattle.dwarf_entries.proofs.{slice_get_past, refl, scopes-at, found-at}
 use Rattle.dwarf_entries.proofs.scope_lists.ScopeLists.get.Goals as goal
 
 pub returns-in_err-scope : goal.returns-in_err-scope

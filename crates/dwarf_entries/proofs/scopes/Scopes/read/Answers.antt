@@ -1,7 +1,6 @@
-use Rattle.dwarf_entries.proofs
-use proofs.{List, [], length, ap, arith, refl, length-map, each-length, Scope, ParsedScope}
-use proofs.{roots_from, tree_of, parse_scope, all_sites, scopes-length, all-sites-count, exit}
-use proofs.{step-fault}
+use Rattle.dwarf_entries.proofs.{List, [], length, ap, arith, refl, length-map, each-length, Scope}
+use Rattle.dwarf_entries.proofs.{ParsedScope, roots_from, tree_of, parse_scope, all_sites}
+use Rattle.dwarf_entries.proofs.{scopes-length, all-sites-count, exit, step-fault}
 use Rattle.dwarf_entries.proofs.scopes.Scopes.read.Goals as goal
 
 pub returns-in_err-units : goal.returns-in_err-units

@@ -1,6 +1,5 @@
-use Rattle.dwarf_entries.proofs
-use proofs.{◌≡◌, ℕ, List, [], ◌∷◌, map, refl, ap, Range, Root, CallSite, Own, own, own_of}
-use proofs.{scopes_from}
+use Rattle.dwarf_entries.proofs.{◌≡◌, ℕ, List, [], ◌∷◌, map, refl, ap, Range, Root, CallSite, Own}
+use Rattle.dwarf_entries.proofs.{own, own_of, scopes_from}
 use Rattle.dwarf_entries.specs.declared.scope.Scope.{Scope as StoredScope}
 use Rattle.dwarf_entries.proofs.scopes.Scopes.scopes.Goals as goal
 

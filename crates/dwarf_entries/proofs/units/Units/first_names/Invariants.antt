@@ -1,5 +1,4 @@
-use Rattle.dwarf_entries.proofs
-use proofs.{◌≡◌, Member, IsMember, Followed}
+use Rattle.dwarf_entries.proofs.{◌≡◌, Member, IsMember, Followed}
 use Rattle.dwarf_entries.proofs.units.Units.first_names.Given as goal
 
 abbrev pub invariant-loop-last : goal.invariant-loop-last

@@ -1,5 +1,4 @@
-use Rattle.dwarf_entries.proofs
-use proofs.{names-by-reference}
+use Rattle.dwarf_entries.proofs.{names-by-reference}
 use Rattle.dwarf_entries.proofs.units.Units.names.Goals as goal
 
 pub returns-in-Some-clause-names : goal.returns-in-Some-clause-names

@@ -1,5 +1,4 @@
-use Rattle.dwarf_entries.proofs
-use proofs.{refl, outside, within-stored, seen-units, found-at, object-units}
+use Rattle.dwarf_entries.proofs.{refl, outside, within-stored, seen-units, found-at, object-units}
 use Rattle.dwarf_entries.proofs.units.Units.place_in.Goals as goal
 
 pub returns-in_err-offset-clause-leads : goal.returns-in_err-offset-clause-leads

@@ -1,6 +1,5 @@
-use Rattle.dwarf_entries.proofs
-use proofs.{sym, ◌∙◌, List, refl, Die, in_section-ok, sections_of, units_read, DebugAbbrev}
-use proofs.{stored_unit, bases-stay, all-marked, exit, step-fault}
+use Rattle.dwarf_entries.proofs.{sym, ◌∙◌, List, refl, Die, in_section-ok, sections_of, units_read}
+use Rattle.dwarf_entries.proofs.{DebugAbbrev, stored_unit, bases-stay, all-marked, exit, step-fault}
 use Rattle.dwarf_entries.proofs.units.Units.read.Goals as goal
 
 pub returns-in_err-headers-clause-units : goal.returns-in_err-headers-clause-units

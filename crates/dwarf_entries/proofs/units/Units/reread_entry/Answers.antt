@@ -1,6 +1,5 @@
-use Rattle.dwarf_entries.proofs
-use proofs.{refl, sym, ◌∙◌, same-ok, named_entry, again-memory, seen, seen-units, with-parts}
-use proofs.{found-at, exit, reread, object-units}
+use Rattle.dwarf_entries.proofs.{refl, sym, ◌∙◌, same-ok, named_entry, again-memory, seen}
+use Rattle.dwarf_entries.proofs.{seen-units, with-parts, found-at, exit, reread, object-units}
 use Rattle.dwarf_entries.proofs.units.Units.reread_entry.Goals as goal
 
 pub invariant_of-self : goal.invariant_of-self

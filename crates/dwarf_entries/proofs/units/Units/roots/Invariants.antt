@@ -1,5 +1,4 @@
-use Rattle.dwarf_entries.proofs
-use proofs.{◌≡◌, take, roots_from, first_number}
+use Rattle.dwarf_entries.proofs.{◌≡◌, take, roots_from, first_number}
 use Rattle.dwarf_entries.proofs.units.Units.roots.Given as goal
 
 abbrev pub invariant-loop-unit : goal.invariant-loop-unit

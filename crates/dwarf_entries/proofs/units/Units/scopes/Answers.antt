@@ -1,5 +1,4 @@
-use Rattle.dwarf_entries.proofs
-use proofs.{[], refl, arith, first-all, pass-none, pass-end}
+use Rattle.dwarf_entries.proofs.{[], refl, arith, first-all, pass-none, pass-end}
 use Rattle.dwarf_entries.proofs.units.Units.scopes.Goals as goal
 
 pub loop-unit-init : goal.loop-unit-init

@@ -1,5 +1,4 @@
-use Rattle.dwarf_entries.proofs
-use proofs.{◌≡◌, AreParsedTo, first_number}
+use Rattle.dwarf_entries.proofs.{◌≡◌, AreParsedTo, first_number}
 use Rattle.dwarf_entries.proofs.units.Units.scopes.Given as goal
 
 abbrev pub invariant-loop-unit : goal.invariant-loop-unit

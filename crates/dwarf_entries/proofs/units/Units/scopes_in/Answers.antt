@@ -1,5 +1,4 @@
-use Rattle.dwarf_entries.proofs
-use proofs.{◌∙◌, sites-stored, seen, stored-there}
+use Rattle.dwarf_entries.proofs.{◌∙◌, sites-stored, seen, stored-there}
 use Rattle.dwarf_entries.proofs.units.Units.scopes_in.Goals as goal
 
 pub returns : goal.returns

@@ -1,7 +1,6 @@
-use Rattle.dwarf_entries.proofs
-use proofs.{sym, ap, ◌∙◌, arith, Cause, at_item, same-ok, sites_in, refl, DebugInfo, scope_entry}
-use proofs.{again-memory, sites-stored, site-read, seen, with-parts, element, stored-there}
-use proofs.{object-units}
+use Rattle.dwarf_entries.proofs.{sym, ap, ◌∙◌, arith, Cause, at_item, same-ok, sites_in, refl}
+use Rattle.dwarf_entries.proofs.{DebugInfo, scope_entry, again-memory, sites-stored, site-read}
+use Rattle.dwarf_entries.proofs.{seen, with-parts, element, stored-there, object-units}
 use Rattle.dwarf_entries.proofs.units.Units.site.Goals as goal
 
 pub index-place-requires : goal.index-place-requires
