@@ -11,7 +11,6 @@ pub use UnitPasses.HeaderLaws.*
 pub use UnitPasses.UnitLaws.*
 pub use UnitPasses.RereadLaws.*
 pub use ScopePasses.SiteLaws.*
-pub use ScopePasses.PushedScopes.*
 pub use ScopePasses.RootsPass.*
 pub use ScopePasses.DataLaws.*
 pub use OriginChains.ChainLaws.*

@@ -1,4 +1,3 @@
-pub mod PushedScopes
 pub mod SiteLaws
 pub mod RootsPass
 pub mod DataLaws

@@ -6,18 +6,10 @@ use Common.{None, Result, Ok, Err, slice_get, option_map, ◌-◌, option_or, Ca
 use Common.{AttributeValue, NamedEntry, UnitPlace, CompilationUnit, Member, target_of, chain_within}
 use Common.{IsMember, Reference, first_on, IsPlaceOf, Finds, same_Some, cond, Bool, true, ◌==◌}
 use Common.{DW_AT_LINKAGE_NAME, DW_AT_NAME, EntryNames, Sections, names_of, member_in, false}
-use Common.{name_on, references_limit, slot_at, IsCacheOf, NameCache}
-use Rattle.dwarf_units.specs.Entries.{attribute}
-use Rattle.std.proofs.Common.{append_assoc, ◌&&◌, if◌then◌else◌}
-use Rattle.dwarf_entries.specs.{Names.of_member, Private.Members.{IsFirst, AreFirst, FindsFirst}}
-use Rattle.dwarf_entries.specs.Private.Members.{LeadsTo}
-use Rattle.dwarf_entries.specs.declared.origin_chains.UnitAttribute.{UnitAttribute}
-use Rattle.dwarf_entries.specs.declared.origin_chains.UnitEntry.{UnitEntry}
-use Rattle.dwarf_entries.specs.declared.origin_chains.FirstNames.{FirstNames}
-use Rattle.dwarf_entries.specs.Private.NameCache.{CachedNames, slot_of, second_names, target_names}
-use Rattle.dwarf_entries.specs.Private.Narrow.{are_narrow}
-use Rattle.dwarf_walk.specs.References.{or_else, next_of}
-use Rattle.dwarf_bytes.specs.declared.fault.Cause.TheVariants.{OriginDepth}
+use Common.{name_on, references_limit, slot_at, IsCacheOf, NameCache, attribute, append_assoc, ◌&&◌}
+use Common.{if◌then◌else◌, of_member, IsFirst, AreFirst, FindsFirst, LeadsTo, UnitAttribute}
+use Common.{UnitEntry, FirstNames, CachedNames, slot_of, second_names, target_names, are_narrow}
+use Common.{or_else, next_of, OriginDepth}
 
 -- ---- the first attribute with a name
 

@@ -5,11 +5,8 @@ use Common.{map, get_or, Bool, true, ◌==◌, refl, sym, ap, ◌∙◌, arith, 
 use Common.{slice_get, option_map, option_or, slice_get-get_or, slice_get_within, AttributeValue}
 use Common.{Die, RiseWithin, UnitEntries, StoredUnit, Sections, CompilationUnit, Member, target_of}
 use Common.{AreStored, member_in, Reference, ok_or, cases_lt, IsNonDecreasingBy, IsPartitionPoint}
-use Common.{members_of}
-use Rattle.dwarf_entries.specs.{Private.Members.IsWithin, Names.member_at}
-use Rattle.std.proofs.{Common.{eq-eqb, option_to_list}, lemmas.Bool.ne_eqb}
-use Rattle.std.proofs.lemmas.List.Folds.{find-append}
-use Rattle.dwarf_bytes.specs.declared.constants.TheConstants.{DW_FORM_REF_ADDR}
+use Common.{members_of, IsWithin, member_at, eq-eqb, option_to_list, ne_eqb, find-append}
+use Common.{DW_FORM_REF_ADDR}
 use Rattle.dwarf_entries.proofs.{UnitPasses.PassLaws.element, UnitPasses.UnitLaws.stored-at}
 use Rattle.dwarf_entries.proofs.UnitPasses.UnitLaws.{stored-index, stored-length, AreUnitsIn}
 use Rattle.dwarf_entries.proofs.UnitPasses.UnitLaws.{dies-rise}
@@ -27,8 +24,7 @@ die_at u offset = find (λ die. die.offset == offset) u.dies
 
 pub within-le : (from end : ℕ) (dies : List Die) → RiseWithin from end dies → from ≤ end
 within-le from end [] h = h
-within-le from end (die ∷ dies) h = let first = h.0 in let rest =
-    within-le (suc die.offset) end dies h.1 in omega (arith, first, rest)
+within-le from end (die ∷ dies) h = grind (arith, h.0, within-le (suc die.offset) end dies h.1)
 
 -- There is no entry of the unit outside its bounds.
 none-outside : (from end : ℕ) (dies : List Die) (offset : ℕ) → RiseWithin from end dies
@@ -49,10 +45,10 @@ pub find-units : (u : CompilationUnit) (us : List CompilationUnit) (offset : ℕ
     → find (is_at_offset offset) (members_of (u ∷ us))
     ≡ option_or (option_map (member_of u) (die_at u offset))
     (find (is_at_offset offset) (members_of us))
-find-units u us offset =
-    find-append (is_at_offset offset) (map (member_of u) u.dies) (members_of us)
-    ∙ ap (λ (o : Option Member). option_or o (find (is_at_offset offset) (members_of us)))
-    (find-map (is_at_offset offset) (member_of u) u.dies)
+find-units u us offset = rw (
+  find-append (is_at_offset offset) (map (member_of u) u.dies) (members_of us),
+  find-map (is_at_offset offset) (member_of u) u.dies,
+) refl
 
 or-none : {X : Type 0} (o : Option X) → option_or o None ≡ o
 or-none o = grind arith

@@ -3,10 +3,8 @@ use Rattle.dwarf_entries.proofs.Common
 use Common.{◌≡◌, ◌↔◌, ℕ, ◌+◌, ◌-◌, ◌<◌, ◌≤◌, List, Bool, true, Some, length, take, drop, get_or, ap}
 use Common.{sym, ◌∙◌, subst, arith, nat_lt, count_by, slice_get, get_or_from_slice_get}
 use Common.{slice_get_within, Die, below, IsBelow, is_scope, prefix_len, count_by_more_yes}
-use Common.{length-drop}
-use Rattle.std.proofs.lemmas.List.Sums.{sum_by-append, prefix_len_passes, prefix_len_stops}
-use Rattle.std.proofs.{lemmas.List.Sums.prefix_len-le-length, lemmas.List.get_or-drop}
-use Rattle.std.proofs.Common.{take-add}
+use Common.{length-drop, sum_by-append, prefix_len_passes, prefix_len_stops, prefix_len-le-length}
+use Common.{get_or-drop, take-add}
 
 module _ {X : Type 0} (p : X → Bool) (xs : List X) where
   -- The number of elements before an index that pass the test.

@@ -6,15 +6,13 @@ use Common.{◌↔◌, Some, slice_get, is_some, count_by, nat_lt, get_or_from_s
 use Common.{slice_get_within, Die, below, IsBelow, RiseWithin, is_scope, Sections, CompilationUnit}
 use Common.{ScopeSite, first_number, prefix_len, sum_by-take-le, count_by_more_yes, common_steps}
 use Common.{length, get_or, refl, Ok, length-map, slice_get-get_or, each-length, Scope, ParsedScope}
-use Common.{Tree, tree_of, parse_scope, all_sites, AreNumbered, AreInOrder}
-use Rattle.std.proofs.{lemmas.List.Sums.sum_by-take-drop, lemmas.List.take-take}
-use Rattle.std.proofs.lemmas.List.Elements.{recursion_from_All}
+use Common.{Tree, tree_of, parse_scope, all_sites, AreNumbered, AreInOrder, sum_by-take-drop}
+use Common.{take-take, recursion_from_All, AreNested}
 use Rattle.dwarf_entries.proofs.OriginChains.ReferenceLaws.{within-le}
 use Rattle.dwarf_entries.proofs.Results.BelowLaws.{counted-rises, scopes-between, ends-within}
 use Rattle.dwarf_entries.proofs.ScopePasses.SiteLaws.{IsSiteAt, first-next, first-all}
 use Rattle.dwarf_entries.proofs.UnitPasses.UnitLaws.{AreUnitsIn, dies-rise}
 use Rattle.dwarf_entries.proofs.Results.TreeParts.{tree-parts, scope-at, scopes_in}
-use Rattle.dwarf_entries.specs.Order.{AreNested}
 
 -- ---- the order of numbers
 

@@ -5,9 +5,7 @@ use Common.{refl, Result, Ok, Some, All, Contains, slice_get, slice_get-get_or, 
 use Common.{Cause, in_section, bind_ok, same-ok, in_section-ok, Sections, EntryNames}
 use Common.{CompilationUnit, units_read, names_of, Tree, Scope, ScopeSite, ParsedScope, scope_at}
 use Common.{tree_of, roots_from, stmt_list_of, parse_scope, all_sites, all_scopes, DebugInfo}
-use Common.{All-map, with_offset, scope_of_site}
-use Rattle.dwarf_entries.specs.Scopes.{covers_there}
-use Rattle.dwarf_ranges.specs.Ranges.{Covering}
+use Common.{All-map, with_offset, scope_of_site, covers_there, Covering}
 use Rattle.dwarf_entries.proofs.ScopePasses.SiteLaws.{IsSiteAt, site-at}
 use Rattle.dwarf_entries.proofs.UnitPasses.PassLaws.{each-at, from-map}
 

@@ -1,9 +1,15 @@
--- The data of scopes: in the scope itself, and through the list of scopes.
+-- The data of scopes: in a scope itself, through the list of scopes, and in the lists that the
+-- scopes of a result share, to which one more scope is appended.
 use Rattle.dwarf_entries.proofs.Common
-use Common.{◌≡◌, ℕ, zero, suc, ◌+◌, List, [], ◌∷◌, refl, ap, sym, ◌∙◌, arith, Some, length}
-use Common.{slice_get, map, slice_get-map, Scope, Own, own, own_of, AreNumbered, AreInOrder}
+use Common.{Global, Vec, ◌≡◌, ℕ, zero, suc, ◌-◌, List, [], ◌∷◌, length, take, drop, refl, ap, sym}
+use Common.{◌∙◌, arith, ◌+◌, ◌≤◌, ◌++◌, length-append, slice_get, option_map, None, Range, Root}
+use Common.{take_all, CallSite, scopes_from, facts_of, IsPushed, ScopeFacts, ScopeLists}
+use Common.{common_steps, length-drop, scope_of, call_site, scopes_of, wide_index, ranges_start}
+use Common.{IsInList, AreConsecutive, Calls, take-append-le, drop-append-le, get_or_append_left}
+use Common.{unwrap_or-slice_get, drop-append_seam, Some, map, slice_get-map, Scope, Own, own}
+use Common.{own_of, AreNumbered, AreInOrder, HasDataOf}
+use Rattle.dwarf_entries.specs.declared.scope.Scope.{Scope as StoredScope}
 use Rattle.dwarf_entries.proofs.UnitPasses.PassLaws.{from-map}
-use Rattle.dwarf_entries.specs.{Order.HasDataOf, declared.scope.Scope.Scope as StoredScope}
 
 -- The number of the scope at an index.
 number-at : (first total i : ℕ) (ss : List Scope) (s : Scope) → AreNumbered first total ss
@@ -35,4 +41,113 @@ data-of scopes stored place k order same found =
         call_file_is = rw at refl;
         call_line_is = rw at refl;
       },
+    )
+
+-- ---- the scope at an index
+
+start-next : (first : ℕ) (s : StoredScope) (ss : List StoredScope) (n : ℕ)
+    → ranges_start first (s ∷ ss) (suc n) ≡ ranges_start s.ranges_end ss n
+start-next first s ss n = grind (arith, common_steps)
+
+pub scopes-at : (roots : List Root) (wide : List CallSite) (ranges : List Range) (first : ℕ)
+    (ss : List StoredScope) (n : ℕ)
+    → slice_get (scopes_from roots wide ranges first ss) n
+    ≡ option_map (λ s. scope_of roots wide
+    (take (s.ranges_end - ranges_start first ss n) (drop (ranges_start first ss n) ranges)) s)
+    (slice_get ss n)
+scopes-at roots wide ranges first [] n = refl
+scopes-at roots wide ranges first (s ∷ ss) zero = refl
+scopes-at roots wide ranges first (s ∷ ss) (suc n) =
+    scopes-at roots wide ranges s.ranges_end ss n
+    ∙ ap (λ (start : ℕ). option_map (λ t. scope_of roots wide
+    (take (t.ranges_end - start) (drop start ranges)) t) (slice_get ss n))
+    (sym (start-next first s ss n))
+
+pub scopes-length : (roots : List Root) (wide : List CallSite) (ranges : List Range) (first : ℕ)
+    (ss : List StoredScope) → length (scopes_from roots wide ranges first ss) ≡ length ss
+scopes-length roots wide ranges first [] = refl
+scopes-length roots wide ranges first (s ∷ ss) =
+    ap suc (scopes-length roots wide ranges s.ranges_end ss)
+
+-- ---- one more scope
+
+in_list-within : (many first past : ℕ) (ss : List StoredScope) → AreConsecutive many first past ss
+    → first ≤ past
+in_list-within many first past [] in_list = omega (arith, in_list)
+in_list-within many first past (s ∷ ss) in_list =
+    omega (arith, in_list.0, in_list-within many s.ranges_end past ss in_list.2)
+
+-- A call site does not change when the list of wide ones grows.
+call-stays : (wide more : List CallSite) (c : Calls) (file line : ℕ)
+    → IsInList (length wide) c file line
+    → call_site (wide ++ more) c file line ≡ call_site wide c file line
+call-stays wide more c file line in_list =
+    let d : CallSite = record { file = None; line = None } in
+    let index : ℕ = wide_index file line in
+    grind (
+      arith,
+      get_or_append_left wide more d index,
+      unwrap_or-slice_get (wide ++ more) index d,
+      unwrap_or-slice_get wide index d,
+    )
+
+pub scopes-push : (roots : List Root) (wide more : List CallSite) (ranges new : List Range)
+    (first : ℕ) (ss : List StoredScope) (s : StoredScope) → AreConsecutive (length wide) first
+    (length ranges) ss
+    → s.ranges_end ≡ length ranges + length new
+    → scopes_from roots (wide ++ more) (ranges ++ new) first (ss ++ s ∷ [])
+    ≡ scopes_from roots wide ranges first ss ++ scope_of roots (wide ++ more) new s ∷ []
+scopes-push roots wide more ranges new first [] s in_list ends =
+    let size : s.ranges_end - first ≡ length new = omega (arith, in_list, ends) in
+    rw (
+      size,
+      in_list,
+      drop-append_seam ranges new,
+      take_all (length new) new (omega arith),
+    ) refl
+scopes-push roots wide more ranges new first (t ∷ ts) s in_list ends =
+    let past = in_list-within (length wide) t.ranges_end (length ranges) ts in_list.2 in
+    let fits : t.ranges_end - first ≤ length (drop first ranges) =
+    omega (arith, length-drop first ranges, in_list.0, past) in
+    rw (
+      drop-append-le first ranges new (omega (arith, in_list.0, past)),
+      take-append-le (t.ranges_end - first) (drop first ranges) new fits,
+      call-stays wide more t.calls t.call_file t.call_line in_list.1,
+      scopes-push roots wide more ranges new t.ranges_end ts s in_list.2 ends,
+    ) refl
+
+pub in_list-push : (many more first past new : ℕ) (ss : List StoredScope) (s : StoredScope)
+    → AreConsecutive many first past ss → s.ranges_end ≡ past + new
+    → IsInList (many + more) s.calls s.call_file s.call_line
+    → AreConsecutive (many + more) first (past + new) (ss ++ s ∷ [])
+in_list-push many more first past new [] s in_list ends inside =
+    (omega (arith, in_list, ends), inside, ends)
+in_list-push many more first past new (t ∷ ts) s in_list ends inside =
+    (in_list.0, grind arith, in_list-push many more t.ranges_end past new ts s in_list.2 ends inside)
+
+-- The contents of the lists after one more scope.
+pub pushed : (roots : List Root) (old new : ScopeLists) (ranges : Vec Range Global)
+    (found : List Range) (facts : ScopeFacts) → AreConsecutive (length old.wide.items) 0
+    (length old.ranges.items) old.scopes.items
+    → ranges.items ≡ old.ranges.items ++ found → IsPushed facts (record old { ranges = ranges }) new
+    → (scopes_of roots new ≡ scopes_of roots old ++ facts_of roots found facts ∷ [])
+    × AreConsecutive (length new.wide.items) 0 (length new.ranges.items) new.scopes.items
+pushed roots old new ranges found facts in_list grown is =
+    let added = length-append old.wide.items is.packs.more in
+    let all : new.ranges.items ≡ old.ranges.items ++ found = is.ranges ∙ grown in
+    let sum = length-append old.ranges.items found in
+    let ends : is.s.ranges_end ≡ length old.ranges.items + length found =
+    is.packs.ends ∙ rw grown sum in
+    let described = rw is.packs.added at is.packs.tells roots found in (
+      rw (
+        is.packs.added,
+        all,
+        is.scopes,
+        scopes-push roots old.wide.items is.packs.more old.ranges.items found 0 old.scopes.items
+            is.s in_list ends,
+        described,
+      ) refl,
+      rw (is.packs.added, all, is.scopes, added, sum) (in_list-push (length old.wide.items)
+          (length is.packs.more) 0 (length old.ranges.items) (length found) old.scopes.items is.s
+          in_list ends (rw (is.packs.added, added) at is.packs.in_list)),
     )

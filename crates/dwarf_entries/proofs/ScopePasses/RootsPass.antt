@@ -4,10 +4,8 @@ use Common.{◌≡◌, ℕ, zero, suc, ◌+◌, ◌<◌, ◌≤◌, List, [], �
 use Common.{◌∙◌, arith, Bool, Option, Some, None, count_by, slice_get, nat_lt, sum_by-cons}
 use Common.{slice_get_within, get_or_from_slice_get, UnitEntries, is_scope, StoredUnit, Root}
 use Common.{CompilationUnit, roots_from, stmt_list_of, number_of_scopes, first_number, find}
-use Common.{take_more, sum_by-take-le, find_at, IsNonDecreasingBy, IsPartitionPoint}
-use Rattle.dwarf_entries.specs.{TreeLaws.ArePartsFrom, Scopes.stmt_list_by_number}
-use Rattle.std.proofs.{lemmas.List.Sums.position_or_len_is, lemmas.Bool.{lt-ltb, le-ltb}}
-use Rattle.dwarf_walk.specs.{declared.unit_entries.RootEntry.RootEntry, Stored.root_in}
+use Common.{take_more, sum_by-take-le, find_at, IsNonDecreasingBy, IsPartitionPoint, ArePartsFrom}
+use Common.{stmt_list_by_number, position_or_len_is, lt-ltb, le-ltb, RootEntry, root_in}
 use Rattle.dwarf_entries.proofs.ScopePasses.SiteLaws.{sites-count, first-next}
 use Rattle.dwarf_entries.proofs.{UnitPasses.RereadLaws.sites-stored, UnitPasses.UnitLaws.StoredFor}
 

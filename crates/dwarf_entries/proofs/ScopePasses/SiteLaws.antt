@@ -4,8 +4,7 @@ use Common.{is_some, ◌≡◌, ℕ, zero, suc, ◌+◌, ◌-◌, ◌≤◌, inl
 use Common.{take, drop, refl, ap, sym, ◌∙◌, arith, length-append, take_all, Option, Some, count_by}
 use Common.{slice_get, sum_by-cons, slice_get_within, get_or_from_slice_get, Die, below, ScopeKind}
 use Common.{kind_of, is_scope, CompilationUnit, ScopeSite, sites_in, number_of_scopes, first_number}
-use Common.{all_sites, cases_lt, sum_by_more}
-use Rattle.dwarf_entries.specs.Scopes.{site_of}
+use Common.{all_sites, cases_lt, sum_by_more, site_of}
 use Rattle.dwarf_entries.proofs.UnitPasses.PassLaws.{element}
 
 -- ---- the sites of a unit

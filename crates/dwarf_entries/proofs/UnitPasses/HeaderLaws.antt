@@ -2,16 +2,9 @@
 use Rattle.dwarf_entries.proofs.Common
 use Common.{◌≡◌, ℕ, ◌<◌, ◌≤◌, List, [], ◌∷◌, ◌++◌, length, arith, Ok, All, All-nil, All-cons}
 use Common.{All-weaker, Format, bind_ok, same-ok, UnitHeader, length-take, AllPairs, AllPairs-cons}
-use Common.{Lists, units_of}
-use Rattle.std.proofs.{lemmas.List.Kept.AllPairs-filter, Common.filter}
-use Rattle.std.proofs.lemmas.List.Elements.{All-filter}
-use Rattle.dwarf_bytes.specs.Items.{items_from}
-use Rattle.dwarf_units.specs.Units.{is_read, header_in, unit_at, header_at, headers_of}
-use Rattle.dwarf_bytes.proofs.Numbers.LengthLaws.{initial_length_at-moves}
-use Rattle.dwarf_bytes.proofs.Items.ItemLaws.{Lists-within}
-use Rattle.dwarf_units.proofs.{EntryMoves.{fixed-stays, offset-stays}, UnitLaws.header_in-places}
-use Rattle.dwarf_units.proofs.UnitLaws.{unit_at-moves}
-use Rattle.dwarf_entries.specs.TreeLaws.{AreContiguous}
+use Common.{Lists, units_of, AllPairs-filter, filter, All-filter, items_from, is_read, header_in}
+use Common.{unit_at, header_at, headers_of, initial_length_at-moves, Lists-within, fixed-stays}
+use Common.{offset-stays, header_in-places, unit_at-moves, AreContiguous}
 
 -- ---- the bounds of a unit
 

@@ -4,11 +4,8 @@ use Common.{◌≡◌, ◌⊎◌, ℕ, zero, suc, ◌+◌, ◌<◌, ◌≤◌, L
 use Common.{get_or, refl, ap, sym, ◌∙◌, arith, length-append, Some, Result, Ok, Err, slice_get}
 use Common.{take_all, slice_get_within, get_or_from_slice_get, Cause, LoadFault, ◌>>=◌, at_item}
 use Common.{in_section, each-length, PassedTo, DebugInfo, take_more, slice_get_read, At, each_from}
-use Common.{with_offset, Fails, memory_fault}
-use Rattle.std.proofs.{lemmas.List.take-append-drop, Common.drop-cons}
-use Rattle.dwarf_bytes.specs.Items.{each}
-use Rattle.dwarf_bytes.proofs.Items.EachPlaces.{each-append, each-place}
-use Rattle.std.specs.Result.{IsErrAnd}
+use Common.{with_offset, Fails, memory_fault, take-append-drop, drop-cons, each, each-append}
+use Common.{each-place, IsErrAnd}
 
 -- ---- elements by index
 

@@ -5,20 +5,10 @@ use Common.{◌≡◌, ℕ, ◌≤◌, List, length, take, true, refl, ap, ◌�
 use Common.{Result, Ok, slice_get, Cause, UnitHeader, Die, ScopeKind, Sections, UnitPlace}
 use Common.{CompilationUnit, Member, UnitEntries, AreStored, stored_unit_of, kind_of, StoredUnit}
 use Common.{stored_of, length-map, slice_get_within, get_or_from_slice_get, ScopeSite, sites_in}
-use Common.{IsPlaceOf, named_entry, scope_entry}
-use Rattle.dwarf_walk.specs.{Stored.scope_places, Private.Rereading.scope_entry_at}
-use Rattle.dwarf_walk.specs.Private.Named.{used_at, named_entry_at}
-use Rattle.dwarf_walk.specs.declared.unit_entries.ScopePlace.{ScopePlace}
-use Rattle.dwarf_bytes.specs.declared.constants.TheConstants.{DW_AT_CALL_FILE, DW_AT_CALL_LINE}
-use Rattle.dwarf_bytes.specs.declared.constants.TheConstants.{DW_AT_HIGH_PC, DW_AT_LOW_PC}
-use Rattle.dwarf_bytes.specs.declared.constants.TheConstants.{DW_AT_RANGES}
-use Rattle.dwarf_bytes.proofs.Numbers.Moves.{uleb-moves}
-use Rattle.dwarf_units.specs.{declared.attributes.Attribute.Attribute, Entries.entry_at}
-use Rattle.dwarf_units.specs.Private.StoredAttributes.{stored_attributes}
-use Rattle.dwarf_units.proofs.RereadLaws.{entries-again}
-use Rattle.dwarf_walk.proofs.{StoredNodes.{value-stored, names_at-stored}, RereadLaws.without_place}
-use Rattle.dwarf_walk.proofs.RereadLaws.{inside-is}
-use Rattle.std.proofs.lemmas.List.{get_or-map}
+use Common.{IsPlaceOf, named_entry, scope_entry, scope_places, scope_entry_at, used_at}
+use Common.{named_entry_at, ScopePlace, DW_AT_CALL_FILE, DW_AT_CALL_LINE, DW_AT_HIGH_PC}
+use Common.{DW_AT_LOW_PC, DW_AT_RANGES, uleb-moves, Attribute, entry_at, stored_attributes}
+use Common.{entries-again, value-stored, names_at-stored, without_place, inside-is, get_or-map}
 use Rattle.dwarf_entries.proofs.UnitPasses.UnitLaws.{stored-index, IsUnitIn, AreUnitsIn}
 use Rattle.dwarf_entries.proofs.ScopePasses.SiteLaws.{site-in}
 

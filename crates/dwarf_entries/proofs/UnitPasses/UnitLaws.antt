@@ -7,14 +7,9 @@ use Common.{Declaration, UnitHeader, tables_of, Die, RiseWithin, in_section-ok, 
 use Common.{AddsOffsets, Sections, CompilationUnit, units_read, all_offsets, AreStored}
 use Common.{stored_unit_of, ObjectUnits, length-map, UnitEntries, stored_of, DebugAbbrev, DebugInfo}
 use Common.{false, slice_get_read, declarations_of, declarations_limit, units_of, entries_of}
-use Common.{table_is, with_bases, unit_of, dies_of, all_entries, each_from}
-use Rattle.dwarf_walk.specs.{EntryBitmap.has_entry, Private.Rereading.IsReaderOf}
-use Rattle.dwarf_walk.specs.declared.entry_reader.EntryReader.{EntryReader}
-use Rattle.dwarf_entries.specs.Private.ObjectUnits.{AreUnitsOf, units_or_none, units_of_object}
-use Rattle.dwarf_entries.specs.declared.units.Units.TheInside.{Inside}
-use Rattle.dwarf_entries.specs.{Private.EntryOffsets.IsBitmapOf, Private.Passes.all_bases}
-use Rattle.std.proofs.Common.{subst₂}
-use Rattle.dwarf_units.proofs.EntryOrder.{entries-rise}
+use Common.{table_is, with_bases, unit_of, dies_of, all_entries, each_from, has_entry, IsReaderOf}
+use Common.{EntryReader, AreUnitsOf, units_or_none, units_of_object, Inside, IsBitmapOf, all_bases}
+use Common.{subst₂, entries-rise}
 use Rattle.dwarf_entries.proofs.UnitPasses.HeaderLaws.{HasBounds, headers-in}
 use Rattle.dwarf_entries.proofs.UnitPasses.PassLaws.{each-at, from-map}
 

@@ -1,8 +1,8 @@
 use Rattle.dwarf_entries.proofs
 use proofs.{sections_of, arith, ◌≡◌, [], ◌∷◌, ◌++◌, refl, ap, sym, ◌∙◌, map_push, in_section-ok}
 use proofs.{UnitEntries, Sections, StoredUnit, stored_of, CompilationUnit, stored_unit_of, bases_of}
-use proofs.{DebugInfo, first-fault, pass-next, pass-fault, pass-none, exit, stored-item}
-use Rattle.dwarf_entries.specs.{Private.Passes.bases_in, Units.bases_of_first}
+use proofs.{DebugInfo, bases_in, bases_of_first, first-fault, pass-next, pass-fault, pass-none}
+use proofs.{exit, stored-item}
 use Rattle.dwarf_entries.proofs.passes.all_bases.Goals as goal
 
 bases-same : (s : Sections) (u : CompilationUnit) (unit : UnitEntries)

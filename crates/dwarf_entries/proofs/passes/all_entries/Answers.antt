@@ -5,14 +5,9 @@ use proofs.{same_Some, slice_get_within, LoadFault, in_section, each-length, sam
 use proofs.{UnitHeader, tables_of, Die, in_section-ok, UnitEntries, EntryBitmap, AddsOffsets}
 use proofs.{offsets_of, stored_of, CompilationUnit, stored_unit_of, all_offsets, ◌>>=◌, DebugAbbrev}
 use proofs.{DebugInfo, At, memory_fault, declarations_of, declarations_limit, entries_of, table_is}
-use proofs.{stored_unit, dies_of, all_entries, Faults, after-done, pass-none, pass-next, pass-end}
-use proofs.{pass-fault, done, exit}
-use Rattle.dwarf_units.proofs.TableLaws.{table_for}
-use Rattle.dwarf_walk.specs.Stored.{stored_entries}
-use Rattle.std.proofs.{lemmas.List.Concat.flat_map-append, lemmas.Slice.Zip.length-zip}
-use Rattle.std.proofs.lemmas.Slice.Zip.{get_or-zip}
-use Rattle.dwarf_walk.proofs.BitmapLaws.{adds-none, adds-more}
-use Rattle.dwarf_ranges.specs.Bases.{no_bases}
+use proofs.{stored_unit, dies_of, all_entries, table_for, stored_entries, flat_map-append}
+use proofs.{length-zip, get_or-zip, adds-none, adds-more, no_bases, Faults, after-done, pass-none}
+use proofs.{pass-next, pass-end, pass-fault, done, exit}
 use Rattle.dwarf_entries.proofs.passes.all_entries.Invariants.{EntriesSoFar}
 use Rattle.dwarf_entries.proofs.passes.all_entries.Goals as goal
 

@@ -1,13 +1,8 @@
-use Rattle.dwarf_entries.proofs.{◌≡◌, ℕ, ◌≤◌, List, [], ◌∷◌, ◌++◌, length, take, ◌∙◌, subst, arith}
-use Rattle.dwarf_entries.proofs.{length-take, Ok, nat_le, list_any, leb-true, Format, Declaration}
-use Rattle.dwarf_entries.proofs.{All-contains, Lists, HasBounds, headers-in}
-use Rattle.dwarf_bytes.proofs.{Numbers.Advance.{after-bind, chosen}, Numbers.Moves.same-end}
-use Rattle.dwarf_bytes.specs.Items.{End}
-use Rattle.std.specs.List.{filter_map}
-use Rattle.dwarf_units.specs.Entries.{LocatedNode, is_root, depth_after, node_at_depth, node_at}
-use Rattle.dwarf_units.specs.Entries.{die_of}
-use Rattle.dwarf_units.proofs.{NodeLaws.node_at-facts, EntryOrder.list-in}
-use Rattle.dwarf_entries.specs.TreeLaws.{FillsUnit}
+use Rattle.dwarf_entries.proofs
+use proofs.{◌≡◌, ℕ, ◌≤◌, List, [], ◌∷◌, ◌++◌, length, take, ◌∙◌, subst, arith, length-take, Ok}
+use proofs.{nat_le, list_any, leb-true, Format, Declaration, All-contains, Lists, after-bind}
+use proofs.{chosen, same-end, End, filter_map, LocatedNode, is_root, depth_after, node_at_depth}
+use proofs.{node_at, die_of, node_at-facts, list-in, FillsUnit, HasBounds, headers-in}
 use Rattle.dwarf_entries.proofs.tree_laws.entries_are_contiguous.Goals as goal
 
 -- The last node ends where the unit ends.

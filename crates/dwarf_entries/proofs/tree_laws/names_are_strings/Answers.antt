@@ -2,16 +2,10 @@ use Rattle.dwarf_entries.proofs
 use proofs.{◌>>=◌, Cause, Bool, cond, Result, bind_ok, ◌≡◌, ℕ, ◌+◌, List, length, refl, arith}
 use proofs.{Option, Some, None, Ok, All, DW_AT_LINKAGE_NAME, DW_AT_NAME, same-ok, AttributeValue}
 use proofs.{EntryNames, Sections, CompilationUnit, Member, chain_within, names_of, Scope, Tree}
-use proofs.{tree_of, DebugInfo, first_on, name_on, references_limit, tree-parts, all-are, parsed-at}
-use Rattle.dwarf_entries.specs.{declared.text_offset.TextOffset.TextOffset, Names.text_in}
-use Rattle.dwarf_entries.specs.{Names.text_of, TreeLaws.{section_bytes, IsTextOf}}
-use Rattle.dwarf_bytes.proofs.{Numbers.Advance.reading-ok, Strings.StringLaws.text-encoded}
-use Rattle.std.proofs.Common.{IfSome}
-use Rattle.dwarf_bytes.specs.declared.fault.Section.{Section}
-use Rattle.dwarf_bytes.specs.{declared.tables.TableKind.TheVariants.StrOffsets, Items.reading}
-use Rattle.dwarf_bytes.specs.Numbers.{cstr_at, text_at}
-use Rattle.dwarf_bytes.specs.declared.fault.Section.TheVariants.{DebugLineStr, DebugStr}
-use Rattle.dwarf_ranges.specs.{declared.bases.Table.Table, Bases.{item_at, optional}}
+use proofs.{tree_of, DebugInfo, first_on, name_on, references_limit, TextOffset, text_in, text_of}
+use proofs.{section_bytes, IsTextOf, reading-ok, text-encoded, IfSome, Section, StrOffsets, reading}
+use proofs.{cstr_at, text_at, DebugLineStr, DebugStr, Table, item_at, optional, tree-parts, all-are}
+use proofs.{parsed-at}
 use Rattle.dwarf_entries.proofs.tree_laws.names_are_strings.Goals as goal
 
 -- ---- a string that is found in a section

@@ -2,9 +2,9 @@ use Rattle.dwarf_entries.proofs
 use proofs.{◌≡◌, ℕ, suc, ◌+◌, ◌<◌, ◌≤◌, List, [], ◌∷◌, length, map, refl, ap, arith, get_or, Some}
 use proofs.{All, slice_get, All-nil, All-cons, All-weaker, slice_get-get_or, get_or_from_slice_get}
 use proofs.{slice_get_within, Die, RiseWithin, Root, Sections, CompilationUnit, Scope, root_of}
-use proofs.{roots_from, AllPairs, All-map, AllPairs-cons, within-le, sites-rise, site-within}
-use proofs.{tree-parts, scope-at, scopes_in, AreUnitsIn, dies-rise, units-in, units-after, from-map}
-use Rattle.std.specs.List.Sorted.{IsStrictlyIncreasing}
+use proofs.{roots_from, AllPairs, All-map, AllPairs-cons, IsStrictlyIncreasing, within-le}
+use proofs.{sites-rise, site-within, tree-parts, scope-at, scopes_in, AreUnitsIn, dies-rise}
+use proofs.{units-in, units-after, from-map}
 use Rattle.dwarf_entries.proofs.tree_laws.offsets_rise.Goals as goal
 
 increasing : {X : Type 0} (key : X → ℕ) (xs : List X) → ((i j : ℕ) (x y : X)

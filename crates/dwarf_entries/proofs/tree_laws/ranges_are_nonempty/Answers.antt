@@ -1,10 +1,8 @@
 use Rattle.dwarf_entries.proofs
 use proofs.{◌≡◌, ℕ, zero, suc, ◌+◌, ◌-◌, ◌≤◌, List, length, take, subst, arith, ◌<◌, Some, Ok}
 use proofs.{slice_get, take_all, get_or_from_slice_get, Sections, CompilationUnit, Scope}
-use proofs.{ParsedScope, all_scopes, sum_by_more, tree-parts, all-are, parsed-at, element}
-use Rattle.std.proofs.{Common.sum_by, lemmas.List.Folds.fold-map}
-use Rattle.dwarf_entries.specs.Scopes.{items_limit}
-use Rattle.dwarf_ranges.proofs.{EntryLaws.AllHold, ScopeBudget.{Fits, covers-fits}}
+use proofs.{ParsedScope, all_scopes, sum_by_more, sum_by, fold-map, items_limit, AllHold, Fits}
+use proofs.{covers-fits, tree-parts, all-are, parsed-at, element}
 use Rattle.dwarf_entries.proofs.tree_laws.ranges_are_nonempty.Goals as goal
 
 -- The ranges of a scope are valid, and it took as many range items as the budget allows.

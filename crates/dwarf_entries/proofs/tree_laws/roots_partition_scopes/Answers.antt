@@ -3,10 +3,9 @@ use proofs.{◌≡◌, ℕ, zero, suc, ◌+◌, ◌<◌, ◌≤◌, List, [], �
 use proofs.{slice_get, count_by, length-map, All-nil, All-cons, All-weaker, sum_by-cons}
 use proofs.{each-length, Die, is_scope, Sections, Root, CompilationUnit, Scope, ParsedScope}
 use proofs.{stmt_list_of, root_of, roots_from, first_number, parse_scope, all_sites}
-use proofs.{number_of_scopes, All-contains, first-rises, before-later, rise-order, IsScopeAt}
-use proofs.{tree-parts, scope-at, contained, scopes_in, first-next, all-sites-count, AreUnitsIn}
-use proofs.{dies-rise, units-in, roots-part}
-use Rattle.dwarf_entries.specs.TreeLaws.{IsOfUnit}
+use proofs.{number_of_scopes, All-contains, IsOfUnit, first-rises, before-later, rise-order}
+use proofs.{IsScopeAt, tree-parts, scope-at, contained, scopes_in, first-next, all-sites-count}
+use proofs.{AreUnitsIn, dies-rise, units-in, roots-part}
 use Rattle.dwarf_entries.proofs.tree_laws.roots_partition_scopes.Goals as goal
 
 -- Each root belongs to a unit with entries.

@@ -1,6 +1,4 @@
-use Rattle.dwarf_entries.proofs.{◌≡◌, ◌-◌, take}
-use Rattle.std.proofs.Common.{◌^◌, min}
-use Rattle.dwarf_entries.specs.Private.EntryOffsets.{scope_count}
+use Rattle.dwarf_entries.proofs.{◌≡◌, ◌-◌, take, ◌^◌, min, scope_count}
 use Rattle.dwarf_entries.proofs.unit_scopes.scope_count.Given as goal
 
 abbrev pub invariant-loop-unit : goal.invariant-loop-unit

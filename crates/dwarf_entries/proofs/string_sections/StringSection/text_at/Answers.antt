@@ -1,5 +1,4 @@
-use Rattle.dwarf_entries.proofs.{refl}
-use Rattle.dwarf_bytes.proofs.Strings.SectionNames.{string-after-end, before-all}
+use Rattle.dwarf_entries.proofs.{refl, string-after-end, before-all}
 use Rattle.dwarf_entries.proofs.string_sections.StringSection.text_at.Goals as goal
 
 pub returns-then-offset-self : goal.returns-then-offset-self

@@ -1,6 +1,6 @@
-use Rattle.dwarf_entries.proofs.{[], inl, inr, refl, arith, ◌∙◌, followed-none, followed-next}
-use Rattle.dwarf_entries.proofs.{followed-end, followed-deep, followed-lost, target-there, exit}
-use Rattle.dwarf_bytes.proofs.Items.Turns.{None-from-no-Some}
+use Rattle.dwarf_entries.proofs
+use proofs.{[], inl, inr, refl, arith, ◌∙◌, None-from-no-Some, followed-none, followed-next}
+use proofs.{followed-end, followed-deep, followed-lost, target-there, exit}
 use Rattle.dwarf_entries.proofs.units.Units.first_names.Goals as goal
 
 pub loop-last-init : goal.loop-last-init

@@ -2,9 +2,8 @@ use Rattle.dwarf_entries.proofs
 use proofs.{slice_get, UnitPlace, sym, ◌≡◌, ℕ, List, [], ◌∷◌, Bool, true, cond, ◌==◌, refl, ◌∙◌}
 use proofs.{arith, Option, Some, None, is_some, find, option_map, list_any, Die, offsets_of}
 use proofs.{CompilationUnit, all_offsets, member_in, Reference, find_at, ok_or, members_of, Finds}
-use proofs.{object-units, is_at_offset, member_of, die_at, find-units, member-is, in-own, seen}
-use Rattle.std.proofs.{lemmas.List.Folds.list_any-append, lemmas.Bool.eqb-true}
-use Rattle.std.specs.List.{position_or_len}
+use proofs.{list_any-append, eqb-true, position_or_len, object-units, is_at_offset, member_of}
+use proofs.{die_at, find-units, member-is, in-own, seen}
 use Rattle.dwarf_entries.proofs.units.Units.has_entry.Goals as goal
 
 any-dies : (u : CompilationUnit) (offset : ℕ) (dies : List Die)

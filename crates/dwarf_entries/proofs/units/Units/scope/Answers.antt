@@ -3,10 +3,8 @@ use proofs.{[], Result, Err, ◌≡◌, ℕ, ◌+◌, List, length, map, get_or,
 use proofs.{slice_get, get_or_from_slice_get, slice_get-map, Cause, ◌>>=◌, Sections, sections_of}
 use proofs.{Bases, EntryNames, Range, CompilationUnit, names_of, ParsedScope, ScopeSite, scope_at}
 use proofs.{roots_from, IsMember, bases_of, ObjectUnits, ScopeEntry, ScopeNumbers, scope_of_site}
-use proofs.{IsScopeSite, AddsFacts, first-fails, exit, seen}
-use Rattle.dwarf_entries.specs.Private.Passes.{scope_facts}
-use Rattle.dwarf_ranges.specs.Ranges.{covers_by, covers_of, AddsRanges}
-use Rattle.dwarf_ranges.proofs.ScopeBudget.{budget-left}
+use proofs.{IsScopeSite, AddsFacts, scope_facts, covers_by, covers_of, AddsRanges, budget-left}
+use proofs.{first-fails, exit, seen}
 use Rattle.dwarf_entries.proofs.units.Units.scope.Goals as goal
 
 -- The bases of a unit.

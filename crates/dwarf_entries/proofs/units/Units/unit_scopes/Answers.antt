@@ -4,10 +4,8 @@ use proofs.{◌∙◌, Ok, Some, slice_get, map_push, length-map, Cause, LoadFau
 use proofs.{Root, CompilationUnit, ParsedScope, ScopeSite, Scope, scope_at, sites_in, roots_from}
 use proofs.{AreParsedTo, first_number, all_sites, all_scopes, DebugInfo, Fails, ScopeEntry}
 use proofs.{ScopeFacts, ScopeLists, ScopeNumbers, IsScopeSite, AddsFacts, facts_of, IsPushed}
-use proofs.{by_number, pushed, scopes-length, site-in, sites-count, first-next, all-sites-at}
-use proofs.{Faults, item-fault, pass-next, pass-fault, element, exit}
-use Rattle.dwarf_entries.specs.Private.Passes.{IsSiteRead}
-use Rattle.std.proofs.lemmas.List.Sums.{sum_by_push}
+use proofs.{IsSiteRead, sum_by_push, by_number, pushed, scopes-length, site-in, sites-count}
+use proofs.{first-next, all-sites-at, Faults, item-fault, pass-next, pass-fault, element, exit}
 use Rattle.dwarf_entries.proofs.units.Units.unit_scopes.Goals as goal
 
 module _ {s : Sections} {us : List CompilationUnit} {number : ℕ} {lists : ScopeLists} {left : ℕ}
