@@ -1,4 +1,8 @@
 -- The names from elsewhere that the proofs of this crate cite.
+use Rattle.dwarf_bytes.specs as bytes
+use Rattle.dwarf_entries.specs as entries
+use Rattle.dwarf_units.specs as units
+use Rattle.dwarf_walk.specs as walk
 pub use Rattle.dwarf_bytes.proofs.Items.EachPlaces.{each-append, each-length, each-place}
 pub use Rattle.dwarf_bytes.proofs.{Items.ItemLaws.Lists-within, Items.Turns.None-from-no-Some}
 pub use Rattle.dwarf_bytes.proofs.Numbers.Advance.{after-bind, bind_ok, chosen, reading-ok}
@@ -6,61 +10,48 @@ pub use Rattle.dwarf_bytes.proofs.Numbers.LengthLaws.{initial_length_at-moves}
 pub use Rattle.dwarf_bytes.proofs.Numbers.Moves.{same-end, same-ok, uleb-moves}
 pub use Rattle.dwarf_bytes.proofs.Strings.SectionNames.{before-all, string-after-end}
 pub use Rattle.dwarf_bytes.proofs.Strings.StringLaws.{text-encoded}
-pub use Rattle.dwarf_bytes.specs.{Bind.◌>>=◌, Items.{At, End, Lists, each, items_from, reading}}
-pub use Rattle.dwarf_bytes.specs.{Items.with_offset, Refusals.{Fails, at_item, in_section}}
-pub use Rattle.dwarf_bytes.specs.Refusals.{memory_fault}
-pub use Rattle.dwarf_bytes.specs.declared.constants.TheConstants.{DW_AT_CALL_FILE, DW_AT_CALL_LINE}
-pub use Rattle.dwarf_bytes.specs.declared.constants.TheConstants.{DW_AT_HIGH_PC, DW_AT_LINKAGE_NAME}
-pub use Rattle.dwarf_bytes.specs.declared.constants.TheConstants.{DW_AT_LOW_PC, DW_AT_NAME}
-pub use Rattle.dwarf_bytes.specs.declared.constants.TheConstants.{DW_AT_RANGES, DW_FORM_REF_ADDR}
-pub use Rattle.dwarf_bytes.specs.declared.fault.Cause.{Cause}
-pub use Rattle.dwarf_bytes.specs.declared.fault.Cause.TheVariants.{OriginDepth, Reference}
-pub use Rattle.dwarf_bytes.specs.declared.fault.LoadFault.{LoadFault}
-pub use Rattle.dwarf_bytes.specs.declared.fault.Section.{Section}
-pub use Rattle.dwarf_bytes.specs.declared.fault.Section.TheVariants.{DebugAbbrev, DebugInfo}
-pub use Rattle.dwarf_bytes.specs.declared.fault.Section.TheVariants.{DebugLineStr, DebugStr}
-pub use Rattle.dwarf_bytes.specs.declared.format.Format.{Format}
-pub use Rattle.dwarf_bytes.specs.declared.tables.TableKind.TheVariants.{StrOffsets}
-unfoldable pub use Rattle.dwarf_bytes.specs.{Items.each_from, Numbers.{cstr_at, text_at}}
-pub use Rattle.dwarf_entries.specs.Names.{Member, first_on, member_at, members_of, name_on}
-pub use Rattle.dwarf_entries.specs.Names.{names_of, of_member, references_limit, target_of, text_in}
-pub use Rattle.dwarf_entries.specs.{Names.text_of, Order.{AreInOrder, AreNested, AreNumbered}}
-pub use Rattle.dwarf_entries.specs.{Order.HasDataOf, Private.EntryOffsets.{AreStored, IsBitmapOf}}
-pub use Rattle.dwarf_entries.specs.Private.EntryOffsets.{all_offsets, dies_of, scope_count}
-pub use Rattle.dwarf_entries.specs.{Private.EntryOffsets.stored_unit_of, Private.Members.AreFirst}
-pub use Rattle.dwarf_entries.specs.Private.Members.{Finds, FindsFirst, IsFirst, IsMember, IsPlaceOf}
-pub use Rattle.dwarf_entries.specs.Private.Members.{IsWithin, LeadsTo, member_in}
-pub use Rattle.dwarf_entries.specs.Private.NameCache.{CachedNames, IsCacheOf, second_names, slot_at}
-pub use Rattle.dwarf_entries.specs.Private.NameCache.{slot_of, target_names}
-pub use Rattle.dwarf_entries.specs.{Private.Narrow.are_narrow, Private.ObjectUnits.AreUnitsOf}
-pub use Rattle.dwarf_entries.specs.Private.ObjectUnits.{ObjectUnits, units_of_object, units_or_none}
-pub use Rattle.dwarf_entries.specs.Private.Passes.{AreParsedTo, IsScopeSite, IsSiteRead, PassedTo}
-pub use Rattle.dwarf_entries.specs.Private.Passes.{all_bases, all_entries, all_scopes, all_sites}
-pub use Rattle.dwarf_entries.specs.Private.Passes.{bases_in, bases_of, first_number}
-pub use Rattle.dwarf_entries.specs.Private.Passes.{number_of_scopes, parse_scope, scope_facts}
-pub use Rattle.dwarf_entries.specs.Private.Shared.{AddsFacts, AreConsecutive, IsInList, IsPushed}
-pub use Rattle.dwarf_entries.specs.{Private.Shared.{facts_of, ranges_start}, Scopes.Own}
-pub use Rattle.dwarf_entries.specs.Scopes.{ParsedScope, Scope, ScopeSite, Tree, call_site}
-pub use Rattle.dwarf_entries.specs.Scopes.{covers_there, items_limit, own, own_of, root_of}
-pub use Rattle.dwarf_entries.specs.Scopes.{roots_from, scope_at, scope_of, scope_of_site}
-pub use Rattle.dwarf_entries.specs.Scopes.{scopes_from, scopes_of, site_of, sites_in}
-pub use Rattle.dwarf_entries.specs.Scopes.{stmt_list_by_number, stmt_list_of, wide_index}
-pub use Rattle.dwarf_entries.specs.TreeLaws.{AreContiguous, ArePartsFrom, FillsUnit, IsEntry}
-pub use Rattle.dwarf_entries.specs.TreeLaws.{IsOfUnit, IsTextOf, section_bytes}
-pub use Rattle.dwarf_entries.specs.Units.{CompilationUnit, bases_of_first, unit_of, with_bases}
-pub use Rattle.dwarf_entries.specs.{declared.calls.CallSite.CallSite, declared.calls.Calls.Calls}
-pub use Rattle.dwarf_entries.specs.declared.name_cache.NameCache.{NameCache}
-pub use Rattle.dwarf_entries.specs.declared.origin_chains.EntryNames.{EntryNames}
-pub use Rattle.dwarf_entries.specs.declared.origin_chains.FirstNames.{FirstNames}
-pub use Rattle.dwarf_entries.specs.declared.origin_chains.UnitAttribute.{UnitAttribute}
-pub use Rattle.dwarf_entries.specs.declared.origin_chains.UnitEntry.{UnitEntry}
-pub use Rattle.dwarf_entries.specs.declared.references.UnitPlace.{UnitPlace}
-pub use Rattle.dwarf_entries.specs.{declared.scope.Root.Root, declared.scope.ScopeFacts.ScopeFacts}
-pub use Rattle.dwarf_entries.specs.declared.scope_lists.ScopeLists.{ScopeLists}
-pub use Rattle.dwarf_entries.specs.declared.text_offset.TextOffset.{TextOffset}
-pub use Rattle.dwarf_entries.specs.declared.unit_scopes.ScopeNumbers.{ScopeNumbers}
-pub use Rattle.dwarf_entries.specs.declared.units.Units.TheInside.{Inside}
-unfoldable pub use Rattle.dwarf_entries.specs.{Names.chain_within, Scopes.tree_of, Units.units_read}
+pub use bytes.{Bind.◌>>=◌, Items.{At, End, Lists, each, items_from, reading, with_offset}}
+pub use bytes.Refusals.{Fails, at_item, in_section, memory_fault}
+pub use bytes.declared.constants.TheConstants.{DW_AT_CALL_FILE, DW_AT_CALL_LINE, DW_AT_HIGH_PC}
+pub use bytes.declared.constants.TheConstants.{DW_AT_LINKAGE_NAME, DW_AT_LOW_PC, DW_AT_NAME}
+pub use bytes.declared.constants.TheConstants.{DW_AT_RANGES, DW_FORM_REF_ADDR}
+pub use bytes.{declared.fault.Cause.Cause, declared.fault.Cause.TheVariants.OriginDepth}
+pub use bytes.{declared.fault.Cause.TheVariants.Reference, declared.fault.LoadFault.LoadFault}
+pub use bytes.{declared.fault.Section.Section, declared.fault.Section.TheVariants.DebugAbbrev}
+pub use bytes.declared.fault.Section.TheVariants.{DebugInfo, DebugLineStr, DebugStr}
+pub use bytes.{declared.format.Format.Format, declared.tables.TableKind.TheVariants.StrOffsets}
+unfoldable pub use bytes.{Items.each_from, Numbers.{cstr_at, text_at}}
+pub use entries.Names.{Member, first_on, member_at, members_of, name_on, names_of, of_member}
+pub use entries.{Names.{references_limit, target_of, text_in, text_of}, Order.AreInOrder}
+pub use entries.{Order.{AreNested, AreNumbered, HasDataOf}, Private.EntryOffsets.AreStored}
+pub use entries.Private.EntryOffsets.{IsBitmapOf, all_offsets, dies_of, scope_count, stored_unit_of}
+pub use entries.Private.Members.{AreFirst, Finds, FindsFirst, IsFirst, IsMember, IsPlaceOf}
+pub use entries.{Private.Members.{IsWithin, LeadsTo, member_in}, Private.NameCache.CachedNames}
+pub use entries.Private.NameCache.{IsCacheOf, second_names, slot_at, slot_of, target_names}
+pub use entries.{Private.Narrow.are_narrow, Private.ObjectUnits.{AreUnitsOf, ObjectUnits}}
+pub use entries.{Private.ObjectUnits.{units_of_object, units_or_none}, Private.Passes.AreParsedTo}
+pub use entries.Private.Passes.{IsScopeSite, IsSiteRead, PassedTo, all_bases, all_entries}
+pub use entries.Private.Passes.{all_scopes, all_sites, bases_in, bases_of, first_number}
+pub use entries.Private.Passes.{number_of_scopes, parse_scope, scope_facts}
+pub use entries.Private.Shared.{AddsFacts, AreConsecutive, IsInList, IsPushed, facts_of}
+pub use entries.{Private.Shared.ranges_start, Scopes.{Own, ParsedScope, Scope, ScopeSite, Tree}}
+pub use entries.Scopes.{call_site, covers_there, items_limit, own, own_of, root_of, roots_from}
+pub use entries.Scopes.{scope_at, scope_of, scope_of_site, scopes_from, scopes_of, site_of}
+pub use entries.Scopes.{sites_in, stmt_list_by_number, stmt_list_of, wide_index}
+pub use entries.TreeLaws.{AreContiguous, ArePartsFrom, FillsUnit, IsEntry, IsOfUnit, IsTextOf}
+pub use entries.{TreeLaws.section_bytes, Units.{CompilationUnit, bases_of_first, unit_of}}
+pub use entries.{Units.with_bases, declared.calls.CallSite.CallSite, declared.calls.Calls.Calls}
+pub use entries.declared.name_cache.NameCache.{NameCache}
+pub use entries.declared.origin_chains.EntryNames.{EntryNames}
+pub use entries.declared.origin_chains.FirstNames.{FirstNames}
+pub use entries.declared.origin_chains.UnitAttribute.{UnitAttribute}
+pub use entries.declared.origin_chains.UnitEntry.{UnitEntry}
+pub use entries.{declared.references.UnitPlace.UnitPlace, declared.scope.Root.Root}
+pub use entries.{declared.scope.ScopeFacts.ScopeFacts, declared.scope_lists.ScopeLists.ScopeLists}
+pub use entries.declared.text_offset.TextOffset.{TextOffset}
+pub use entries.declared.unit_scopes.ScopeNumbers.{ScopeNumbers}
+pub use entries.declared.units.Units.TheInside.{Inside}
+unfoldable pub use entries.{Names.chain_within, Scopes.tree_of, Units.units_read}
 pub use Rattle.dwarf_forms.specs.{Declarations.Declaration, Tables.declarations_of}
 pub use Rattle.dwarf_ranges.proofs.{EntryLaws.AllHold, ScopeBudget.{Fits, budget-left, covers-fits}}
 pub use Rattle.dwarf_ranges.specs.{Bases.{item_at, no_bases, optional}, Ranges.AddsRanges}
@@ -71,34 +62,29 @@ pub use Rattle.dwarf_units.proofs.{EntryMoves.{fixed-stays, offset-stays}, Entry
 pub use Rattle.dwarf_units.proofs.{EntryOrder.list-in, NodeLaws.node_at-facts}
 pub use Rattle.dwarf_units.proofs.{RereadLaws.entries-again, TableLaws.{in_section-ok, table_for}}
 pub use Rattle.dwarf_units.proofs.{TableLaws.table_is, UnitLaws.{header_in-places, unit_at-moves}}
-pub use Rattle.dwarf_units.specs.Entries.{Die, IsBelow, LocatedNode, attribute, below, depth_after}
-pub use Rattle.dwarf_units.specs.Entries.{die_of, is_root, node_at, node_at_depth}
-pub use Rattle.dwarf_units.specs.Private.Rising.{RiseWithin}
-pub use Rattle.dwarf_units.specs.Private.StoredAttributes.{stored_attributes}
-pub use Rattle.dwarf_units.specs.Units.{declarations_limit, header_at, header_in, is_read}
-pub use Rattle.dwarf_units.specs.declared.attributes.Attribute.{Attribute}
-pub use Rattle.dwarf_units.specs.declared.attributes.AttributeValue.{AttributeValue}
-pub use Rattle.dwarf_units.specs.declared.unit_headers.UnitHeader.{UnitHeader}
-unfoldable pub use Rattle.dwarf_units.specs.{Entries.{entries_of, entry_at}, Units.headers_of}
-unfoldable pub use Rattle.dwarf_units.specs.Units.{tables_of, unit_at, units_of}
+pub use units.Entries.{Die, IsBelow, LocatedNode, attribute, below, depth_after, die_of, is_root}
+pub use units.{Entries.{node_at, node_at_depth}, Private.Rising.RiseWithin}
+pub use units.{Private.StoredAttributes.stored_attributes, Units.{declarations_limit, header_at}}
+pub use units.{Units.{header_in, is_read}, declared.attributes.Attribute.Attribute}
+pub use units.declared.attributes.AttributeValue.{AttributeValue}
+pub use units.declared.unit_headers.UnitHeader.{UnitHeader}
+unfoldable pub use units.{Entries.{entries_of, entry_at}, Units.{headers_of, tables_of, unit_at}}
+unfoldable pub use units.Units.{units_of}
 pub use Rattle.dwarf_walk.proofs.{BitmapLaws.{adds-more, adds-none}, RereadLaws.again-memory}
 pub use Rattle.dwarf_walk.proofs.RereadLaws.{inside-is, without_place}
 pub use Rattle.dwarf_walk.proofs.StoredNodes.{names_at-stored, value-stored}
-pub use Rattle.dwarf_walk.specs.EntryBitmap.{AddsOffsets, has_entry, offsets_of}
-pub use Rattle.dwarf_walk.specs.Private.Named.{named_entry_at, used_at}
-pub use Rattle.dwarf_walk.specs.{Private.Rereading.{IsReaderOf, scope_entry_at}, References.next_of}
-pub use Rattle.dwarf_walk.specs.{References.or_else, ScopeEntries.{is_scope, kind_of}}
-pub use Rattle.dwarf_walk.specs.{Sections.{Sections, sections_of}, Stored.{StoredUnit, named_entry}}
-pub use Rattle.dwarf_walk.specs.Stored.{root_in, scope_entry, scope_places, stored_entries}
-pub use Rattle.dwarf_walk.specs.Stored.{stored_of, stored_unit}
-pub use Rattle.dwarf_walk.specs.declared.entry_bitmap.EntryBitmap.{EntryBitmap}
-pub use Rattle.dwarf_walk.specs.declared.entry_reader.EntryReader.{EntryReader}
-pub use Rattle.dwarf_walk.specs.declared.scope_kind.ScopeKind.{ScopeKind}
-pub use Rattle.dwarf_walk.specs.declared.unit_entries.NamedEntry.{NamedEntry}
-pub use Rattle.dwarf_walk.specs.declared.unit_entries.RootEntry.{RootEntry}
-pub use Rattle.dwarf_walk.specs.declared.unit_entries.ScopeEntry.{ScopeEntry}
-pub use Rattle.dwarf_walk.specs.declared.unit_entries.ScopePlace.{ScopePlace}
-pub use Rattle.dwarf_walk.specs.declared.unit_entries.UnitEntries.{UnitEntries}
+pub use walk.{EntryBitmap.{AddsOffsets, has_entry, offsets_of}, Private.Named.named_entry_at}
+pub use walk.{Private.Named.used_at, Private.Rereading.{IsReaderOf, scope_entry_at}}
+pub use walk.{References.{next_of, or_else}, ScopeEntries.{is_scope, kind_of}, Sections.Sections}
+pub use walk.{Sections.sections_of, Stored.{StoredUnit, named_entry, root_in, scope_entry}}
+pub use walk.Stored.{scope_places, stored_entries, stored_of, stored_unit}
+pub use walk.declared.entry_bitmap.EntryBitmap.{EntryBitmap}
+pub use walk.declared.entry_reader.EntryReader.{EntryReader}
+pub use walk.{declared.scope_kind.ScopeKind.ScopeKind, declared.unit_entries.NamedEntry.NamedEntry}
+pub use walk.declared.unit_entries.RootEntry.{RootEntry}
+pub use walk.declared.unit_entries.ScopeEntry.{ScopeEntry}
+pub use walk.declared.unit_entries.ScopePlace.{ScopePlace}
+pub use walk.declared.unit_entries.UnitEntries.{UnitEntries}
 pub use Rattle.std.proofs.Common.{All, Bool, Contains, Err, IfSome, List, None, Ok, Option, Result}
 pub use Rattle.std.proofs.Common.{Some, Vec, [], ap, append-nil, append_assoc, arith, cond}
 pub use Rattle.std.proofs.Common.{count_by, drop, drop-cons, eq-eqb, false, filter, get_or}

@@ -51,9 +51,8 @@ exit (Ok x) h = absurd h
 exit {T} {E} (Err y) h = ap (λ (z : E). let r : Result T E = Err z in r) h
 
 -- The fault of the first of two steps.
-pub step-fault : {X Y : Type 0} {fault : LoadFault} (r : Result X LoadFault)
-    (f : X → Result Y LoadFault) → (fault ≡ memory_fault) ⊎ (r ≡ Err fault)
-    → (fault ≡ memory_fault) ⊎ ((r >>= f) ≡ Err fault)
+pub step-fault : {X Y E P : Type 0} {e : E} (r : Result X E) (f : X → Result Y E)
+    → P ⊎ (r ≡ Err e) → P ⊎ ((r >>= f) ≡ Err e)
 step-fault r f bad = grind arith
 
 -- The fault of an element, reported at its offset.
@@ -66,25 +65,10 @@ item-fault r cause at bad = grind arith
 abbrev pub Faults : {X : Type 0} → LoadFault → Result X At → Type 0
 Faults fault r = (fault ≡ memory_fault) ⊎ (in_section DebugInfo r ≡ Err fault)
 
--- The fault of the first of two steps.
+-- The same for steps in .debug_info.
 pub first-fault : {X Y : Type 0} {fault : LoadFault} (r : Result X At) (f : X → Result Y At)
     → Faults fault r → Faults fault (r >>= f)
 first-fault r f bad = grind arith
-
--- A step that succeeds has no fault.
-abbrev pub done : {Y : Type 0} → Y → Result Y At
-done y = Ok y
-
-pub after-done : {X Y : Type 0} (r : Result X At) (f : X → Y) (y : Y)
-    → in_section DebugInfo (r >>= λ x. done (f x)) ≡ Ok y
-    → (x : X) × (r ≡ Ok x) × (f x ≡ y)
-after-done (Ok x) f y h = (x, refl, cc)
-after-done (Err e) f y h = cc
-
--- The fault of the first of two steps without offsets.
-pub first-fails : {X Y : Type 0} {cause : Cause} (r : Result X Cause) (f : X → Result Y Cause)
-    → Fails cause r → Fails cause (r >>= f)
-first-fails r f bad = grind arith
 
 -- ---- the iterations
 

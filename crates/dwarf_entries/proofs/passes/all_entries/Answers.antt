@@ -1,13 +1,13 @@
 use Rattle.dwarf_entries.proofs
-use proofs.{◌≡◌, ◌⊎◌, ℕ, ◌+◌, ◌<◌, List, [], ◌∷◌, ◌++◌, length, map, get_or, refl, sym, ◌∙◌, arith}
-use proofs.{append-nil, ap, inl, Some, Ok, Err, zip, slice_get, Result, map_push, slice_get-get_or}
-use proofs.{same_Some, slice_get_within, LoadFault, in_section, each-length, same-ok, Declaration}
-use proofs.{UnitHeader, tables_of, Die, in_section-ok, UnitEntries, EntryBitmap, AddsOffsets}
-use proofs.{offsets_of, stored_of, CompilationUnit, stored_unit_of, all_offsets, ◌>>=◌, DebugAbbrev}
-use proofs.{DebugInfo, At, memory_fault, declarations_of, declarations_limit, entries_of, table_is}
-use proofs.{stored_unit, dies_of, all_entries, table_for, stored_entries, flat_map-append}
-use proofs.{length-zip, get_or-zip, adds-none, adds-more, no_bases, Faults, after-done, pass-none}
-use proofs.{pass-next, pass-end, pass-fault, done, exit}
+use proofs.{bind_ok, ◌≡◌, ◌⊎◌, ℕ, ◌+◌, ◌<◌, List, [], ◌∷◌, ◌++◌, length, map, get_or, refl, sym}
+use proofs.{◌∙◌, arith, append-nil, inl, Some, Ok, Err, zip, slice_get, Result, map_push}
+use proofs.{slice_get-get_or, same_Some, slice_get_within, LoadFault, in_section, each-length}
+use proofs.{same-ok, Declaration, UnitHeader, tables_of, Die, in_section-ok, UnitEntries}
+use proofs.{EntryBitmap, AddsOffsets, offsets_of, stored_of, CompilationUnit, stored_unit_of}
+use proofs.{all_offsets, DebugAbbrev, DebugInfo, At, memory_fault, declarations_of}
+use proofs.{declarations_limit, entries_of, table_is, stored_unit, dies_of, all_entries, table_for}
+use proofs.{stored_entries, flat_map-append, length-zip, get_or-zip, adds-none, adds-more, no_bases}
+use proofs.{Faults, pass-none, pass-next, pass-end, pass-fault, exit}
 use Rattle.dwarf_entries.proofs.passes.all_entries.Invariants.{EntriesSoFar}
 use Rattle.dwarf_entries.proofs.passes.all_entries.Goals as goal
 
@@ -46,8 +46,8 @@ module _ {info : List ℕ} {headers : List UnitHeader} {tables : List (List Decl
       → EntriesSoFar info headers tables bitmap after (index + 1) (stored ++ unit ∷ [])
   entries-next after unit unit_read adds =
       let made = so_far.made in
-      let found = after-done (entries_of info header table) (stored_unit header)
-      (stored_of unit) unit_read in
+      let found = bind_ok (entries_of info header table) _ (stored_of unit)
+      (in_section-ok DebugInfo (stored_entries info header table) (stored_of unit) unit_read) in
       let u : CompilationUnit = record { header = header; dies = found.0; bases = no_bases } in
       let offsets : all_offsets made ++ offsets_of found.0 ≡ all_offsets (made ++ u ∷ []) = rw (
         map_push dies_of made u,
@@ -56,14 +56,12 @@ module _ {info : List ℕ} {headers : List UnitHeader} {tables : List (List Decl
       ) refl in
       record {
         made = made ++ u ∷ [];
-        passed = pass-next so_far.passed (header, table) u there
-            (ap (λ (r : Result (List Die) At). r >>= λ dies. done {Y = CompilationUnit}
-            (record { header = header; dies = dies; bases = no_bases })) found.1);
+        passed = pass-next so_far.passed (header, table) u there (grind (arith, found.1));
         stored_are = rw (
           map_push stored_of stored unit,
           map_push stored_unit_of made u,
           so_far.stored_are,
-          found.2,
+          same-ok (stored_unit header found.0) (stored_of unit) found.2,
         ) refl;
         marked_so = rw (← offsets) (adds-more bitmap marked after (all_offsets made)
             (offsets_of found.0) so_far.marked_so (adds found.0 found.1));

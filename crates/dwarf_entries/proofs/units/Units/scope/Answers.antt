@@ -4,7 +4,7 @@ use proofs.{slice_get, get_or_from_slice_get, slice_get-map, Cause, ◌>>=◌, S
 use proofs.{Bases, EntryNames, Range, CompilationUnit, names_of, ParsedScope, ScopeSite, scope_at}
 use proofs.{roots_from, IsMember, bases_of, ObjectUnits, ScopeEntry, ScopeNumbers, scope_of_site}
 use proofs.{IsScopeSite, AddsFacts, scope_facts, covers_by, covers_of, AddsRanges, budget-left}
-use proofs.{first-fails, exit, seen}
+use proofs.{step-fault, exit, seen}
 use Rattle.dwarf_entries.proofs.units.Units.scope.Goals as goal
 
 -- The bases of a unit.
@@ -36,7 +36,7 @@ module _ (s : Sections) {us : List CompilationUnit} {before : List ParsedScope} 
         (covers_by budget s bases entry.low_pc entry.high_pc entry.ranges)
         → AddsFacts (roots_from 0 us) (r >>= λ items. Ok (scope_facts numbers entry names, items))
         old new (scope_at s us before p)
-    scope-adds (Err cause) old new bad = rw after-names (first-fails
+    scope-adds (Err cause) old new bad = rw after-names (step-fault
         (covers_by budget s bases entry.low_pc entry.high_pc entry.ranges) _ bad)
     scope-adds (Ok items) old new (found, read, grown) =
         let ending : numbers.number + numbers.inside + 1 ≡ length before + 1 + p.inside =
