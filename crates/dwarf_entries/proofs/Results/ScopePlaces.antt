@@ -32,7 +32,7 @@ pub before-later : {us : List CompilationUnit} {n : ℕ} {p : ScopeSite} (at : I
     → (n < first_number us j) × (n + 1 + p.inside ≤ first_number us j)
 before-later {us} {n} {p} at j lt =
     let dies : List Die = p.member.unit.dies in
-    let k : ℕ = at.is.index in
+    let k : ℕ = at.index in
     let here = get_or_from_slice_get dies k p.member.die p.member.die at.is.there in
     let more = count_by_more_yes is_scope dies k p.member.die
     (slice_get_within dies k p.member.die at.is.there)
@@ -58,9 +58,9 @@ before-later {us} {n} {p} at j lt =
 -- A site of the same unit as another: its entry, its number, and the number of scopes below it.
 pub in-unit-of : {us : List CompilationUnit} {n m : ℕ} {p q : ScopeSite} (a : IsSiteAt us n p)
     (b : IsSiteAt us m q) → a.unit ≡ b.unit → let dies : List Die = p.member.unit.dies in
-    (slice_get dies b.is.index ≡ Some q.member.die)
-    × (m ≡ first_number us a.unit + count_by is_scope (take b.is.index dies))
-    × (q.inside ≡ count_by is_scope (below q.member.die (drop (b.is.index + 1) dies)))
+    (slice_get dies b.index ≡ Some q.member.die)
+    × (m ≡ first_number us a.unit + count_by is_scope (take b.index dies))
+    × (q.inside ≡ count_by is_scope (below q.member.die (drop (b.index + 1) dies)))
 in-unit-of {us} {n} {m} {p} {q} a b e =
     let same : p.member.unit ≡ q.member.unit = grind (arith, a.unit_is, b.unit_is) in
     rw (same, ap (first_number us) e) (
@@ -75,13 +75,13 @@ in-unit-of {us} {n} {m} {p} {q} a b e =
 -- and end.
 pub sites-below : {us : List CompilationUnit} {n m : ℕ} {p q : ScopeSite} (a : IsSiteAt us n p)
     (b : IsSiteAt us m q)
-    → ((a.unit ≡ b.unit) × IsBelow p.member.unit.dies b.is.index a.is.index)
+    → ((a.unit ≡ b.unit) × IsBelow p.member.unit.dies b.index a.index)
     ↔ ((n < m) × (m < n + 1 + p.inside))
 sites-below {us} {n} {m} {p} {q} a b =
     let past = before-later a b.unit in
     let before = before-later b a.unit in
     let there = in-unit-of a b in
-    let between = λ (e : a.unit ≡ b.unit). scopes-between p.member.unit.dies a.is.index b.is.index
+    let between = λ (e : a.unit ≡ b.unit). scopes-between p.member.unit.dies a.index b.index
     p.member.die q.member.die a.is.there (there e).0 (ap is_some a.is.kind_is)
     (ap is_some b.is.kind_is) in
     let place = a.is.number_is in
@@ -95,9 +95,9 @@ sites-below {us} {n} {m} {p} {q} a b =
 -- A scope with a lower number is in an earlier unit, or earlier in the same unit.
 pub site-order : {us : List CompilationUnit} {n m : ℕ} {p q : ScopeSite} (a : IsSiteAt us n p)
     (b : IsSiteAt us m q) → n < m
-    → (a.unit < b.unit) ⊎ ((p.member.unit ≡ q.member.unit) × (a.is.index < b.is.index))
+    → (a.unit < b.unit) ⊎ ((p.member.unit ≡ q.member.unit) × (a.index < b.index))
 site-order {us} {n} {m} {p} {q} a b less =
-    let counts = counted-rises is_scope p.member.unit.dies b.is.index a.is.index in
+    let counts = counted-rises is_scope p.member.unit.dies b.index a.index in
     let past = before-later b a.unit in
     grind (
       arith,
@@ -134,7 +134,7 @@ pub site-within : {s : Sections} {us : List CompilationUnit} {n : ℕ} {p : Scop
     → (p.member.unit.header.start ≤ p.member.die.offset)
     × (p.member.die.offset < p.member.unit.header.end)
 site-within {p = p} are a =
-    rise-at p.member.unit.header.start p.member.unit.header.end p.member.unit.dies a.is.index
+    rise-at p.member.unit.header.start p.member.unit.header.end p.member.unit.dies a.index
     p.member.die (dies-rise (are.each_is a.unit p.member.unit a.unit_is)) a.is.there
 
 pub sites-rise : {s : Sections} {us : List CompilationUnit} {n m : ℕ} {p q : ScopeSite}
@@ -142,7 +142,7 @@ pub sites-rise : {s : Sections} {us : List CompilationUnit} {n m : ℕ} {p q : S
     → p.member.die.offset < q.member.die.offset
 sites-rise {us = us} {p = p} {q = q} are a b less =
     let rise = rise-order q.member.unit.header.start q.member.unit.header.end q.member.unit.dies
-    a.is.index b.is.index p.member.die q.member.die
+    a.index b.index p.member.die q.member.die
     (dies-rise (are.each_is b.unit q.member.unit b.unit_is)) in
     grind (
       arith,
@@ -185,7 +185,7 @@ sites-nest : {us : List CompilationUnit} {n m : ℕ} {p q : ScopeSite} (a : IsSi
 sites-nest {p = p} {q = q} a b lt within =
     let under = (sites-below a b).1 (lt, within) in
     let there = in-unit-of a b under.0 in
-    let ends = ends-within p.member.unit.dies a.is.index b.is.index p.member.die q.member.die
+    let ends = ends-within p.member.unit.dies a.index b.index p.member.die q.member.die
     a.is.there there.0 (ap is_some a.is.kind_is) (ap is_some b.is.kind_is) under.1 in
     omega (
       arith,

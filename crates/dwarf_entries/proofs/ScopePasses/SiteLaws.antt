@@ -25,52 +25,37 @@ site_at u die rest kind = record {
   inside = count_by is_scope (below die rest);
 }
 
--- The site with a number is a scope among the entries of its unit.
-pub record IsSiteIn (u : CompilationUnit) (dies : List Die) (n : ℕ) (p : ScopeSite) : Type 0 where
-  pub unit_is : p.member.unit ≡ u
-  pub kind_is : kind_of p.member.die.tag ≡ Some p.kind
-  pub index : ℕ
-  pub there : slice_get dies index ≡ Some p.member.die
-  pub number_is : n ≡ count_by is_scope (take index dies)
-  pub inside_is : p.inside ≡ count_by is_scope (below p.member.die (drop (index + 1) dies))
+-- The site with a number is a scope among the entries of its unit, at an index.
+pub record IsSiteIn (u : CompilationUnit) (dies : List Die) (n index : ℕ) (p : ScopeSite) : Type 0
+  where
+    pub unit_is : p.member.unit ≡ u
+    pub kind_is : kind_of p.member.die.tag ≡ Some p.kind
+    pub there : slice_get dies index ≡ Some p.member.die
+    pub number_is : n ≡ count_by is_scope (take index dies)
+    pub inside_is : p.inside ≡ count_by is_scope (below p.member.die (drop (index + 1) dies))
 
 -- The index of the scope with a number.
-abbrev index_of : List Die → ℕ → ℕ
+abbrev pub index_of : List Die → ℕ → ℕ
 index_of [] n = 0
 index_of (die ∷ dies) zero = cond (is_scope die) 0 (suc (index_of dies zero))
 index_of (die ∷ dies) (suc n) = suc (index_of dies (cond (is_scope die) n (suc n)))
 
-site-facts : (u : CompilationUnit) (dies : List Die) (n : ℕ) (p : ScopeSite)
-    → slice_get (sites_in u dies) n ≡ Some p
-    → (p.member.unit ≡ u) × (kind_of p.member.die.tag ≡ Some p.kind)
-    × (slice_get dies (index_of dies n) ≡ Some p.member.die)
-    × (n ≡ count_by is_scope (take (index_of dies n) dies))
-    × (p.inside ≡ count_by is_scope (below p.member.die (drop (suc (index_of dies n)) dies)))
-site-facts u [] n p h = cc
-site-facts u (die ∷ rest) zero p h =
-    let later = site-facts u rest zero p in
+pub site-in : (u : CompilationUnit) (dies : List Die) (n : ℕ) (p : ScopeSite)
+    → slice_get (sites_in u dies) n ≡ Some p → IsSiteIn u dies n (index_of dies n) p
+site-in u [] n p h = cc
+site-in u (die ∷ rest) zero p h =
+    let later = site-in u rest zero p in
     let sum = sum_by-cons (λ x. cond (is_scope x) 1 0) die (take (index_of rest zero) rest) in
+    let next : suc (index_of rest zero) + 1 ≡ suc (index_of rest zero + 1) = omega arith in
     grind arith
-site-facts u (die ∷ rest) (suc n) p h =
-    let later = site-facts u rest n p in
-    let same = site-facts u rest (suc n) p in
+site-in u (die ∷ rest) (suc n) p h =
+    let later = site-in u rest n p in
+    let same = site-in u rest (suc n) p in
     let sum = sum_by-cons (λ x. cond (is_scope x) 1 0) die (take (index_of rest n) rest) in
     let all = sum_by-cons (λ x. cond (is_scope x) 1 0) die (take (index_of rest (suc n)) rest) in
+    let one : suc (index_of rest n) + 1 ≡ suc (index_of rest n + 1) = omega arith in
+    let next : suc (index_of rest (suc n)) + 1 ≡ suc (index_of rest (suc n) + 1) = omega arith in
     grind arith
-
-pub site-in : (u : CompilationUnit) (dies : List Die) (n : ℕ) (p : ScopeSite)
-    → slice_get (sites_in u dies) n ≡ Some p → IsSiteIn u dies n p
-site-in u dies n p h =
-    let facts = site-facts u dies n p h in
-    let one : suc (index_of dies n) ≡ index_of dies n + 1 = omega arith in
-    record {
-      unit_is = facts.0;
-      kind_is = facts.1;
-      index = index_of dies n;
-      there = facts.2;
-      number_is = facts.3;
-      inside_is = rw one at facts.4;
-    }
 
 -- The site of the first entry, if it has one, is passed over.
 skipped : (u : CompilationUnit) (d : Die) (rest : List Die) (found : Option ScopeKind)
@@ -134,12 +119,12 @@ pub all-sites-at : (us : List CompilationUnit) (i m n : ℕ) (u : CompilationUni
 all-sites-at [] i m n u p found here is = cc
 all-sites-at (v ∷ us) zero m n u p found here is =
     let none : first_number (v ∷ us) zero ≡ 0 = refl in
-    at-left (sites_in v v.dies) (all_sites us) n p (grind arith)
+    grind (arith, at-left (sites_in v v.dies) (all_sites us) n p)
 all-sites-at (v ∷ us) (suc i) m n u p found here is =
     let sum = sum_by-cons (λ (w : CompilationUnit). count_by is_scope w.dies) v (take i us) in
+    let rest = all-sites-at us i m (first_number us i + m) u p found here refl in
     at-right (sites_in v v.dies) (all_sites us) n (first_number us i + m)
-    (omega (arith, is, sum, sites-count v v.dies))
-    ∙ all-sites-at us i m (first_number us i + m) u p found here refl
+    (omega (arith, is, sum, sites-count v v.dies)) ∙ rest
 
 -- A site belongs to the entry at an index of the unit at an index.
 pub record IsSiteAt (us : List CompilationUnit) (n : ℕ) (p : ScopeSite) : Type 0 where
@@ -147,7 +132,8 @@ pub record IsSiteAt (us : List CompilationUnit) (n : ℕ) (p : ScopeSite) : Type
   pub unit_is : slice_get us unit ≡ Some p.member.unit
   pub number : ℕ
   pub number_is : n ≡ first_number us unit + number
-  pub is : IsSiteIn p.member.unit p.member.unit.dies number p
+  pub index : ℕ
+  pub is : IsSiteIn p.member.unit p.member.unit.dies number index p
 
 pub site-at : (us : List CompilationUnit) (n : ℕ) (p : ScopeSite) → slice_get (all_sites us) n
     ≡ Some p → IsSiteAt us n p
@@ -163,6 +149,7 @@ site-at (u ∷ us) n p h = elim (cases_lt n (length (sites_in u u.dies))) [
         unit_is = rw is.unit_is refl;
         number = n;
         number_is = omega (arith, none);
+        index = index_of p.member.unit.dies n;
         is = rw (← is.unit_is) at is;
       })
   | inr ge ↦ (
@@ -176,6 +163,7 @@ site-at (u ∷ us) n p h = elim (cases_lt n (length (sites_in u u.dies))) [
         unit_is = at.unit_is;
         number = at.number;
         number_is = omega (arith, ge, at.number_is, sum, sites-count u u.dies);
+        index = at.index;
         is = at.is;
       })
 ]

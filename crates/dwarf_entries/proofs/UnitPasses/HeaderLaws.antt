@@ -24,17 +24,14 @@ pub record HasBounds (size : ℕ) (header : UnitHeader) : Type 0 where
 unit_at-bounds : (info : List ℕ) (at : ℕ) (header : UnitHeader) → unit_at info at ≡ Ok header
     → (header.start ≡ at) × HasBounds (length info) header
 unfolding unit_at
-unit_at-bounds info at header h =
-    let parts : (header.start ≡ at) × (header.start ≤ header.first) × (header.first ≤ header.end)
-    × (header.end ≤ length info) = grind (
-      arith,
-      initial_length_at-moves info at,
-      header_in-places,
-      header_in-first,
-      unit_at-moves info at,
-      length-take,
-    ) in
-    (parts.0, record { first = parts.1; last = parts.2; within = parts.3 })
+unit_at-bounds info at header h = grind (
+  arith,
+  initial_length_at-moves info at,
+  header_in-places,
+  header_in-first,
+  unit_at-moves info at,
+  length-take,
+)
 
 -- ---- contiguous units
 

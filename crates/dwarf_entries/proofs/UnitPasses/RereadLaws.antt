@@ -109,5 +109,5 @@ site-read s us n i u p k x are same is found here =
     rw place (
       refl,
       read,
-      scope-there s k.header u.dies at.index p.member.die read at.there p.kind at.kind_is,
+      scope-there s k.header u.dies _ p.member.die read at.there p.kind at.kind_is,
     )

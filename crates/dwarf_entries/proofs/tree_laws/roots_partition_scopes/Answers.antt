@@ -87,7 +87,7 @@ of-unit s us n scope root are x r from until =
     let same : x.site.member.unit ≡ r.of = grind (arith, x.place.unit_is, r.of_is) in
     let last = (before-later x.place (r.unit + 1) (omega (arith, e))).1 in
     let there = rw same at x.place.is.there in
-    let rise = rise-order r.of.header.start r.of.header.end r.of.dies 0 x.place.is.index r.die
+    let rise = rise-order r.of.header.start r.of.header.end r.of.dies 0 x.place.index r.die
     x.site.member.die (dies-rise (are.each_is r.unit r.of r.of_is)) r.die_is there in
     record {
       stmt_list_is = rw (x.stmt_list_is, r.root_is.1, same) refl;

@@ -18,7 +18,7 @@ returns-clause-entries c s tree us scope h us_are inside =
     let j = contained (scopes_in t.parsed) scope (rw (← is) at inside) in
     let at = scope-at s us t.parsed t.parsed_are j.0 scope j.1 in (
       at.place.unit,
-      at.place.is.index,
+      at.place.index,
       record {
         of = at.site.member.unit;
         of_is = at.place.unit_is;
