@@ -54,9 +54,6 @@ operand-moves sections bases Number lists at x h = uleb-moves lists at x h
 abbrev pub EntryHolds : RangeListEntry → Type 0
 EntryHolds entry = AllHold (ranges_in entry) × (length (ranges_in entry) ≤ 1)
 
-covers-holds : (range : Option Range) → MayHold range → EntryHolds (Covers range)
-covers-holds range h = (h, grind arith)
-
 entry_at-facts : (sections : Sections) (bases : Bases) (base : Option ℕ) (operands : Operands)
     (lists : List ℕ) (at : ℕ) (x : RangeListEntry × ℕ)
     → entry_at sections bases base operands lists at ≡ Ok x
