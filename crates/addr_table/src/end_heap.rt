@@ -43,6 +43,7 @@ impl EndHeap {
 
     /// Adds an end.
     // Not inlined: few ends are in the heap, and the loops that call it need the registers.
+    #[cold]
     #[inline(never)]
     pub(crate) fn push(&mut self, end: End) -> Result<(), AllocError>
         requires { end.key < 2 ^ 32 }
@@ -64,6 +65,7 @@ impl EndHeap {
 
     /// Takes an end at or before `end`, if there is one, and returns its key.
     // Not inlined: see `push`.
+    #[cold]
     #[inline(never)]
     pub(crate) fn take_up_to(&mut self, end: u64) -> Option<usize>
         ensures { MatchOption result
