@@ -55,60 +55,6 @@ before-later {us} {n} {p} at j lt =
       ),
     )
 
--- A site of the same unit as another: its entry, its number, and the number of scopes below it.
-pub in-unit-of : {us : List CompilationUnit} {n m : ℕ} {p q : ScopeSite} (a : IsSiteAt us n p)
-    (b : IsSiteAt us m q) → a.unit ≡ b.unit → let dies : List Die = p.member.unit.dies in
-    (slice_get dies b.index ≡ Some q.member.die)
-    × (m ≡ first_number us a.unit + count_by is_scope (take b.index dies))
-    × (q.inside ≡ count_by is_scope (below q.member.die (drop (b.index + 1) dies)))
-in-unit-of {us} {n} {m} {p} {q} a b e =
-    let same : p.member.unit ≡ q.member.unit = grind (arith, a.unit_is, b.unit_is) in
-    rw (same, ap (first_number us) e) (
-      b.is.there,
-      omega (arith, b.number_is, b.is.number_is),
-      b.is.inside_is,
-    )
-
--- ---- the sites below another
-
--- A site is below another in the same unit if and only if its number is between the other's number
--- and end.
-pub sites-below : {us : List CompilationUnit} {n m : ℕ} {p q : ScopeSite} (a : IsSiteAt us n p)
-    (b : IsSiteAt us m q)
-    → ((a.unit ≡ b.unit) × IsBelow p.member.unit.dies b.index a.index)
-    ↔ ((n < m) × (m < n + 1 + p.inside))
-sites-below {us} {n} {m} {p} {q} a b =
-    let past = before-later a b.unit in
-    let before = before-later b a.unit in
-    let there = in-unit-of a b in
-    let between = λ (e : a.unit ≡ b.unit). scopes-between p.member.unit.dies a.index b.index
-    p.member.die q.member.die a.is.there (there e).0 (ap is_some a.is.kind_is)
-    (ap is_some b.is.kind_is) in
-    let place = a.is.number_is in
-    let inside = a.is.inside_is in (
-      λ below. let numbers = (between below.0).0 below.1 in
-          omega (arith, a.number_is, place, inside, (there below.0).1, numbers.0, numbers.1),
-      λ numbers. let e : a.unit ≡ b.unit = grind (arith, a.number_is, b.number_is) in
-          (e, (between e).1 (grind (arith, a.number_is, place, inside, (there e).1))),
-    )
-
--- A scope with a lower number is in an earlier unit, or earlier in the same unit.
-pub site-order : {us : List CompilationUnit} {n m : ℕ} {p q : ScopeSite} (a : IsSiteAt us n p)
-    (b : IsSiteAt us m q) → n < m
-    → (a.unit < b.unit) ⊎ ((p.member.unit ≡ q.member.unit) × (a.index < b.index))
-site-order {us} {n} {m} {p} {q} a b less =
-    let counts = counted-rises is_scope p.member.unit.dies b.index a.index in
-    let past = before-later b a.unit in
-    grind (
-      arith,
-      a.unit_is,
-      b.unit_is,
-      a.number_is,
-      a.is.number_is,
-      b.number_is,
-      b.is.number_is,
-    )
-
 -- ---- the order of offsets
 
 pub rise-at : (from end : ℕ) (dies : List Die) (k : ℕ) (d : Die) → RiseWithin from end dies
@@ -128,7 +74,7 @@ rise-order from end (x ∷ dies) zero (suc j) d e rise d_is e_is lt =
 rise-order from end (x ∷ dies) (suc i) (suc j) d e rise d_is e_is lt =
     rise-order (suc x.offset) end dies i j d e rise.1 d_is e_is (omega (arith, lt))
 
--- A site is within its unit, and the offsets of sites are strictly increasing.
+-- A site is within its unit.
 pub site-within : {s : Sections} {us : List CompilationUnit} {n : ℕ} {p : ScopeSite}
     → AreUnitsIn s us → (a : IsSiteAt us n p)
     → (p.member.unit.header.start ≤ p.member.die.offset)
@@ -137,23 +83,59 @@ site-within {p = p} are a =
     rise-at p.member.unit.header.start p.member.unit.header.end p.member.unit.dies a.index
     p.member.die (dies-rise (are.each_is a.unit p.member.unit a.unit_is)) a.is.there
 
-pub sites-rise : {s : Sections} {us : List CompilationUnit} {n m : ℕ} {p q : ScopeSite}
-    → AreUnitsIn s us → (a : IsSiteAt us n p) (b : IsSiteAt us m q) → n < m
-    → p.member.die.offset < q.member.die.offset
-sites-rise {us = us} {p = p} {q = q} are a b less =
-    let rise = rise-order q.member.unit.header.start q.member.unit.header.end q.member.unit.dies
-    a.index b.index p.member.die q.member.die
-    (dies-rise (are.each_is b.unit q.member.unit b.unit_is)) in
-    grind (
-      arith,
-      site-order a b less,
-      site-within are a,
-      site-within are b,
-      are.apart a.unit b.unit p.member.unit q.member.unit a.unit_is b.unit_is,
-      rise,
-      a.is.there,
-      b.is.there,
-    )
+-- ---- two sites
+
+module _ {us : List CompilationUnit} {n m : ℕ} {p q : ScopeSite} (a : IsSiteAt us n p)
+    (b : IsSiteAt us m q) where
+  -- A site of the same unit as another: its entry, its number, and the number of scopes below it.
+  pub in-unit-of : a.unit ≡ b.unit → let dies : List Die = p.member.unit.dies in
+      (slice_get dies b.index ≡ Some q.member.die)
+      × (m ≡ first_number us a.unit + count_by is_scope (take b.index dies))
+      × (q.inside ≡ count_by is_scope (below q.member.die (drop (b.index + 1) dies)))
+  in-unit-of e =
+      let same : p.member.unit ≡ q.member.unit = grind (arith, a.unit_is, b.unit_is) in
+      rw (same, ap (first_number us) e)
+      (b.is.there, omega (arith, b.number_is, b.is.number_is), b.is.inside_is)
+
+  -- A site is below another in the same unit if and only if its number is between the other's
+  -- number and end.
+  pub sites-below : ((a.unit ≡ b.unit) × IsBelow p.member.unit.dies b.index a.index)
+      ↔ ((n < m) × (m < n + 1 + p.inside))
+  sites-below =
+      let past = before-later a b.unit in
+      let before = before-later b a.unit in
+      let between = λ (e : a.unit ≡ b.unit). scopes-between p.member.unit.dies a.index b.index
+      p.member.die q.member.die a.is.there (in-unit-of e).0 (ap is_some a.is.kind_is)
+      (ap is_some b.is.kind_is) in
+      let place = a.is.number_is in
+      let inside = a.is.inside_is in (
+        λ below. let numbers = (between below.0).0 below.1 in
+            omega (arith, a.number_is, place, inside, (in-unit-of below.0).1, numbers.0, numbers.1),
+        λ numbers. let e : a.unit ≡ b.unit = grind (arith, a.number_is, b.number_is) in
+            (e, (between e).1 (grind (arith, a.number_is, place, inside, (in-unit-of e).1))),
+      )
+
+  -- A scope with a lower number is in an earlier unit, or earlier in the same unit.
+  pub site-order : n < m
+      → (a.unit < b.unit) ⊎ ((p.member.unit ≡ q.member.unit) × (a.index < b.index))
+  site-order less =
+      let counts = counted-rises is_scope p.member.unit.dies b.index a.index in
+      let past = before-later b a.unit in
+      let place = a.number_is in
+      let other = b.number_is in
+      grind (arith, a.unit_is, b.unit_is, a.is.number_is, b.is.number_is)
+
+  -- The offsets of sites are strictly increasing.
+  pub sites-rise : {s : Sections} → AreUnitsIn s us → n < m → p.member.die.offset < q.member.die.offset
+  sites-rise are less =
+      let rise = rise-order q.member.unit.header.start q.member.unit.header.end q.member.unit.dies
+      a.index b.index p.member.die q.member.die
+      (dies-rise (are.each_is b.unit q.member.unit b.unit_is)) in
+      let order = site-order less in
+      let first = site-within are a in
+      let second = site-within are b in
+      let apart = are.apart a.unit b.unit p.member.unit q.member.unit a.unit_is b.unit_is in
+      grind (arith, a.is.there, b.is.there)
 
 -- ---- the order of scopes
 

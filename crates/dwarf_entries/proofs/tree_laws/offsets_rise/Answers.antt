@@ -28,7 +28,7 @@ returns-clause-scopes c s tree h =
       increasing (λ (scope : Scope). scope.offset) scopes (λ i j x y x_is y_is lt.
           let first = at i x x_is in
           let second = at j y y_is in
-          let less = sites-rise are first.place second.place lt in
+          let less = sites-rise first.place second.place are lt in
           omega (arith, less, first.offset_is, second.offset_is)),
       All-map (λ (offset : ℕ). offset < length s.debug_info) (λ (scope : Scope). scope.offset)
           scopes (λ k d lt.
