@@ -1,10 +1,9 @@
 -- The entries below an entry, by indexes and by the number of scopes before them.
 use Rattle.dwarf_entries.proofs.Common
-use Common.{◌≡◌, ◌↔◌, ℕ, ◌+◌, ◌-◌, ◌<◌, ◌≤◌, List, Bool, true, Some, length, take, drop, get_or, ap}
-use Common.{sym, ◌∙◌, subst, arith, nat_lt, count_by, slice_get, get_or_from_slice_get}
-use Common.{slice_get_within, Die, below, IsBelow, is_scope, prefix_len, count_by_more_yes}
-use Common.{length-drop, sum_by-append, prefix_len_passes, prefix_len_stops, prefix_len-le-length}
-use Common.{get_or-drop, take-add}
+use Common.{◌≡◌, ◌↔◌, ℕ, ◌+◌, ◌-◌, ◌<◌, ◌≤◌, List, Bool, true, Some, take, drop, ap, ◌∙◌, arith}
+use Common.{nat_lt, count_by, slice_get, get_or_from_slice_get, slice_get_within, Die, below}
+use Common.{IsBelow, is_scope, prefix_len, count_by_more_yes, length-drop, sum_by-append}
+use Common.{prefix_len_passes, prefix_len_stops, prefix_len-le-length, get_or-drop, take-add}
 
 module _ {X : Type 0} (p : X → Bool) (xs : List X) where
   -- The number of elements before an index that pass the test.
@@ -22,10 +21,15 @@ module _ {X : Type 0} (p : X → Bool) (xs : List X) where
       omega (arith, rw parts at sum)
 
   -- An element that passes is counted after its index, and not before.
-  counted-before : (place : ℕ) (d : X) → place < length xs → p (get_or xs place d) ≡ true
-      → (end : ℕ) → (counted place < counted end) ↔ (place < end)
-  counted-before place d within passes end =
-      let more = count_by_more_yes p xs place d within passes in (
+  pub counted-one : (place : ℕ) (d : X) → slice_get xs place ≡ Some d → p d ≡ true
+      → counted (place + 1) ≡ counted place + 1
+  counted-one place d is passes = count_by_more_yes p xs place d (slice_get_within xs place d is)
+      (ap p (get_or_from_slice_get xs place d d is) ∙ passes)
+
+  counted-before : (place : ℕ) (d : X) → slice_get xs place ≡ Some d → p d ≡ true → (end : ℕ)
+      → (counted place < counted end) ↔ (place < end)
+  counted-before place d is passes end =
+      let more = counted-one place d is passes in (
         λ lt. grind (arith, counted-rises end place),
         λ lt. grind (arith, counted-rises (place + 1) end),
       )
@@ -69,23 +73,17 @@ to-below dies i j outer is before within =
 abbrev number : List Die → ℕ → ℕ
 number dies place = count_by is_scope (take place dies)
 
--- An index of an entry is within the list.
-place-of-entry : (dies : List Die) (i : ℕ) (die : Die) → slice_get dies i ≡ Some die
-    → (i < length dies) × (get_or dies i die ≡ die)
-place-of-entry dies i die is =
-    (slice_get_within dies i die is, get_or_from_slice_get dies i die die is)
-
 -- The end of a scope, computed by counting the scopes below it, is the number of scopes before the
 -- index after those entries.
 ends-are : (dies : List Die) (i : ℕ) (outer : Die) → slice_get dies i ≡ Some outer
     → is_scope outer ≡ true → number dies i + 1 + count_by is_scope
     (below outer (drop (i + 1) dies)) ≡ number dies (past_below dies i outer)
-ends-are dies i outer is scope =
-    let here = place-of-entry dies i outer is in
-    let more = count_by_more_yes is_scope dies i outer here.0 (ap is_scope here.1 ∙ scope) in
-    let sum = counted-add is_scope dies (i + 1)
-    (prefix_len (λ d. nat_lt outer.depth d.depth) (drop (i + 1) dies)) in
-    omega (arith, more, sum)
+ends-are dies i outer is scope = omega (
+  arith,
+  counted-one is_scope dies i outer is scope,
+  counted-add is_scope dies (i + 1)
+      (prefix_len (λ d. nat_lt outer.depth d.depth) (drop (i + 1) dies)),
+)
 
 pub scopes-between : (dies : List Die) (i j : ℕ) (outer inner : Die) → slice_get dies i ≡ Some outer
     → slice_get dies j ≡ Some inner → is_scope outer ≡ true → is_scope inner ≡ true
@@ -93,16 +91,12 @@ pub scopes-between : (dies : List Die) (i j : ℕ) (outer inner : Die) → slice
     × (count_by is_scope (take j dies) < count_by is_scope (take i dies) + 1 + count_by is_scope
     (below outer (drop (i + 1) dies))))
 scopes-between dies i j outer inner outer_is inner_is outer_scope inner_scope =
-    let at_i = place-of-entry dies i outer outer_is in
-    let at_j = place-of-entry dies j inner inner_is in
-    let first = counted-before is_scope dies i outer at_i.0 (ap is_scope at_i.1 ∙ outer_scope) j in
-    let last = counted-before is_scope dies j inner at_j.0 (ap is_scope at_j.1 ∙ inner_scope)
-    (past_below dies i outer) in
+    let first = counted-before is_scope dies i outer outer_is outer_scope j in
+    let last = counted-before is_scope dies j inner inner_is inner_scope (past_below dies i outer) in
     let end = ends-are dies i outer outer_is outer_scope in (
       λ h. let places = from-below dies i j outer outer_is h in
-          (first.1 places.0, subst (λ (n : ℕ). number dies j < n) (sym end) (last.1 places.1)),
-      λ h. to-below dies i j outer outer_is (first.0 h.0)
-          (last.0 (subst (λ (n : ℕ). number dies j < n) end h.1)),
+          (first.1 places.0, rw end (last.1 places.1)),
+      λ h. to-below dies i j outer outer_is (first.0 h.0) (last.0 (rw end at h.1)),
     )
 
 -- ---- the end of a scope below another

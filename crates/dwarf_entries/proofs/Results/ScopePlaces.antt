@@ -1,15 +1,15 @@
 -- The order of scope sites, of their entries, and of the scopes of an object: the number of each is
 -- its index, and a scope that starts inside another one also ends inside it.
 use Rattle.dwarf_entries.proofs.Common
-use Common.{◌≡◌, ◌⊎◌, ℕ, zero, suc, ◌+◌, ◌<◌, ◌≤◌, cond, List, [], ◌∷◌, take, drop, ap, ◌∙◌, arith}
-use Common.{◌↔◌, Some, slice_get, is_some, count_by, nat_lt, get_or_from_slice_get}
-use Common.{slice_get_within, Die, below, IsBelow, RiseWithin, is_scope, Sections, CompilationUnit}
-use Common.{ScopeSite, first_number, prefix_len, sum_by-take-le, count_by_more_yes, common_steps}
-use Common.{length, get_or, refl, Ok, length-map, slice_get-get_or, each-length, Scope, ParsedScope}
-use Common.{Tree, tree_of, parse_scope, all_sites, AreNumbered, AreInOrder, sum_by-take-drop}
-use Common.{take-take, recursion_from_All, AreNested}
+use Common.{◌≡◌, ◌⊎◌, ℕ, zero, suc, ◌+◌, ◌<◌, ◌≤◌, cond, List, [], ◌∷◌, take, drop, ap, arith, ◌↔◌}
+use Common.{Some, slice_get, is_some, count_by, nat_lt, slice_get_within, Die, below, IsBelow}
+use Common.{RiseWithin, is_scope, Sections, CompilationUnit, ScopeSite, first_number, prefix_len}
+use Common.{sum_by-take-le, common_steps, length, get_or, refl, Ok, length-map, slice_get-get_or}
+use Common.{each-length, Scope, ParsedScope, Tree, tree_of, parse_scope, all_sites, AreNumbered}
+use Common.{AreInOrder, sum_by-take-drop, take-take, recursion_from_All, AreNested}
+use Rattle.dwarf_entries.proofs.Results.BelowLaws.{counted-one, counted-rises, scopes-between}
+use Rattle.dwarf_entries.proofs.Results.BelowLaws.{ends-within}
 use Rattle.dwarf_entries.proofs.OriginChains.ReferenceLaws.{within-le}
-use Rattle.dwarf_entries.proofs.Results.BelowLaws.{counted-rises, scopes-between, ends-within}
 use Rattle.dwarf_entries.proofs.ScopePasses.SiteLaws.{IsSiteAt, first-next, first-all}
 use Rattle.dwarf_entries.proofs.UnitPasses.UnitLaws.{AreUnitsIn, dies-rise}
 use Rattle.dwarf_entries.proofs.Results.TreeParts.{tree-parts, scope-at, scopes_in}
@@ -32,27 +32,17 @@ pub before-later : {us : List CompilationUnit} {n : ℕ} {p : ScopeSite} (at : I
     → (n < first_number us j) × (n + 1 + p.inside ≤ first_number us j)
 before-later {us} {n} {p} at j lt =
     let dies : List Die = p.member.unit.dies in
-    let k : ℕ = at.index in
-    let here = get_or_from_slice_get dies k p.member.die p.member.die at.is.there in
-    let more = count_by_more_yes is_scope dies k p.member.die
-    (slice_get_within dies k p.member.die at.is.there)
-    (ap is_scope here ∙ ap is_some at.is.kind_is) in
-    let whole = sum_by-take-drop (λ (x : Die). cond (is_scope x) 1 0) dies (k + 1) in
-    let few = few-below p.member.die (drop (k + 1) dies) in
+    let after : List Die = drop (at.index + 1) dies in
+    let more = counted-one is_scope dies at.index p.member.die at.is.there
+    (ap is_some at.is.kind_is) in
+    let whole = sum_by-take-drop (λ (x : Die). cond (is_scope x) 1 0) dies (at.index + 1) in
     let next = first-next us at.unit p.member.unit at.unit_is in
-    let rises = first-rises us (at.unit + 1) j (omega (arith, lt)) in (
-      omega (arith, at.number_is, at.is.number_is, more, whole, next, rises),
-      omega (
-        arith,
-        at.number_is,
-        at.is.number_is,
-        more,
-        whole,
-        next,
-        rises,
-        at.is.inside_is,
-        few,
-      ),
+    let rises = first-rises us (at.unit + 1) j (omega (arith, lt)) in
+    let few = few-below p.member.die after in
+    let start = at.number_is in
+    let place = at.is.number_is in (
+      omega (arith, start, place, more, whole, next, rises),
+      omega (arith, start, place, more, whole, next, rises, at.is.inside_is, few),
     )
 
 -- ---- the order of offsets
