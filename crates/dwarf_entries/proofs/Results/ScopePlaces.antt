@@ -21,11 +21,6 @@ pub first-rises : (us : List CompilationUnit) (i j : ℕ) → i ≤ j
 first-rises us i j le = rw (← take-take i j us le)
     (sum_by-take-le (λ (u : CompilationUnit). count_by is_scope u.dies) (take j us) i)
 
-few-below : (die : Die) (dies : List Die)
-    → count_by is_scope (below die dies) ≤ count_by is_scope dies
-few-below die dies = sum_by-take-le (λ x. cond (is_scope x) 1 0) dies
-    (prefix_len (λ (d : Die). nat_lt die.depth d.depth) dies)
-
 -- A scope ends before the scopes of any later unit.
 pub before-later : {us : List CompilationUnit} {n : ℕ} {p : ScopeSite} (at : IsSiteAt us n p)
     (j : ℕ) → at.unit < j
@@ -38,7 +33,8 @@ before-later {us} {n} {p} at j lt =
     let whole = sum_by-take-drop (λ (x : Die). cond (is_scope x) 1 0) dies (at.index + 1) in
     let next = first-next us at.unit p.member.unit at.unit_is in
     let rises = first-rises us (at.unit + 1) j (omega (arith, lt)) in
-    let few = few-below p.member.die after in
+    let few = sum_by-take-le (λ x. cond (is_scope x) 1 0) after
+    (prefix_len (λ (d : Die). nat_lt p.member.die.depth d.depth) after) in
     let start = at.number_is in
     let place = at.is.number_is in (
       omega (arith, start, place, more, whole, next, rises),

@@ -61,25 +61,16 @@ pub record IsParsedAt (s : Sections) (us : List CompilationUnit) (parsed : List 
   pub covering_is : covers_there s (take n parsed) site ≡ Ok covering
   pub is : scope_of_site (take n parsed) site names covering ≡ j
 
-pub parsed-at : (s : Sections) (us : List CompilationUnit) (parsed : List ParsedScope)
-    → all_scopes s us ≡ Ok parsed → (n : ℕ) (j : ParsedScope) → slice_get parsed n ≡ Some j
-    → IsParsedAt s us parsed n j
-parsed-at s us parsed h n j there =
-    let of = each-at (parse_scope s us) [] (all_sites us) parsed h n j there in
-    let p = of.0 in
-    let before : List ParsedScope = take n parsed in
-    let found = bind_ok (names_of s us p.member) _ j
-    (without-offset p.member.die.offset (scope_at s us before p) j of.2) in
-    let covering = bind_ok (covers_there s before p) _ j found.2 in
-    record {
-      site = p;
-      there = of.1;
-      names = found.0;
-      names_are = found.1;
-      covering = covering.0;
-      covering_is = covering.1;
-      is = same-ok (scope_of_site before p found.0 covering.0) j covering.2;
-    }
+-- The site of the scope with a number, and the data that the scope has from it.
+pub record IsScopeAt (us : List CompilationUnit) (n : ℕ) (scope : Scope) : Type 0 where
+  pub site : ScopeSite
+  pub there : slice_get (all_sites us) n ≡ Some site
+  pub place : IsSiteAt us n site
+  pub kind_is : scope.kind ≡ site.kind
+  pub offset_is : scope.offset ≡ site.member.die.offset
+  pub number_is : scope.number ≡ n
+  pub end_is : scope.«end» ≡ n + 1 + site.inside
+  pub stmt_list_is : scope.stmt_list ≡ stmt_list_of site.member.unit.dies
 
 -- ---- the list of scopes
 
@@ -92,35 +83,44 @@ pub all-are : (P : Scope → Type 0) (parsed : List ParsedScope)
 all-are P parsed each_is = All-map P (λ (j : ParsedScope). j.scope) parsed
     (λ k d lt. each_is k (get_or parsed k d) (slice_get-get_or parsed k d lt))
 
--- The site of the scope with a number, and the data that the scope has from it.
-pub record IsScopeAt (us : List CompilationUnit) (n : ℕ) (scope : Scope) : Type 0 where
-  pub site : ScopeSite
-  pub there : slice_get (all_sites us) n ≡ Some site
-  pub place : IsSiteAt us n site
-  pub kind_is : scope.kind ≡ site.kind
-  pub offset_is : scope.offset ≡ site.member.die.offset
-  pub number_is : scope.number ≡ n
-  pub end_is : scope.«end» ≡ n + 1 + site.inside
-  pub stmt_list_is : scope.stmt_list ≡ stmt_list_of site.member.unit.dies
+module _ (s : Sections) (us : List CompilationUnit) (parsed : List ParsedScope)
+    (h : all_scopes s us ≡ Ok parsed) where
+  pub parsed-at : (n : ℕ) (j : ParsedScope) → slice_get parsed n ≡ Some j
+      → IsParsedAt s us parsed n j
+  parsed-at n j there =
+      let of = each-at (parse_scope s us) [] (all_sites us) parsed h n j there in
+      let p = of.0 in
+      let before : List ParsedScope = take n parsed in
+      let found = bind_ok (names_of s us p.member) _ j
+      (without-offset p.member.die.offset (scope_at s us before p) j of.2) in
+      let covering = bind_ok (covers_there s before p) _ j found.2 in
+      record {
+        site = p;
+        there = of.1;
+        names = found.0;
+        names_are = found.1;
+        covering = covering.0;
+        covering_is = covering.1;
+        is = same-ok (scope_of_site before p found.0 covering.0) j covering.2;
+      }
 
-pub scope-at : (s : Sections) (us : List CompilationUnit) (parsed : List ParsedScope)
-    → all_scopes s us ≡ Ok parsed → (n : ℕ) (scope : Scope)
-    → slice_get (scopes_in parsed) n ≡ Some scope → IsScopeAt us n scope
-scope-at s us parsed h n scope there =
-    let j = from-map (λ (j : ParsedScope). j.scope) parsed n scope there in
-    let x = parsed-at s us parsed h n j.0 j.1 in
-    let within = slice_get_within parsed n j.0 j.1 in
-    let size : length (take n parsed) ≡ n = omega (arith, length-take n parsed, within) in
-    rw (← j.2, ← x.is) (record {
-      site = x.site;
-      there = x.there;
-      place = site-at us n x.site x.there;
-      kind_is = refl;
-      offset_is = refl;
-      number_is = size;
-      end_is = omega (arith, size);
-      stmt_list_is = refl;
-    })
+  pub scope-at : (n : ℕ) (scope : Scope) → slice_get (scopes_in parsed) n ≡ Some scope
+      → IsScopeAt us n scope
+  scope-at n scope there =
+      let j = from-map (λ (j : ParsedScope). j.scope) parsed n scope there in
+      let x = parsed-at n j.0 j.1 in
+      let within = slice_get_within parsed n j.0 j.1 in
+      let size : length (take n parsed) ≡ n = omega (arith, length-take n parsed, within) in
+      rw (← j.2, ← x.is) (record {
+        site = x.site;
+        there = x.there;
+        place = site-at us n x.site x.there;
+        kind_is = refl;
+        offset_is = refl;
+        number_is = size;
+        end_is = omega (arith, size);
+        stmt_list_is = refl;
+      })
 
 -- A scope of the list has an index.
 pub contained : (scopes : List Scope) (scope : Scope) → Contains scopes scope

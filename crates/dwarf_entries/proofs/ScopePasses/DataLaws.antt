@@ -49,25 +49,21 @@ start-next : (first : ℕ) (s : StoredScope) (ss : List StoredScope) (n : ℕ)
     → ranges_start first (s ∷ ss) (suc n) ≡ ranges_start s.ranges_end ss n
 start-next first s ss n = grind (arith, common_steps)
 
-pub scopes-at : (roots : List Root) (wide : List CallSite) (ranges : List Range) (first : ℕ)
-    (ss : List StoredScope) (n : ℕ)
-    → slice_get (scopes_from roots wide ranges first ss) n
-    ≡ option_map (λ s. scope_of roots wide
-    (take (s.ranges_end - ranges_start first ss n) (drop (ranges_start first ss n) ranges)) s)
-    (slice_get ss n)
-scopes-at roots wide ranges first [] n = refl
-scopes-at roots wide ranges first (s ∷ ss) zero = refl
-scopes-at roots wide ranges first (s ∷ ss) (suc n) =
-    scopes-at roots wide ranges s.ranges_end ss n
-    ∙ ap (λ (start : ℕ). option_map (λ t. scope_of roots wide
-    (take (t.ranges_end - start) (drop start ranges)) t) (slice_get ss n))
-    (sym (start-next first s ss n))
+module _ (roots : List Root) (wide : List CallSite) (ranges : List Range) where
+  pub scopes-at : (first : ℕ) (ss : List StoredScope) (n : ℕ)
+      → slice_get (scopes_from roots wide ranges first ss) n
+      ≡ option_map (λ s. scope_of roots wide
+      (take (s.ranges_end - ranges_start first ss n) (drop (ranges_start first ss n) ranges)) s)
+      (slice_get ss n)
+  scopes-at first [] n = refl
+  scopes-at first (s ∷ ss) zero = refl
+  scopes-at first (s ∷ ss) (suc n) =
+      let rest = scopes-at s.ranges_end ss n in rw (start-next first s ss n) rest
 
-pub scopes-length : (roots : List Root) (wide : List CallSite) (ranges : List Range) (first : ℕ)
-    (ss : List StoredScope) → length (scopes_from roots wide ranges first ss) ≡ length ss
-scopes-length roots wide ranges first [] = refl
-scopes-length roots wide ranges first (s ∷ ss) =
-    ap suc (scopes-length roots wide ranges s.ranges_end ss)
+  pub scopes-length : (first : ℕ) (ss : List StoredScope)
+      → length (scopes_from roots wide ranges first ss) ≡ length ss
+  scopes-length first [] = refl
+  scopes-length first (s ∷ ss) = ap suc (scopes-length s.ranges_end ss)
 
 -- ---- one more scope
 

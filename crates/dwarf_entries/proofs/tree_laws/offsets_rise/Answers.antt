@@ -52,25 +52,23 @@ RootsRise s from roots =
 rise-cons : (s : Sections) (from number past start end : ℕ) (dies : List Die) (roots : List Root)
     → from ≤ start → end ≤ length s.debug_info → RiseWithin start end dies → RootsRise s end roots
     → RootsRise s from (root_of number past dies roots)
-rise-cons s from number past start end dies roots lower within rise rest =
-    by_dies dies rise (All-weaker (Within end size) (Within from size) (λ root at.
-    (omega (arith, lower, within-le start end dies rise, at.0), at.1)) roots rest.0)
-  where
-    size : ℕ
-    size = length s.debug_info
-
-    by_dies : (dies : List Die) → RiseWithin start end dies → All (Within from size) roots
-        → RootsRise s from (root_of number past dies roots)
-    by_dies [] rise all = (all, rest.1)
-    by_dies (die ∷ dies) rise all =
-        let first = rise.0 in
-        let fits = within-le (suc die.offset) end dies rise.1 in (
-          All-cons (Within from size) _ roots
-              (omega (arith, lower, first), omega (arith, fits, within)) all,
-          AllPairs-cons (λ (a b : Root). a.offset < b.offset) _ roots
-              (All-weaker (Within end size) (λ (root : Root). die.offset < root.offset)
-              (λ root at. omega (arith, fits, at.0)) roots rest.0) rest.1,
-        )
+rise-cons s from number past start end [] roots lower within rise rest = (
+  All-weaker (Within end (length s.debug_info)) (Within from (length s.debug_info))
+      (λ root at. (omega (arith, lower, rise, at.0), at.1)) roots rest.0,
+  rest.1,
+)
+rise-cons s from number past start end (die ∷ dies) roots lower within rise rest =
+    let size : ℕ = length s.debug_info in
+    let first = rise.0 in
+    let fits = within-le (suc die.offset) end dies rise.1 in (
+      All-cons (Within from size) _ roots
+          (omega (arith, lower, first), omega (arith, fits, within))
+          (All-weaker (Within end size) (Within from size)
+          (λ root at. (omega (arith, lower, first, fits, at.0), at.1)) roots rest.0),
+      AllPairs-cons (λ (a b : Root). a.offset < b.offset) _ roots (All-weaker (Within end size)
+          (λ (root : Root). die.offset < root.offset) (λ root at. omega (arith, fits, at.0)) roots
+          rest.0) rest.1,
+    )
 
 roots-from-rise : (s : Sections) (from number : ℕ) (us : List CompilationUnit) → AreUnitsIn s us
     → ((i : ℕ) (u : CompilationUnit) → slice_get us i ≡ Some u → from ≤ u.header.start)
