@@ -1,8 +1,8 @@
 use Rattle.dwarf_entries.proofs
-use proofs.{◌≡◌, ℕ, zero, suc, ◌+◌, ◌-◌, ◌≤◌, List, length, take, subst, arith, ◌<◌, Some, Ok}
-use proofs.{slice_get, take_all, get_or_from_slice_get, Sections, CompilationUnit, Scope}
-use proofs.{ParsedScope, all_scopes, sum_by_more, sum_by, fold-map, items_limit, AllHold, Fits}
-use proofs.{covers-fits, tree-parts, all-are, parsed-at, element}
+use proofs.{◌≡◌, ℕ, zero, suc, ◌+◌, ◌-◌, ◌≤◌, List, length, take, arith, ◌<◌, Some, Ok, slice_get}
+use proofs.{take_all, get_or_from_slice_get, Sections, CompilationUnit, Scope, ParsedScope}
+use proofs.{all_scopes, sum_by_more, sum_by, fold-map, items_limit, AllHold, Fits, covers-fits}
+use proofs.{tree-parts, all-are, parsed-at, element}
 use Rattle.dwarf_entries.proofs.tree_laws.ranges_are_nonempty.Goals as goal
 
 -- The ranges of a scope are valid, and it took as many range items as the budget allows.
@@ -10,37 +10,36 @@ abbrev HasFit : List ParsedScope → ℕ → ParsedScope → Type 0
 HasFit parsed n j = Fits (items_limit - sum_by (λ j. j.items) (take n parsed))
     (record { ranges = j.scope.ranges; items = j.items })
 
-fits-at : (s : Sections) (us : List CompilationUnit) (parsed : List ParsedScope)
-    → all_scopes s us ≡ Ok parsed → (n : ℕ) (j : ParsedScope) → slice_get parsed n ≡ Some j
-    → HasFit parsed n j
-fits-at s us parsed parsed_are n j there =
-    let at = parsed-at s us parsed parsed_are n j there in
-    subst (HasFit parsed n) at.is (covers-fits _ s at.site.member.unit.bases at.site.member.die
-    at.covering at.covering_is)
+module _ (s : Sections) (us : List CompilationUnit) (parsed : List ParsedScope)
+    (parsed_are : all_scopes s us ≡ Ok parsed) where
+  fits-at : (n : ℕ) (j : ParsedScope) → slice_get parsed n ≡ Some j → HasFit parsed n j
+  fits-at n j there =
+      let at = parsed-at s us parsed parsed_are n j there in
+      rw (← at.is) (covers-fits _ s at.site.member.unit.bases at.site.member.die at.covering
+      at.covering_is)
+
+  -- The scopes before a number have at most as many ranges as range items, which are within the
+  -- limit.
+  limited : (n : ℕ) → n ≤ length parsed → let before : List ParsedScope = take n parsed in
+      (sum_by (λ j. length j.scope.ranges) before ≤ sum_by (λ j. j.items) before)
+      × (sum_by (λ j. j.items) before ≤ items_limit)
+  limited zero le = (omega arith, omega arith)
+  limited (suc n) le =
+      let within : n < length parsed = omega (arith, le) in
+      let j = element parsed n within in
+      let fits = fits-at n j.0 j.1 in
+      let rest = limited n (omega (arith, le)) in
+      let one : suc n ≡ n + 1 = omega arith in
+      let same = get_or_from_slice_get parsed n j.0 j.0 j.1 in
+      let ranges = sum_by_more (λ (j : ParsedScope). length j.scope.ranges) parsed n j.0 within in
+      let items = sum_by_more (λ (j : ParsedScope). j.items) parsed n j.0 within in
+      rw one (grind (arith, fits.counted), grind (arith, fits.within))
 
 pub returns-clause-ranges : goal.returns-clause-ranges
 returns-clause-ranges c s tree h =
     let t = tree-parts s tree h in
     rw (← t.1.is) (all-are (λ (scope : Scope). AllHold scope.ranges) t.1.parsed
     (λ n j there. (fits-at s t.0 t.1.parsed t.1.parsed_are n j there).hold))
-
--- The scopes before a number have at most as many ranges as range items, which are within the
--- limit.
-limited : (s : Sections) (us : List CompilationUnit) (parsed : List ParsedScope)
-    → all_scopes s us ≡ Ok parsed → (n : ℕ) → n ≤ length parsed
-    → (sum_by (λ j. length j.scope.ranges) (take n parsed) ≤ sum_by (λ j. j.items) (take n parsed))
-    × (sum_by (λ j. j.items) (take n parsed) ≤ items_limit)
-limited s us parsed parsed_are zero le = (omega arith, omega arith)
-limited s us parsed parsed_are (suc n) le =
-    let within : n < length parsed = omega (arith, le) in
-    let j = element parsed n within in
-    let fits = fits-at s us parsed parsed_are n j.0 j.1 in
-    let rest = limited s us parsed parsed_are n (omega (arith, le)) in
-    let one : suc n ≡ n + 1 = omega arith in
-    let same = get_or_from_slice_get parsed n j.0 j.0 j.1 in
-    let ranges = sum_by_more (λ (j : ParsedScope). length j.scope.ranges) parsed n j.0 within in
-    let items = sum_by_more (λ (j : ParsedScope). j.items) parsed n j.0 within in
-    rw one (grind (arith, fits.counted), grind (arith, fits.within))
 
 pub returns-clause-count : goal.returns-clause-count
 returns-clause-count c s tree h =
