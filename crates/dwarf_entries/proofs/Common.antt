@@ -24,7 +24,7 @@ unfoldable pub use bytes.{Items.each_from, Numbers.{cstr_at, text_at}}
 pub use entries.Names.{Member, first_on, member_at, members_of, name_on, names_of, of_member}
 pub use entries.{Names.{references_limit, target_of, text_in, text_of}, Order.AreInOrder}
 pub use entries.{Order.{AreNested, AreNumbered, HasDataOf}, Private.EntryOffsets.AreStored}
-pub use entries.Private.EntryOffsets.{IsBitmapOf, all_offsets, dies_of, scope_count, stored_unit_of}
+pub use entries.Private.EntryOffsets.{all_offsets, dies_of, scope_count, stored_unit_of}
 pub use entries.Private.Members.{AreFirst, Finds, FindsFirst, IsFirst, IsMember, IsPlaceOf}
 pub use entries.{Private.Members.{IsWithin, LeadsTo, member_in}, Private.NameCache.CachedNames}
 pub use entries.Private.NameCache.{IsCacheOf, second_names, slot_at, slot_of, target_names}
@@ -73,12 +73,11 @@ unfoldable pub use units.Units.{units_of}
 pub use Rattle.dwarf_walk.proofs.{BitmapLaws.{adds-more, adds-none}, RereadLaws.again-memory}
 pub use Rattle.dwarf_walk.proofs.RereadLaws.{inside-is, without_place}
 pub use Rattle.dwarf_walk.proofs.StoredNodes.{names_at-stored, value-stored}
-pub use walk.{EntryBitmap.{AddsOffsets, has_entry, offsets_of}, Private.Named.named_entry_at}
-pub use walk.{Private.Named.used_at, Private.Rereading.{IsReaderOf, scope_entry_at}}
-pub use walk.{References.{next_of, or_else}, ScopeEntries.{is_scope, kind_of}, Sections.Sections}
-pub use walk.{Sections.sections_of, Stored.{StoredUnit, named_entry, root_in, scope_entry}}
-pub use walk.Stored.{scope_places, stored_entries, stored_of, stored_unit}
-pub use walk.declared.entry_bitmap.EntryBitmap.{EntryBitmap}
+pub use walk.{EntryBitmap.{AddsOffsets, offsets_of}, Private.Named.{named_entry_at, used_at}}
+pub use walk.{Private.Rereading.{IsReaderOf, scope_entry_at}, References.{next_of, or_else}}
+pub use walk.{ScopeEntries.{is_scope, kind_of}, Sections.{Sections, sections_of}, Stored.StoredUnit}
+pub use walk.Stored.{named_entry, root_in, scope_entry, scope_places, stored_entries, stored_of}
+pub use walk.{Stored.stored_unit, declared.entry_bitmap.EntryBitmap.EntryBitmap}
 pub use walk.declared.entry_reader.EntryReader.{EntryReader}
 pub use walk.{declared.scope_kind.ScopeKind.ScopeKind, declared.unit_entries.NamedEntry.NamedEntry}
 pub use walk.declared.unit_entries.RootEntry.{RootEntry}

@@ -12,8 +12,6 @@ use Common.{entries-again, value-stored, names_at-stored, without_place, inside-
 use Rattle.dwarf_entries.proofs.UnitPasses.UnitLaws.{stored-index, IsUnitIn, AreUnitsIn}
 use Rattle.dwarf_entries.proofs.ScopePasses.SiteLaws.{site-in}
 
--- ---- the used attributes
-
 -- ---- the entries that were read before
 
 -- The bytes up to the end of a unit, by its header.

@@ -3,13 +3,12 @@ use Rattle.dwarf_entries.proofs.Common
 use Common.{IsCacheOf, NameCache, ◌≡◌, ℕ, zero, suc, ◌<◌, ◌≤◌, List, [], ◌∷◌, length, map, refl, ap}
 use Common.{sym, arith, get_or, ◌++◌, Some, Result, Ok, Err, zip, slice_get, slice_get_within}
 use Common.{get_or_from_slice_get, slice_get-map, LoadFault, in_section, bind_ok, same-ok}
-use Common.{Declaration, UnitHeader, tables_of, Die, RiseWithin, in_section-ok, EntryBitmap}
-use Common.{AddsOffsets, Sections, CompilationUnit, units_read, all_offsets, AreStored}
-use Common.{stored_unit_of, ObjectUnits, length-map, UnitEntries, stored_of, DebugAbbrev, DebugInfo}
-use Common.{false, slice_get_read, declarations_of, declarations_limit, units_of, entries_of}
-use Common.{table_is, with_bases, unit_of, dies_of, all_entries, each_from, has_entry, IsReaderOf}
-use Common.{EntryReader, AreUnitsOf, units_or_none, units_of_object, Inside, IsBitmapOf, all_bases}
-use Common.{subst₂, entries-rise}
+use Common.{Declaration, UnitHeader, tables_of, Die, RiseWithin, in_section-ok, Sections}
+use Common.{CompilationUnit, units_read, AreStored, stored_unit_of, ObjectUnits, length-map}
+use Common.{UnitEntries, stored_of, DebugAbbrev, DebugInfo, slice_get_read, declarations_of}
+use Common.{declarations_limit, units_of, entries_of, table_is, with_bases, unit_of, all_entries}
+use Common.{each_from, IsReaderOf, EntryReader, AreUnitsOf, units_or_none, units_of_object, Inside}
+use Common.{all_bases, subst₂, entries-rise}
 use Rattle.dwarf_entries.proofs.UnitPasses.HeaderLaws.{HasBounds, headers-in}
 use Rattle.dwarf_entries.proofs.UnitPasses.PassLaws.{each-at, from-map}
 
@@ -135,12 +134,6 @@ object-units s object same = rw (← same) (by_read (units_read s) refl)
     by_read (Ok us) is = units-in s us is
     by_read (Err fault) is =
         record { each_is = λ i u found. cc; apart = λ i j u v first second lt. cc }
-
--- If the bitmap was empty, it contains exactly the entries of the units.
-pub all-marked : (none bitmap : EntryBitmap) (us vs : List CompilationUnit)
-    → ((at : ℕ) → has_entry none at ≡ false) → AddsOffsets none bitmap (all_offsets us)
-    → map dies_of vs ≡ map dies_of us → IsBitmapOf bitmap vs
-all-marked none bitmap us vs empty adds same at = rw (adds at, empty at, same) refl
 
 -- The unit at an index, which the data is stored for.
 pub record StoredFor (us : List CompilationUnit) (n : ℕ) (k : UnitEntries) : Type 0 where

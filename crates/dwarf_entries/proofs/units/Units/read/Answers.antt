@@ -1,5 +1,5 @@
 use Rattle.dwarf_entries.proofs.{sym, ◌∙◌, List, refl, Die, in_section-ok, sections_of, units_read}
-use Rattle.dwarf_entries.proofs.{DebugAbbrev, stored_unit, bases-stay, all-marked, exit, step-fault}
+use Rattle.dwarf_entries.proofs.{DebugAbbrev, stored_unit, bases-stay, exit, step-fault}
 use Rattle.dwarf_entries.proofs.units.Units.read.Goals as goal
 
 pub returns-in_err-headers-clause-units : goal.returns-in_err-headers-clause-units
@@ -44,9 +44,11 @@ invariant_of-result c =
     let all = (rw c.as_slice-2.ensures.value at c.in_ok-bases.ensures) units.0 units.2.0 in
     rw (c.in_ok-headers.ensures, tables.1, units.1, all.1) (record {
       stored_are = units.2.0 ∙ sym (bases-stay stored_unit s _ units.0 all.0 all.1);
-      bitmap_is = all-marked c.in_ok-bitmap.bitmap c.all_entries.new.bitmap units.0 all.0
-          c.in_ok-bitmap.ensures units.2.1
-          (bases-stay (λ _ (dies : List Die). dies) s _ units.0 all.0 all.1);
+      bitmap_is = λ at. rw (
+        units.2.1 at,
+        c.in_ok-bitmap.ensures at,
+        bases-stay (λ _ (dies : List Die). dies) s _ units.0 all.0 all.1,
+      ) refl;
       bases_are = all.2;
       strings_are = c.of.ensures;
       reader_is = c.new-2.ensures;
