@@ -92,7 +92,8 @@ pub scopes-between : (dies : List Die) (i j : ℕ) (outer inner : Die) → slice
     (below outer (drop (i + 1) dies))))
 scopes-between dies i j outer inner outer_is inner_is outer_scope inner_scope =
     let first = counted-before is_scope dies i outer outer_is outer_scope j in
-    let last = counted-before is_scope dies j inner inner_is inner_scope (past_below dies i outer) in
+    let last = counted-before is_scope dies j inner inner_is inner_scope
+    (past_below dies i outer) in
     let end = ends-are dies i outer outer_is outer_scope in (
       λ h. let places = from-below dies i j outer outer_is h in
           (first.1 places.0, rw end (last.1 places.1)),

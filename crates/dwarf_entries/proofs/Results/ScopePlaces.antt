@@ -112,7 +112,8 @@ module _ {us : List CompilationUnit} {n m : ℕ} {p q : ScopeSite} (a : IsSiteAt
       grind (arith, a.unit_is, b.unit_is, a.is.number_is, b.is.number_is)
 
   -- The offsets of sites are strictly increasing.
-  pub sites-rise : {s : Sections} → AreUnitsIn s us → n < m → p.member.die.offset < q.member.die.offset
+  pub sites-rise : {s : Sections} → AreUnitsIn s us → n < m
+      → p.member.die.offset < q.member.die.offset
   sites-rise are less =
       let rise = rise-order q.member.unit.header.start q.member.unit.header.end q.member.unit.dies
       a.index b.index p.member.die q.member.die

@@ -31,8 +31,8 @@ text_in-is_text s name bytes at found bytes_are h =
 -- A property of the string that one of four reads finds.
 of-text : {X : Type 0} (P : Type 0) (a b c : Bool) (x y z : Result X Cause) (r : Result ℕ Cause)
     (w : ℕ → Result X Cause) (found : X) → cond a x (cond b y (cond c z (r >>= w))) ≡ Ok found
-    → (x ≡ Ok found → P) → (y ≡ Ok found → P) → (z ≡ Ok found → P) → ((at : ℕ) → w at ≡ Ok found → P)
-    → P
+    → (x ≡ Ok found → P) → (y ≡ Ok found → P) → (z ≡ Ok found → P)
+    → ((at : ℕ) → w at ≡ Ok found → P) → P
 of-text P a b c x y z r w found h one two three four = grind arith
 
 text_of-is_text : (s : Sections) (str_offsets : Option Table) (value : AttributeValue)
