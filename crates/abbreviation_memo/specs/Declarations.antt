@@ -2,8 +2,8 @@
 use Rattle.std.specs.Prelude.{◌≡◌, ℕ, ◌≤◌, List, ◌++◌, Bool, Option, IfSome, All, length, map}
 use Rattle.dwarf_forms.specs.declared.attribute.AttributeSpecification.{AttributeSpecification}
 use Rattle.dwarf_forms.specs.Declarations.{Declaration}
-use Rattle.abbreviation_memo.specs.declared.shared.TheConstants.{UNSHARED}
-use Rattle.abbreviation_memo.specs.Lists.{IsListAt, rest_attributes}
+use Rattle.abbreviation_memo.specs.{declared.shared.TheConstants.UNSHARED, Lists.IsListAt}
+use Rattle.abbreviation_memo.specs.Lists.{rest_attributes}
 
 -- the first attributes of a list, and the offset in `.debug_abbrev` of the attributes after them
 pub record SharedAttributes : Type 0 where

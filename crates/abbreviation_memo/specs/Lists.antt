@@ -1,7 +1,6 @@
 -- Attribute lists by their offset in `.debug_abbrev`.
 use Rattle.std.specs.Prelude.{◌≡◌, ℕ, List, [], ◌∷◌, Option, None, Some, Result, Ok, Err}
-use Rattle.dwarf_bytes.specs.declared.fault.Cause.{Cause}
-use Rattle.dwarf_bytes.specs.Items.{Next, Item, End}
+use Rattle.dwarf_bytes.specs.{declared.fault.Cause.Cause, Items.{Next, Item, End}}
 use Rattle.dwarf_forms.specs.declared.attribute.AttributeSpecification.{AttributeSpecification}
 use Rattle.dwarf_forms.specs.Tables.{attributes_at}
 

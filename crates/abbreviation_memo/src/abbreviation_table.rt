@@ -3,11 +3,10 @@
 ghost use Rattle.std.specs.Prelude.{◌≡◌, ◌+◌, ◌≤◌, ◌==◌, ◌∷◌, ◌⊎◌, ◌++◌, [], Ok, Err, false};
 ghost use Rattle.std.specs.Prelude.{length, map, IfOk, IfSome, OnOk, OnErr, position};
 ghost use Rattle.std.specs.List.{list_any};
-ghost use Rattle.dwarf_bytes.specs.declared.fault.Section.TheVariants as sections;
 ghost use Rattle.dwarf_bytes.specs.Refusals.{Decodes, in_section, memory_fault, ReadsNext};
-ghost use Rattle.dwarf_forms.specs.Tables.{declarations_of, head_at};
+ghost use Rattle.dwarf_forms.specs.{Tables.{declarations_of, head_at}, Steps.ExtendsTable};
 ghost use Rattle.abbreviation_memo.specs.Declarations.{AreShared, full_declarations};
-ghost use Rattle.dwarf_forms.specs.Steps.{ExtendsTable};
+ghost use Rattle.dwarf_bytes.specs.declared.fault.Section.TheVariants as sections;
 
 use crate::abbreviation_declaration::AbbreviationDeclaration;
 use crate::memoized_lists::MemoizedLists;

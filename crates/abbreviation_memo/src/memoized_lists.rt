@@ -1,12 +1,10 @@
 //! Memoized attribute lists of a section, by their offsets (DWARF 5, 7.5.3).
 
-ghost use Rattle.std.specs.Prelude.{◌≡◌, false, IfOk, Ok};
-ghost use Rattle.std.specs.List.{All, list_any};
+ghost use Rattle.std.specs.{Prelude.{◌≡◌, false, IfOk, Ok}, List.{All, list_any}};
 ghost use Rattle.std.specs.BTreeMap.{BTreeMap as Map};
 ghost use Rattle.dwarf_forms.specs.Tables.{attributes_at, shares_name};
-ghost use Rattle.abbreviation_memo.specs.Lists.{IsListAt, list_at};
-ghost use Rattle.abbreviation_memo.specs.Private.Memo.{AreMemos, IsMemo};
-ghost use Rattle.abbreviation_memo.specs.Private.NameSets.{SetsStay, is_in};
+ghost use Rattle.abbreviation_memo.specs.{Lists.{IsListAt, list_at}, Private.Memo.AreMemos};
+ghost use Rattle.abbreviation_memo.specs.{Private.Memo.IsMemo, Private.NameSets.{SetsStay, is_in}};
 
 use crate::list_start::ListStart;
 use crate::name_sets::{EMPTY, NameSets};
@@ -36,10 +34,8 @@ pub struct MemoizedLists<'a> {
 }
 
 impl<'a> Model for MemoizedLists<'a> {
-    ghost use Rattle.std.specs.Prelude.{ℕ, List};
-    ghost use Rattle.std.specs.List.{All};
-    ghost use Rattle.abbreviation_memo.specs.Lists.{IsListAt};
-    ghost use Rattle.abbreviation_memo.specs.Private.Memo.{AreMemos};
+    ghost use Rattle.std.specs.{Prelude.{ℕ, List}, List.All};
+    ghost use Rattle.abbreviation_memo.specs.{Lists.IsListAt, Private.Memo.AreMemos};
 
     ghost Value = { List ℕ };
 

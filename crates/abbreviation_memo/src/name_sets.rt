@@ -1,8 +1,7 @@
 //! Persistent sets of names: a set with one more name shares most of its nodes with the original.
 
 ghost use Rattle.std.specs.Prelude.{◌≡◌, ◌==◌, ◌||◌, ◌<◌, ◌≤◌, ◌+◌, ◌%◌, ◌^◌, ◌≢◌, ◌∷◌, ◌++◌, []};
-ghost use Rattle.std.specs.Prelude.{ℕ, IfOk, OnErr, OkIff, length};
-ghost use Rattle.std.specs.Int.Digits.{digits_of};
+ghost use Rattle.std.specs.{Prelude.{ℕ, IfOk, OnErr, OkIff, length}, Int.Digits.digits_of};
 ghost use Rattle.abbreviation_memo.specs.Private.NameSets.{IsWithin, SetsStay, branch_at, is_in};
 ghost use Rattle.abbreviation_memo.specs.Private.NameSets.{no_names, side};
 

@@ -1,10 +1,8 @@
 //! Attribute lists of declarations, with memoized suffixes (DWARF 5, 7.5.3).
 
-ghost use Rattle.std.specs.Prelude.{◌≡◌, ◌==◌, [], IfOk, Ok};
-ghost use Rattle.std.specs.List.{list_any};
+ghost use Rattle.std.specs.{Prelude.{◌≡◌, ◌==◌, [], IfOk, Ok}, List.list_any};
 ghost use Rattle.dwarf_forms.specs.Tables.{attributes_at};
-ghost use Rattle.abbreviation_memo.specs.Declarations.{IsShared, all_of};
-ghost use Rattle.abbreviation_memo.specs.Private.Memo.{StartsList};
+ghost use Rattle.abbreviation_memo.specs.{Declarations.{IsShared, all_of}, Private.Memo.StartsList};
 
 use crate::memoize::memoize;
 use crate::memoized_lists::MemoizedLists;

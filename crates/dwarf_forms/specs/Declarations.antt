@@ -2,8 +2,7 @@
 use Rattle.std.specs.Prelude.{◌≡◌, ◌≢◌, ℕ, ℤ, List, [], ◌∷◌, ◌++◌, Bool, Option, Some, None, IsSome}
 use Rattle.std.specs.Prelude.{if◌then◌else◌, All, AllPairs}
 use Rattle.dwarf_bytes.specs.declared.constants.TheConstants.{DW_FORM_IMPLICIT_CONST}
-use Rattle.dwarf_bytes.specs.Numbers.{IsUleb, IsSleb}
-use Rattle.dwarf_bytes.specs.Forms.{form_of}
+use Rattle.dwarf_bytes.specs.{Numbers.{IsUleb, IsSleb}, Forms.form_of}
 use Rattle.dwarf_forms.specs.declared.attribute.AttributeSpecification.{AttributeSpecification}
 
 pub record Declaration : Type 0 where

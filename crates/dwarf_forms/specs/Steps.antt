@@ -1,11 +1,8 @@
 -- One step of reading a table.
 use Rattle.std.specs.Prelude.{◌≡◌, ℕ, List, [], ◌∷◌, ◌++◌, Bool, true, false, Result, Ok, Err}
-use Rattle.dwarf_bytes.specs.declared.fault.Cause.{Cause}
-use Rattle.dwarf_bytes.specs.Items.{Item, End}
-use Rattle.dwarf_bytes.specs.Refusals.{Fails}
+use Rattle.dwarf_bytes.specs.{declared.fault.Cause.Cause, Items.{Item, End}, Refusals.Fails}
 use Rattle.dwarf_bytes.specs.Position.{Position}
-use Rattle.dwarf_forms.specs.Declarations.{Declaration}
-use Rattle.dwarf_forms.specs.Tables.{declaration_at}
+use Rattle.dwarf_forms.specs.{Declarations.Declaration, Tables.declaration_at}
 
 -- The declaration at the cursor is appended to the table, or the end of the table is there. The
 -- cursor moves after it.

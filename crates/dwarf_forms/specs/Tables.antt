@@ -1,18 +1,13 @@
 -- The read of an abbreviation table (DWARF 5, 7.5.3), up to its first fault.
 use Rattle.std.specs.Prelude.{ℕ, ℤ, List, [], length, Option, Some, None, is_none, Result, Ok, Bool}
-use Rattle.std.specs.Prelude.{map, nat_lt, nat_le, ◌==◌, ◌||◌, ◌&&◌, if◌then◌else◌}
-use Rattle.std.specs.List.{list_any}
-use Rattle.dwarf_bytes.specs.declared.fault.Cause.{Cause}
-use Rattle.dwarf_bytes.specs.declared.fault.Cause.TheVariants as causes
-use Rattle.dwarf_bytes.specs.Bind.{◌>>=◌}
-use Rattle.dwarf_bytes.specs.Items.{Next, Item, End, At, reading, refuse_if, without_offset}
-use Rattle.dwarf_bytes.specs.Items.{items_from}
-use Rattle.dwarf_bytes.specs.Numbers.{u8_at, uleb_at, sleb_at}
-use Rattle.dwarf_bytes.specs.Forms.{form_of}
-use Rattle.dwarf_forms.specs.declared.attribute.AttributeSpecification.{AttributeSpecification}
-use Rattle.dwarf_forms.specs.declared.declaration.Head.{Head}
-use Rattle.dwarf_forms.specs.Declarations.{Declaration}
+use Rattle.std.specs.{Prelude.{map, nat_lt, nat_le, ◌==◌, ◌||◌, ◌&&◌, if◌then◌else◌}, List.list_any}
+use Rattle.dwarf_bytes.specs.{declared.fault.Cause.Cause, Bind.◌>>=◌, Items.{Next, Item, End, At}}
+use Rattle.dwarf_bytes.specs.{Items.{reading, refuse_if, without_offset, items_from}, Numbers.u8_at}
+use Rattle.dwarf_bytes.specs.{Numbers.{uleb_at, sleb_at}, Forms.form_of}
 use Rattle.dwarf_bytes.specs.declared.constants.TheConstants.{DW_FORM_IMPLICIT_CONST}
+use Rattle.dwarf_forms.specs.declared.attribute.AttributeSpecification.{AttributeSpecification}
+use Rattle.dwarf_forms.specs.{declared.declaration.Head.Head, Declarations.Declaration}
+use Rattle.dwarf_bytes.specs.declared.fault.Cause.TheVariants as causes
 
 -- the constant that follows a form in a declaration
 abbrev pub constant_at : ℕ → List ℕ → ℕ → Result (Option ℤ × ℕ) Cause

@@ -1,13 +1,9 @@
 -- Attribute values (DWARF 5, 7.5.5 and 7.5.6): how a form encodes a value, and how it is read.
 use Rattle.std.specs.Prelude.{◌≡◌, ℕ, ℤ, List, [], ◌++◌, Option, Some, None, Result, Ok, Err}
-use Rattle.dwarf_bytes.specs.Bind.{◌>>=◌}
-use Rattle.dwarf_bytes.specs.Numbers.{IsUleb, uleb_at}
-use Rattle.dwarf_bytes.specs.Position.{Position}
-use Rattle.dwarf_bytes.specs.Forms.{form_of}
-use Rattle.dwarf_bytes.specs.Contents.{Content, Signed, content_of, EncodesContent, content_at}
-use Rattle.dwarf_bytes.specs.declared.fault.ReadFault.{ReadFault}
-use Rattle.dwarf_bytes.specs.declared.format.Format.{Format}
-use Rattle.dwarf_bytes.specs.declared.form.ValueLayout.{ValueLayout}
+use Rattle.dwarf_bytes.specs.{Bind.◌>>=◌, Numbers.{IsUleb, uleb_at}, Position.Position}
+use Rattle.dwarf_bytes.specs.{Forms.form_of, Contents.{Content, Signed, content_of, EncodesContent}}
+use Rattle.dwarf_bytes.specs.{Contents.content_at, declared.fault.ReadFault.ReadFault}
+use Rattle.dwarf_bytes.specs.{declared.format.Format.Format, declared.form.ValueLayout.ValueLayout}
 use Rattle.dwarf_bytes.specs.declared.form.Form.TheVariants.{Direct, ImplicitConst, Indirect}
 use Rattle.dwarf_forms.specs.declared.values.Value.{Value as Lent}
 use Rattle.dwarf_forms.specs.declared.values.ValueFault.{ValueFault}

@@ -2,8 +2,7 @@
 
 ghost use Rattle.std.specs.Prelude.{◌≡◌, ◌==◌, ◌&&◌, ◌||◌, [], length, is_none, List};
 ghost use Rattle.std.specs.List.{list_any};
-ghost use Rattle.dwarf_bytes.specs.Forms.{form_of};
-ghost use Rattle.dwarf_bytes.specs.Items.{items_from, without_offset};
+ghost use Rattle.dwarf_bytes.specs.{Forms.form_of, Items.{items_from, without_offset}};
 ghost use Rattle.dwarf_bytes.specs.Refusals.{ReadsField, ReadsItems, ReadsNext};
 ghost use Rattle.dwarf_forms.specs.Tables.{constant_at, attribute_at, attributes_at};
 ghost use Rattle.dwarf_forms.specs.Private.Index.{ContainsNames};

@@ -1,9 +1,7 @@
 //! An index of abbreviation codes (DWARF 5, 7.5.3).
 
 ghost use Rattle.std.specs.Prelude.{◌≡◌, ◌==◌, ◌∷◌, ◌++◌, [], false, length, position, OnOk, OnErr};
-ghost use Rattle.std.specs.List.{list_any};
-ghost use Rattle.std.specs.Ordering.{nat_cmp};
-ghost use Rattle.std.specs.BTreeMap.{get};
+ghost use Rattle.std.specs.{List.list_any, Ordering.nat_cmp, BTreeMap.get};
 ghost use Rattle.dwarf_forms.specs.Private.Codes.{is_code_at};
 
 use std::alloc::{AllocError, Global};

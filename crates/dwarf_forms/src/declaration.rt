@@ -1,7 +1,6 @@
 //! Abbreviation declarations (DWARF 5, 7.5.3).
 
-ghost use Rattle.std.specs.Prelude.{◌≡◌, ◌==◌, false, IfOk, IfSome};
-ghost use Rattle.std.specs.List.{list_any};
+ghost use Rattle.std.specs.{Prelude.{◌≡◌, ◌==◌, false, IfOk, IfSome}, List.list_any};
 ghost use Rattle.dwarf_bytes.specs.Refusals.{ReadsNext};
 ghost use Rattle.dwarf_forms.specs.Tables.{head_at};
 

@@ -3,9 +3,7 @@
 
 ghost use Rattle.std.specs.Prelude.{◌≡◌, ◌++◌, ◌≤◌, ◌↔◌, List, Option, ℕ, ℤ, Ok, Err, length};
 ghost use Rattle.std.specs.Prelude.{if◌then◌else◌};
-ghost use Rattle.dwarf_bytes.specs.declared.fault.Cause.TheVariants as causes;
-ghost use Rattle.dwarf_bytes.specs.Items.{without_offset, items_from};
-ghost use Rattle.dwarf_bytes.specs.Numbers.{IsEncodedAt};
+ghost use Rattle.dwarf_bytes.specs.{Items.{without_offset, items_from}, Numbers.IsEncodedAt};
 ghost use Rattle.dwarf_bytes.specs.declared.format.Format.{Format};
 ghost use Rattle.dwarf_forms.specs.Declarations.{Declaration, EncodesTable, AreValid};
 ghost use Rattle.dwarf_forms.specs.declared.attribute.AttributeSpecification.{
@@ -13,6 +11,7 @@ ghost use Rattle.dwarf_forms.specs.declared.attribute.AttributeSpecification.{
 };
 ghost use Rattle.dwarf_forms.specs.Tables.{attribute_at, attributes_at, shares_name, table_at};
 ghost use Rattle.dwarf_forms.specs.Values.{Value, Spells, value_at};
+ghost use Rattle.dwarf_bytes.specs.declared.fault.Cause.TheVariants as causes;
 
 /// A table is read if and only if an encoding of it is at the offset, it is valid, and it has at
 /// most `budget` declarations.

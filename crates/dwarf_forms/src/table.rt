@@ -1,12 +1,11 @@
 //! Abbreviation tables (DWARF 5, 7.5.3).
 
 ghost use Rattle.std.specs.Prelude.{◌≡◌, ◌+◌, ◌≤◌, ◌==◌, [], ◌∷◌, ◌++◌, false, length, IfOk, OnOk};
-ghost use Rattle.std.specs.Prelude.{OnErr, IfSome};
-ghost use Rattle.std.specs.List.{list_any};
-ghost use Rattle.dwarf_bytes.specs.declared.fault.Section.TheVariants as sections;
+ghost use Rattle.std.specs.{Prelude.{OnErr, IfSome}, List.list_any};
 ghost use Rattle.dwarf_bytes.specs.Refusals.{Decodes, in_section, ReadsNext};
 ghost use Rattle.dwarf_forms.specs.Tables.{codes_of, declarations_of, head_at};
 ghost use Rattle.dwarf_forms.specs.Steps.{ExtendsTable};
+ghost use Rattle.dwarf_bytes.specs.declared.fault.Section.TheVariants as sections;
 
 use crate::attribute::attributes;
 use crate::code_index::CodeIndex;

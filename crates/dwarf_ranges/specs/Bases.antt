@@ -5,21 +5,16 @@ use Rattle.std.specs.Prelude.{if◌then◌else◌}
 use Rattle.dwarf_bytes.specs.declared.constants.TheConstants.{DW_AT_ADDR_BASE, DW_AT_LOW_PC}
 use Rattle.dwarf_bytes.specs.declared.constants.TheConstants.{DW_AT_RNGLISTS_BASE}
 use Rattle.dwarf_bytes.specs.declared.constants.TheConstants.{DW_AT_STR_OFFSETS_BASE, DW_FORM_ADDR}
-use Rattle.dwarf_bytes.specs.declared.fault.Cause.{Cause}
-use Rattle.dwarf_bytes.specs.declared.fault.Cause.TheVariants as causes
-use Rattle.dwarf_bytes.specs.declared.fault.ReadFault.{ReadFault}
-use Rattle.dwarf_bytes.specs.declared.format.Format.{Format}
-use Rattle.dwarf_bytes.specs.declared.tables.TableKind.{TableKind}
+use Rattle.dwarf_bytes.specs.{declared.fault.Cause.Cause, declared.fault.ReadFault.ReadFault}
+use Rattle.dwarf_bytes.specs.{declared.format.Format.Format, declared.tables.TableKind.TableKind}
 use Rattle.dwarf_bytes.specs.declared.tables.TableKind.TheVariants.{StrOffsets, Addr, RngLists}
-use Rattle.dwarf_bytes.specs.Bind.{◌>>=◌}
-use Rattle.dwarf_bytes.specs.Items.{reading, refuse_if}
-use Rattle.dwarf_bytes.specs.Numbers.{u64_at, offset_len, offset_at}
-use Rattle.dwarf_bytes.specs.Tables.{table_before}
-use Rattle.dwarf_units.specs.declared.attributes.AttributeValue.{AttributeValue}
-use Rattle.dwarf_units.specs.Entries.{Die, attribute}
+use Rattle.dwarf_bytes.specs.{Bind.◌>>=◌, Items.{reading, refuse_if}, Numbers.{u64_at, offset_len}}
+use Rattle.dwarf_bytes.specs.{Numbers.offset_at, Tables.table_before}
+use Rattle.dwarf_units.specs.{declared.attributes.AttributeValue.AttributeValue, Entries.Die}
+use Rattle.dwarf_units.specs.Entries.{attribute}
 use Rattle.dwarf_walk.specs.Sections.{Sections}
-use Rattle.dwarf_ranges.specs.declared.bases.Table.{Table}
-use Rattle.dwarf_ranges.specs.declared.bases.Bases.{Bases}
+use Rattle.dwarf_ranges.specs.{declared.bases.Table.Table, declared.bases.Bases.Bases}
+use Rattle.dwarf_bytes.specs.declared.fault.Cause.TheVariants as causes
 
 -- The bases of a unit without a root.
 abbrev pub no_bases : Bases

@@ -5,24 +5,21 @@ use Rattle.std.specs.Prelude.{ok_or, option_to_list, flat_map, slice_get}
 use Rattle.dwarf_bytes.specs.declared.constants.TheConstants.{DW_AT_HIGH_PC, DW_AT_LOW_PC}
 use Rattle.dwarf_bytes.specs.declared.constants.TheConstants.{DW_AT_RANGES, DW_FORM_RNGLISTX}
 use Rattle.dwarf_bytes.specs.declared.fault.Cause.{Cause}
-use Rattle.dwarf_bytes.specs.declared.fault.Cause.TheVariants as causes
-use Rattle.dwarf_bytes.specs.declared.tables.TableKind.TheVariants.{Addr, RngLists}
-use Rattle.dwarf_bytes.specs.Bind.{◌>>=◌}
+use Rattle.dwarf_bytes.specs.{declared.tables.TableKind.TheVariants.{Addr, RngLists}, Bind.◌>>=◌}
 use Rattle.dwarf_bytes.specs.Items.{Next, Item, End, reading, refuse_if, without_offset, items_from}
-use Rattle.dwarf_bytes.specs.Refusals.{Fails}
-use Rattle.dwarf_bytes.specs.Numbers.{u8_at, u64_at, uleb_at}
-use Rattle.dwarf_ranges.specs.declared.range.Range.{Range}
-use Rattle.dwarf_ranges.specs.declared.bases.Bases.{Bases}
+use Rattle.dwarf_bytes.specs.{Refusals.Fails, Numbers.{u8_at, u64_at, uleb_at}}
+use Rattle.dwarf_ranges.specs.{declared.range.Range.Range, declared.bases.Bases.Bases}
 use Rattle.dwarf_ranges.specs.declared.range_entries.Operand.{Operand}
 use Rattle.dwarf_ranges.specs.declared.range_entries.Operand.TheVariants.{Index, Address, Number}
 use Rattle.dwarf_ranges.specs.declared.range_entries.Operands.{Operands}
 use Rattle.dwarf_ranges.specs.declared.range_entries.RangeListEntry.{RangeListEntry}
 use Rattle.dwarf_ranges.specs.declared.range_entries.RangeListEntry.TheVariants.{Base, Covers}
+use Rattle.dwarf_ranges.specs.Bases.{item_at, address_of}
 use Rattle.dwarf_walk.specs.Sections.{Sections}
 use Rattle.dwarf_units.specs.Attributes.{is_among, address_forms}
-use Rattle.dwarf_units.specs.declared.attributes.AttributeValue.{AttributeValue}
-use Rattle.dwarf_units.specs.Entries.{Die, attribute}
-use Rattle.dwarf_ranges.specs.Bases.{item_at, address_of}
+use Rattle.dwarf_units.specs.{declared.attributes.AttributeValue.AttributeValue, Entries.Die}
+use Rattle.dwarf_units.specs.Entries.{attribute}
+use Rattle.dwarf_bytes.specs.declared.fault.Cause.TheVariants as causes
 
 -- A range is nonempty, and its addresses have 64 bits.
 abbrev pub IsValidRange : Range → Type 0

@@ -1,7 +1,6 @@
 -- A bitmap of offsets in a section: one bit for each byte, in words of 64 bits.
 use Rattle.std.specs.Prelude.{◌≡◌, ℕ, ◌/◌, ◌%◌, List, map, Bool, ◌==◌, ◌||◌, slice_index}
-use Rattle.std.specs.List.{list_any}
-use Rattle.std.specs.Int.{bit_at}
+use Rattle.std.specs.{List.list_any, Int.bit_at}
 use Rattle.dwarf_walk.specs.declared.entry_bitmap.EntryBitmap.{EntryBitmap}
 use Rattle.dwarf_units.specs.Entries.{Die}
 

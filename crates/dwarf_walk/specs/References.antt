@@ -1,12 +1,9 @@
 -- The reference of an entry to the next one of its origin chain (DWARF 5, 2.13 and 7.5.5).
 use Rattle.std.specs.Prelude.{Option, Some, None, ◌==◌, if◌then◌else◌}
-use Rattle.dwarf_bytes.specs.declared.constants.TheConstants.{
-  DW_AT_ABSTRACT_ORIGIN,
-  DW_AT_SPECIFICATION,
-  DW_FORM_REF_SIG8,
-}
-use Rattle.dwarf_units.specs.declared.attributes.AttributeValue.{AttributeValue}
-use Rattle.dwarf_units.specs.Entries.{Die, attribute}
+use Rattle.dwarf_bytes.specs.declared.constants.TheConstants.{DW_AT_ABSTRACT_ORIGIN}
+use Rattle.dwarf_bytes.specs.declared.constants.TheConstants.{DW_AT_SPECIFICATION, DW_FORM_REF_SIG8}
+use Rattle.dwarf_units.specs.{declared.attributes.AttributeValue.AttributeValue, Entries.Die}
+use Rattle.dwarf_units.specs.Entries.{attribute}
 
 -- The first of two values if it is present, otherwise the second.
 abbrev pub or_else : {X : Type 0} → Option X → Option X → Option X

@@ -1,7 +1,6 @@
 -- The sections that the entries are read from (DWARF 5, 7.1), as lists of bytes.
 use Rattle.std.specs.Prelude.{ℕ, List, take, drop}
-use Rattle.dwarf_bytes.specs.declared.layout.Span.{Span}
-use Rattle.dwarf_bytes.specs.declared.layout.Layout.{Layout}
+use Rattle.dwarf_bytes.specs.{declared.layout.Span.Span, declared.layout.Layout.Layout}
 use Rattle.dwarf_walk.specs.declared.sections.Sections.{Sections as Lent}
 
 pub record Sections : Type 0 where

@@ -1,7 +1,6 @@
 //! The number of scopes below each scope of a unit.
 
-ghost use Rattle.std.specs.Prelude.{◌≡◌, IfOk};
-ghost use Rattle.std.specs.List.{prefix_len};
+ghost use Rattle.std.specs.{Prelude.{◌≡◌, IfOk}, List.prefix_len};
 ghost use Rattle.dwarf_walk.specs.Private.WalkedScopes.{AreBounded, counted_places, is_deeper};
 
 use crate::packed::narrow;

@@ -1,30 +1,27 @@
 //! Re-reading of entries at their offsets.
 
 ghost use Rattle.std.specs.Prelude.{◌≡◌, ◌<◌, ◌≤◌, ◌==◌, ◌⊎◌, ℕ, true, if◌then◌else◌, List, Some};
-ghost use Rattle.std.specs.Prelude.{Ok, OnOk, IfSome, ◌-◌, take};
-ghost use Rattle.dwarf_bytes.specs.declared.fault.Cause.TheVariants as causes;
+ghost use Rattle.std.specs.Prelude.{Ok, OnOk, take};
 ghost use Rattle.dwarf_bytes.specs.Refusals.{Gives};
-ghost use Rattle.dwarf_forms.specs.Declarations.{Declaration};
-ghost use Rattle.dwarf_forms.specs.Tables.{declarations_of};
+ghost use Rattle.dwarf_forms.specs.{Declarations.Declaration, Tables.declarations_of};
 ghost use Rattle.dwarf_units.specs.Units.{declarations_limit};
 ghost use Rattle.dwarf_walk.specs.declared.unit_entries.NamedEntry.{NamedEntry as Named};
 ghost use Rattle.dwarf_walk.specs.Sections.{Sections as SectionBytes, sections_of};
-ghost use Rattle.dwarf_walk.specs.Private.Rereading.{ReturnsAndStores, scope_entry_at, IsReaderOf};
-ghost use Rattle.dwarf_walk.specs.Private.Rereading.{len_at, cached_by, HasTableOf};
+ghost use Rattle.dwarf_walk.specs.Private.Rereading.{scope_entry_at, IsReaderOf, len_at, cached_by};
+ghost use Rattle.dwarf_walk.specs.Private.Rereading.{HasTableOf};
 ghost use Rattle.dwarf_walk.specs.Private.Rereading.{HasPermanentTable, IsShort, IsCachedAt};
-ghost use Rattle.dwarf_walk.specs.Private.Rereading.{GivesNames};
-ghost use Rattle.dwarf_walk.specs.EntryBitmap.{has_entry};
+ghost use Rattle.dwarf_walk.specs.{Private.Rereading.GivesNames, EntryBitmap.has_entry};
 ghost use Rattle.dwarf_walk.specs.Private.Long.{cached_at, long_entry};
-ghost use Rattle.dwarf_walk.specs.Private.Named.{used_by_name_at, named_entry_at};
+ghost use Rattle.dwarf_walk.specs.Private.Named.{named_entry_at};
+ghost use Rattle.dwarf_bytes.specs.declared.fault.Cause.TheVariants as causes;
 
 use crate::entry_bitmap::EntryBitmap;
 use crate::long_entries::LongEntries;
 use crate::scope_kind::kind_of;
 use crate::sections::Sections;
 use crate::unit_entries::{NamedEntry, ScopeEntry};
-use crate::walk::unit_bytes;
-use dwarf_bytes::{Cause, Cursor};
-use dwarf_units::{FixedSizeEntry, Tables, UnitHeader, UsedAttributes};
+use dwarf_bytes::Cause;
+use dwarf_units::{Tables, UnitHeader, UsedAttributes};
 use std::alloc::{AllocError, Global};
 
 /// The size in bytes above which an entry is cached, so that it is not re-read for each reference
@@ -35,16 +32,16 @@ const LONG: usize = 256;
 /// `.debug_info`.
 #[derive(Drop)]
 pub struct EntryReader<'a> {
-    alloc: Global,
-    info: &'a [u8],
+    pub(crate) alloc: Global,
+    pub(crate) info: &'a [u8],
     /// The abbreviation tables of the units.
     pub tables: Tables<'a>,
     /// The index of the table that was used last.
-    number: usize,
+    pub(crate) number: usize,
     /// The used attributes of the entry that was read last.
-    found: UsedAttributes,
+    pub(crate) found: UsedAttributes,
     /// The size in bytes of that entry.
-    len: usize,
+    pub(crate) len: usize,
     /// The cached results for long entries: their names and references.
     pub(crate) long: LongEntries,
 }
@@ -64,59 +61,6 @@ impl<'a> EntryReader<'a> {
             len: 0,
             long: LongEntries::new(alloc),
         }
-    }
-
-    /// Returns the entry at an offset in the unit of `header`, if all of its attributes have a fixed
-    /// size and the table of the unit is the one that was used last.
-    // Inlined: called for each scope and each reference.
-    #[inline(always)]
-    fn fixed_size_entry(&self, header: &UnitHeader, offset: usize) -> Option<FixedSizeEntry<'_>>
-        ensures entry { IfSome result (λ entry. (table : List Declaration) → declarations_of
-            declarations_limit self.now.tables.section header.now.abbreviations ≡ Ok table
-            → used_by_name_at header.now.format table (take header.now.«end» self.now.info.now)
-            offset ≡ Ok (entry.tag, entry.values)) }
-        ensures len { IfSome result (λ entry. (table : List Declaration) → declarations_of
-            declarations_limit self.now.tables.section header.now.abbreviations ≡ Ok table
-            → len_at header.now.format table (take header.now.«end» self.now.info.now) offset
-            ≡ Ok (entry.after - offset)) }
-        ensures number { IfSome result (λ _. HasTableOf header.now self.now) }
-    {
-        if !self.tables.is_number_of(header, self.number) {
-            return None;
-        }
-        let table = self.tables.table(self.number);
-        table.fixed_size_entry(unit_bytes(self.info, header), offset)
-    }
-
-    /// Reads the entry at an offset in the unit of `header` into `found`, and returns its tag.
-    // Not inlined: it is rare, and its code would slow down the caller.
-    #[cold]
-    #[inline(never)]
-    fn entry(&mut self, header: &UnitHeader, offset: usize) -> Result<u64, Cause>
-        ensures entry { (table : List Declaration) → declarations_of declarations_limit
-            self.old.tables.section header.now.abbreviations ≡ Ok table
-            → ReturnsAndStores result self.new.found (used_by_name_at header.now.format table
-            (take header.now.«end» self.old.info.now) offset) }
-        ensures section { self.new.tables.section ≡ self.old.tables.section }
-        ensures info { self.new.info.now ≡ self.old.info.now }
-        ensures long { self.new.long ≡ self.old.long }
-        ensures number { OnOk result (HasTableOf header.now self.new) }
-        ensures len { OnOk result ((table : List Declaration) → declarations_of declarations_limit
-            self.old.tables.section header.now.abbreviations ≡ Ok table
-            → len_at header.now.format table (take header.now.«end» self.old.info.now) offset
-            ≡ Ok self.new.len) }
-    {
-        let number = match self.tables.number_of(self.alloc, header, self.number) {
-            Ok(number) => number,
-            Err(fault) => return Err(fault.cause),
-        };
-        self.number = number;
-        let mut cursor = Cursor::new(unit_bytes(self.info, header));
-        cursor.seek(offset)?;
-        let table = self.tables.table(number);
-        let tag = table.read_entry(&mut cursor, &mut self.found)?;
-        self.len = cursor.place().saturating_sub(offset);
-        Ok(tag)
     }
 
     /// Re-reads the scope at an offset in the unit of `header`. Fails with `Cause::Reference` if

@@ -3,8 +3,7 @@
 
 ghost use Rattle.std.specs.Prelude.{◌≡◌, ◌≤◌, ◌<◌, length, min, true, false, OnOk, is_some};
 ghost use Rattle.std.specs.Prelude.{if◌then◌else◌};
-ghost use Rattle.dwarf_units.specs.Entries.{Node, depth_limit};
-ghost use Rattle.dwarf_units.specs.NodeShapes.{HasShape};
+ghost use Rattle.dwarf_units.specs.{Entries.{Node, depth_limit}, NodeShapes.HasShape};
 ghost use Rattle.dwarf_walk.specs.Private.Readers.{AddsNode, Takes, state_of, after_scope};
 
 use crate::descendants::WalkedScope;

@@ -3,6 +3,7 @@
 #![tactic(auto)]
 
 mod descendants;
+mod entry_at;
 mod entry_bitmap;
 mod entry_reader;
 mod fast_path;

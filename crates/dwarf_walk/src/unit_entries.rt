@@ -1,11 +1,9 @@
 //! The data that is stored for the entries of a unit.
 
 ghost use Rattle.std.specs.Prelude.{◌≡◌, List, Some};
-ghost use Rattle.dwarf_units.specs.declared.attributes.Attribute.{Attribute};
-ghost use Rattle.dwarf_units.specs.Used.{used_among};
+ghost use Rattle.dwarf_units.specs.{declared.attributes.Attribute.Attribute, Used.used_among};
 ghost use Rattle.dwarf_walk.specs.Stored.{named_entry, scope_entry, root_entry};
-ghost use Rattle.dwarf_walk.specs.References.{entry_reference};
-ghost use Rattle.dwarf_walk.specs.Private.Readers.{die_with};
+ghost use Rattle.dwarf_walk.specs.{References.entry_reference, Private.Readers.die_with};
 
 use crate::scope_kind::ScopeKind;
 use dwarf_bytes::constants::DW_FORM_REF_SIG8;

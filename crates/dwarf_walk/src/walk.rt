@@ -1,16 +1,14 @@
 //! The walk over the entries of a unit (DWARF 5, 2.3, 7.5.2 and 7.5.3).
 
 ghost use Rattle.std.specs.Prelude.{◌≡◌, ◌<◌, ◌≤◌, ℕ, List, [], length, None, Ok, IsSome, IfOk};
-ghost use Rattle.std.specs.Prelude.{OnOk, not, take};
-ghost use Rattle.dwarf_bytes.specs.declared.fault.Section.TheVariants as sections;
+ghost use Rattle.std.specs.{Prelude.{OnOk, not, take}, List.filter_map};
 ghost use Rattle.dwarf_bytes.specs.Refusals.{Decodes, in_section};
-ghost use Rattle.std.specs.List.{filter_map};
 ghost use Rattle.dwarf_units.specs.Entries.{Die, LocatedNode, depth_limit, die_of, node_at_depth};
 ghost use Rattle.dwarf_units.specs.Entries.{entries_of};
-ghost use Rattle.dwarf_walk.specs.Stored.{stored_of, stored_entries};
-ghost use Rattle.dwarf_walk.specs.EntryBitmap.{AddsOffsets, offsets_of};
-ghost use Rattle.dwarf_walk.specs.Private.Readers.{IsAfterEntry, ReadsNode, Takes, state_of};
-ghost use Rattle.dwarf_walk.specs.Private.Readers.{nodes_of, walk_of};
+ghost use Rattle.dwarf_walk.specs.{Stored.{stored_of, stored_entries}, EntryBitmap.AddsOffsets};
+ghost use Rattle.dwarf_walk.specs.{EntryBitmap.offsets_of, Private.Readers.IsAfterEntry};
+ghost use Rattle.dwarf_walk.specs.Private.Readers.{ReadsNode, Takes, state_of, nodes_of, walk_of};
+ghost use Rattle.dwarf_bytes.specs.declared.fault.Section.TheVariants as sections;
 
 use crate::descendants::{WalkedScope, count_descendants};
 use crate::entry_bitmap::EntryBitmap;

@@ -1,15 +1,11 @@
 -- The invariant of the memo, and what the memo reads.
 use Rattle.std.specs.Prelude.{◌≡◌, ℕ, ◌<◌, ◌≤◌, ◌==◌, List, [], ◌++◌, length, Bool, true, false}
-use Rattle.std.specs.Prelude.{Some, Ok}
-use Rattle.std.specs.List.{list_any}
-use Rattle.std.specs.Ordering.{nat_cmp}
-use Rattle.std.specs.BTreeMap.{BTreeMap, get}
+use Rattle.std.specs.{Prelude.{Some, Ok}, List.list_any, Ordering.nat_cmp, BTreeMap.{BTreeMap, get}}
 use Rattle.dwarf_forms.specs.declared.attribute.AttributeSpecification.{AttributeSpecification}
 use Rattle.dwarf_forms.specs.Tables.{attributes_at, shares_name}
 use Rattle.abbreviation_memo.specs.declared.memoized_lists.Memo.{Memo}
 use Rattle.abbreviation_memo.specs.declared.name_sets.Branch.{Branch}
-use Rattle.abbreviation_memo.specs.declared.shared.TheConstants.{UNSHARED}
-use Rattle.abbreviation_memo.specs.Lists.{list_at}
+use Rattle.abbreviation_memo.specs.{declared.shared.TheConstants.UNSHARED, Lists.list_at}
 use Rattle.abbreviation_memo.specs.Private.NameSets.{is_in}
 
 -- the set contains the names of the attributes

@@ -1,7 +1,6 @@
 -- Sets of names as binary tries.
 use Rattle.std.specs.Prelude.{◌≡◌, ℕ, ◌<◌, ◌≤◌, ◌==◌, List, [], ◌∷◌, length, reverse, get_or, Bool}
-use Rattle.std.specs.Prelude.{false, if◌then◌else◌, All, Some, slice_get}
-use Rattle.std.specs.Int.Digits.{digits_of}
+use Rattle.std.specs.{Prelude.{false, if◌then◌else◌, All, Some, slice_get}, Int.Digits.digits_of}
 use Rattle.abbreviation_memo.specs.declared.name_sets.Branch.{Branch}
 
 -- the node without names

@@ -1,9 +1,7 @@
 -- Abbreviation codes and their index.
 use Rattle.std.specs.Prelude.{◌≡◌, ◌≢◌, ◌⊎◌, ℕ, ◌+◌, List, Bool, false, Some, slice_get, ◌==◌}
-use Rattle.std.specs.Prelude.{AllPairs}
-use Rattle.std.specs.Option.{option_map_or}
-use Rattle.std.specs.Ordering.{nat_cmp}
-use Rattle.std.specs.BTreeMap.{BTreeMap, get}
+use Rattle.std.specs.{Prelude.AllPairs, Option.option_map_or, Ordering.nat_cmp, BTreeMap.BTreeMap}
+use Rattle.std.specs.BTreeMap.{get}
 
 -- The codes are distinct. Each is its index + 1 or has its index in the map, and the map has no
 -- other index.

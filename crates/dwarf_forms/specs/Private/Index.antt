@@ -1,7 +1,5 @@
 -- The set that is used to look up names.
-use Rattle.std.specs.Prelude.{◌≡◌, ℕ, List, ◌==◌}
-use Rattle.std.specs.List.{list_any}
-use Rattle.std.specs.Ordering.{nat_cmp}
+use Rattle.std.specs.{Prelude.{◌≡◌, ℕ, List, ◌==◌}, List.list_any, Ordering.nat_cmp}
 use Rattle.std.specs.BTreeSet.{BTreeSet, contains}
 use Rattle.dwarf_forms.specs.declared.attribute.AttributeSpecification.{AttributeSpecification}
 

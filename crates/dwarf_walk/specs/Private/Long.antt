@@ -1,11 +1,8 @@
 -- The cache of long entries, for the contracts of the entry reader.
-use Rattle.std.specs.Prelude.{◌≡◌, ℕ, List, take, Option, Some, Ok}
-use Rattle.std.specs.BTreeMap.{get}
+use Rattle.std.specs.{Prelude.{◌≡◌, ℕ, List, take, Option, Some, Ok}, BTreeMap.get}
 use Rattle.std.specs.Ordering.{nat_cmp}
-use Rattle.dwarf_forms.specs.Declarations.{Declaration}
-use Rattle.dwarf_forms.specs.Tables.{declarations_of}
-use Rattle.dwarf_units.specs.declared.unit_headers.UnitHeader.{UnitHeader}
-use Rattle.dwarf_units.specs.Units.{declarations_limit}
+use Rattle.dwarf_forms.specs.{Declarations.Declaration, Tables.declarations_of}
+use Rattle.dwarf_units.specs.{declared.unit_headers.UnitHeader.UnitHeader, Units.declarations_limit}
 use Rattle.dwarf_walk.specs.declared.unit_entries.NamedEntry.{NamedEntry}
 use Rattle.dwarf_walk.specs.declared.long_entries.LongEntry.{LongEntry}
 use Rattle.dwarf_walk.specs.declared.long_entries.LongEntries.{LongEntries}

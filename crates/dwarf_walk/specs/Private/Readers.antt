@@ -1,30 +1,21 @@
 -- The effect of each step of the walk, for the contracts of its parts.
 use Rattle.std.specs.Prelude.{◌≡◌, ℕ, ◌+◌, ◌-◌, List, [], ◌∷◌, ◌++◌, Bool, Option, Some, None}
-use Rattle.std.specs.Prelude.{is_some, Result, Ok, Err, if◌then◌else◌, take}
-use Rattle.std.specs.List.{filter_map}
-use Rattle.dwarf_bytes.specs.declared.fault.Cause.{Cause}
-use Rattle.dwarf_bytes.specs.declared.format.Format.{Format}
-use Rattle.dwarf_bytes.specs.Bind.{◌>>=◌}
-use Rattle.dwarf_bytes.specs.Items.{At, items_from}
-use Rattle.dwarf_bytes.specs.Position.{Position}
-use Rattle.dwarf_bytes.specs.Refusals.{Fails}
+use Rattle.std.specs.{Prelude.{is_some, Result, Ok, Err, if◌then◌else◌, take}, List.filter_map}
+use Rattle.dwarf_bytes.specs.{declared.fault.Cause.Cause, declared.format.Format.Format, Bind.◌>>=◌}
+use Rattle.dwarf_bytes.specs.{Items.{At, items_from}, Position.Position, Refusals.Fails}
 use Rattle.dwarf_forms.specs.Declarations.{Declaration}
 use Rattle.dwarf_units.specs.declared.attributes.Attribute.{Attribute}
-use Rattle.dwarf_walk.specs.declared.walk.NodeHead.{NodeHead}
-use Rattle.dwarf_walk.specs.declared.walk.Walk.{Walk}
+use Rattle.dwarf_units.specs.{declared.unit_headers.UnitHeader.UnitHeader, Entries.{Node, Entry}}
+use Rattle.dwarf_units.specs.Entries.{Null, LocatedNode, Die, die_of, depth_after, node_at_depth}
+use Rattle.dwarf_units.specs.{Entries.node_at, Private.StoredAttributes.stored_attributes}
+use Rattle.dwarf_units.specs.Used.{Used, used_among}
+use Rattle.dwarf_walk.specs.{declared.walk.NodeHead.NodeHead, declared.walk.Walk.Walk}
 use Rattle.dwarf_walk.specs.declared.descendants.WalkedScope.{WalkedScope}
 use Rattle.dwarf_walk.specs.declared.unit_entries.RootEntry.{RootEntry}
 use Rattle.dwarf_walk.specs.declared.entry_bitmap.EntryBitmap.{EntryBitmap}
-use Rattle.dwarf_units.specs.declared.unit_headers.UnitHeader.{UnitHeader}
-use Rattle.dwarf_units.specs.Entries.{Node, Entry, Null, LocatedNode, Die, die_of, depth_after}
-use Rattle.dwarf_units.specs.Entries.{node_at_depth, node_at}
-use Rattle.dwarf_walk.specs.Private.WalkedScopes.{walked_scope, walked_scopes}
-use Rattle.dwarf_walk.specs.Private.WalkedScopes.{least_after_entry, least_after}
-use Rattle.dwarf_walk.specs.Stored.{root_entry, root_in}
-use Rattle.dwarf_units.specs.Private.StoredAttributes.{stored_attributes}
-use Rattle.dwarf_units.specs.Used.{Used, used_among}
-use Rattle.dwarf_walk.specs.References.{or_else}
-use Rattle.dwarf_walk.specs.EntryBitmap.{AddsOffsets}
+use Rattle.dwarf_walk.specs.Private.WalkedScopes.{walked_scope, walked_scopes, least_after_entry}
+use Rattle.dwarf_walk.specs.{Private.WalkedScopes.least_after, Stored.{root_entry, root_in}}
+use Rattle.dwarf_walk.specs.{References.or_else, EntryBitmap.AddsOffsets}
 
 -- An entry with an offset and attributes. Its tag and its depth are irrelevant.
 abbrev pub die_with : ℕ → List Attribute → Die

@@ -2,9 +2,8 @@
 use Rattle.std.specs.Prelude.{ℕ, ◌+◌, ◌≤◌, min, List, [], ◌∷◌, ◌++◌, Bool, if◌then◌else◌, nat_lt}
 use Rattle.std.specs.List.{All, prefix_len}
 use Rattle.dwarf_walk.specs.declared.descendants.WalkedScope.{WalkedScope}
-use Rattle.dwarf_walk.specs.declared.unit_entries.ScopePlace.{ScopePlace}
+use Rattle.dwarf_walk.specs.{declared.unit_entries.ScopePlace.ScopePlace, ScopeEntries.is_scope}
 use Rattle.dwarf_units.specs.Entries.{Die}
-use Rattle.dwarf_walk.specs.ScopeEntries.{is_scope}
 
 -- The scope of an entry, if it is one. `least` is the least depth of the entries since the scope
 -- before it.

@@ -29,4 +29,5 @@ invariant_of-self-2 c =
     let at = c.in_ok-next.ensures.member there.0 there.2 in
     with-parts c.self-2.invariant same are.reader_is (cache-more c.args.self.now.sections _
     c.self-2.inside.cache c.put.new.self c.in-Some.place c.in_ok-names.names are.cache_is
-    c.in_ok-put.ensures.ok there.0 there.1 ((rw c.in_ok-next.ensures.same at c.in_ok-names.ensures.names) there.0 at))
+    c.in_ok-put.ensures.ok there.0 there.1
+    ((rw c.in_ok-next.ensures.same at c.in_ok-names.ensures.names) there.0 at))
