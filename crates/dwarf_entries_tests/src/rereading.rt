@@ -2,7 +2,9 @@
 
 use crate::fixtures::*;
 use dwarf_bytes::{Cause, Cursor};
-use dwarf_units::{AttributeValue, EntryValues, Tables, UnitTable, UsedAttributes, UsedName, units};
+use dwarf_units::{
+    AttributeValue, EntryValues, Tables, UnitTable, UsedAttributes, UsedName, units,
+};
 use std::process::Abort;
 use std::test::*;
 
