@@ -8,6 +8,27 @@ use dwarf_units::{
 use std::process::Abort;
 use std::test::*;
 
+/// Validates the abbreviation table of a unit. Also returns its index.
+fn tables_of<'a>(
+    rt: &(impl Abort + AllocGlobal),
+    info: &[u8],
+    table: &'a [u8],
+) -> (Tables<'a>, usize) {
+    let Ok(headers) = units(rt.alloc(), info) else {
+        panic!(rt; "the unit is refused");
+    };
+    let Ok(mut tables) = Tables::validate(rt.alloc(), table, &headers) else {
+        panic!(rt; "the table is refused");
+    };
+    let Some(header) = headers.first() else {
+        panic!(rt; "no unit");
+    };
+    let Ok(number) = tables.number_of(rt.alloc(), header, 0) else {
+        panic!(rt; "no table");
+    };
+    (tables, number)
+}
+
 /// Reads the subprogram of a unit, which is at offset 13, with attributes of these names and
 /// forms. Checks the values of its name and its high_pc, the absence of low_pc, and the end of the
 /// entry. Checks that the null entry after it is refused.
@@ -21,18 +42,7 @@ fn is_read(
 ) {
     let table = declarations(rt, (&[], &[]), (forms, &[]));
     let info = one_scope(rt, (&[], &[]), (&[], values));
-    let Ok(headers) = units(rt.alloc(), &info) else {
-        panic!(rt; "the unit is refused");
-    };
-    let Ok(mut tables) = Tables::validate(rt.alloc(), &table, &headers) else {
-        panic!(rt; "the table is refused");
-    };
-    let Some(header) = headers.first() else {
-        panic!(rt; "no unit");
-    };
-    let Ok(number) = tables.number_of(rt.alloc(), header, 0) else {
-        panic!(rt; "no table");
-    };
+    let (tables, number) = tables_of(rt, &info, &table);
     is_entry(rt, &tables.table(number), &info, name, high_pc, end);
 }
 
@@ -88,4 +98,66 @@ fn entry_of_a_long_list(rt: HostRuntime) {
     // name as string, high_pc as data1
     put(&rt, &mut forms, &[0x03, 0x08, 0x12, 0x0b]);
     is_read(&rt, &forms, &[7, 8, 0x66, 0, 9], 16, 9, 19);
+}
+
+/// Returns the form and the number of a value.
+fn parts_of(value: Option<AttributeValue>) -> Option<(u64, u64)> {
+    match value {
+        Some(value) => Some((value.form, value.number)),
+        None => None,
+    }
+}
+
+/// Checks whether the entry at an offset has a fixed size and is not truncated.
+fn is_fixed(rt: &impl Abort, table: &UnitTable<'_>, info: &[u8], place: usize, fixed: bool) {
+    are_equal(rt, table.fixed_size_entry(info, place).is_some(), fixed);
+}
+
+/// Reads the values of an entry of a fixed size by their names.
+#[test]
+fn values_at_their_positions(rt: HostRuntime) {
+    // subprogram: low_pc as addr, high_pc as data4, decl_file as data1, name as strp,
+    // abstract_origin as ref4, call_file as implicit_const 3, call_line as data2
+    let forms = [
+        0x11, 0x01, 0x12, 0x06, 0x3a, 0x0b, 0x03, 0x0e, 0x31, 0x13, 0x58, 0x21, 3, 0x59, 0x05,
+    ];
+    let values = [
+        0x10, 0x20, 0, 0, 0, 0, 0, 0, 0x44, 0x33, 0x22, 0x11, 7, 1, 2, 0, 0, 12, 0, 0, 0, 0x39,
+        0x30,
+    ];
+    let table = declarations(&rt, (&[], &[]), (&forms, &[]));
+    let info = one_scope(&rt, (&[], &[]), (&[], &values));
+    let (tables, number) = tables_of(&rt, &info, &table);
+    let table = tables.table(number);
+    let Some(entry) = table.fixed_size_entry(&info, 13) else {
+        panic!(rt; "no entry");
+    };
+    are_equal(&rt, entry.tag, 0x2e);
+    are_equal(&rt, entry.after, 37);
+    let wanted = [
+        (UsedName::LowPc, Some((0x01, 0x2010))),
+        (UsedName::HighPc, Some((0x06, 0x1122_3344))),
+        (UsedName::Name, Some((0x0e, 0x201))),
+        (UsedName::AbstractOrigin, Some((0x13, 12))),
+        (UsedName::CallFile, Some((0x21, 3))),
+        (UsedName::CallLine, Some((0x05, 12_345))),
+        (UsedName::LinkageName, None),
+        (UsedName::Ranges, None),
+    ];
+    for (name, parts) in wanted {
+        are_equal(&rt, parts_of(entry.values.value(name)), parts);
+    }
+    is_fixed(&rt, &table, &info[..36], 13, false);
+    is_fixed(&rt, &table, &info, 37, false);
+    is_fixed(&rt, &table, &info, 39, false);
+}
+
+/// An entry with a string in it has no fixed size.
+#[test]
+fn no_values_of_an_entry_with_a_string(rt: HostRuntime) {
+    // subprogram: name as string, high_pc as data1
+    let table = declarations(&rt, (&[], &[]), (&[0x03, 0x08, 0x12, 0x0b], &[]));
+    let info = one_scope(&rt, (&[], &[]), (&[], &[0x66, 0, 9]));
+    let (tables, number) = tables_of(&rt, &info, &table);
+    is_fixed(&rt, &tables.table(number), &info, 13, false);
 }
