@@ -74,8 +74,6 @@ fn standard(header: &LineEncoding, opcode: u8, cursor: &mut Cursor) -> Result<In
 }
 
 /// Skips `count` unsigned LEB128 operands.
-#[cold]
-#[inline(never)]
 fn skip_ulebs(count: u8, cursor: &mut Cursor) -> Result<(), Cause>
     ensures reads { ReadsPlace result (after_ulebs count) cursor.old cursor.new }
     ensures moves { IfOk result (λ _. cursor.old.place ≤ cursor.new.place) }

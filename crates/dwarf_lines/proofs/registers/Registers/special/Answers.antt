@@ -12,11 +12,12 @@ use Rattle.dwarf_lines.proofs.registers.Registers.special.Goals as goal
 pub returns-clause-made : goal.returns-clause-made
 returns-clause-made c = λ before r.
     let e = encoding c.args.header.now in
+    let change = c.special_line-change in
     let s = special-sums e c.args.adjusted before c.args.self.now c.advance.new.self
     c.move_line.new.self r (rw c.from.ensures at c.advance.ensures.address)
     c.advance.ensures.rest (moves-by c.advance.new.self c.move_line.new.self
-    (line_change (encoding c.args.header.now) (Special c.args.adjusted)) c.special_line.result
-    (record { sfits = c.special_line.type_inv }) c.special_line.ensures.value
+    (line_change (encoding c.args.header.now) (Special c.args.adjusted)) change.result
+    (record { sfits = change.type_inv }) change.ensures.value
     c.move_line.ensures) in
     row_step e c.args.origin (Special c.args.adjusted) before c.move_line.new.self refl refl s.0 s.1
     s.2 (λ kept. s.3 ∙ r.previous kept) s.4 c.make_row.result c.make_row.new.self
@@ -24,11 +25,12 @@ returns-clause-made c = λ before r.
 
 pub returns-clause-line : goal.returns-clause-line
 returns-clause-line c =
-    let line : c.make_row.new.self.line ≡ c.args.self.now.line +ℤ c.special_line.result =
+    let change = c.special_line-change in
+    let line : c.make_row.new.self.line ≡ c.args.self.now.line +ℤ change.result =
     c.make_row.ensures.line ∙ ap (λ (r : Registers). r.line)
-    (moves-by c.advance.new.self c.move_line.new.self c.special_line.result
-    c.special_line.result (record { sfits = c.special_line.type_inv }) refl c.move_line.ensures)
-    ∙ ap (λ (r : Registers). r.line +ℤ c.special_line.result) c.advance.ensures.rest in
-    let small = c.special_line.ensures.small in
+    (moves-by c.advance.new.self c.move_line.new.self change.result
+    change.result (record { sfits = change.type_inv }) refl c.move_line.ensures)
+    ∙ ap (λ (r : Registers). r.line +ℤ change.result) c.advance.ensures.rest in
+    let small = change.ensures.small in
     where-ok c.make_row.result (Reaches c.args.self.now.line c.make_row.new.self.line
     (Special c.args.adjusted)) (rw line (omega (arith, ints)))
