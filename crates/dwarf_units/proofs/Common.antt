@@ -28,7 +28,7 @@ pub use Rattle.dwarf_units.specs.Private.FixedSizes.{layout_len, number_in, used
 pub use Rattle.dwarf_units.specs.{Private.Links.IsLink, Private.Names.{name_of, named_attribute}}
 pub use Rattle.dwarf_units.specs.{Private.Names.used_name, Private.NodeShapes.{AreShapes, shape_at}}
 pub use Rattle.dwarf_units.specs.{Private.Numbers.number_at, Private.Runs.{Run, Runs, Stretch}}
-pub use Rattle.dwarf_units.specs.Private.Runs.{all_at, last_at, own_runs, run_at, run_before}
+pub use Rattle.dwarf_units.specs.Private.Runs.{all_at, last_at, own_runs, run_at, run_before, stretch_at}
 pub use Rattle.dwarf_units.specs.Private.Runs.{runs_at, runs_of, then_read}
 pub use Rattle.dwarf_units.specs.{Private.Slots.{index_in, slot_of}, Private.StoredAttributes.Fills}
 pub use Rattle.dwarf_units.specs.Private.StoredAttributes.{stored_attributes, stored_attributes_at}

@@ -1,19 +1,24 @@
 -- An attribute with a fixed form is read as its value in the layout of the form, or as the
--- constant of its declaration.
+-- constant of its declaration. The value of an attribute of a fixed size is at its position.
 use Rattle.dwarf_units.proofs.Common
 use Common.{ne_eqb, same_Some, arith, ◌≡◌, ℕ, ℤ, List, true, false, refl, ap, sym, ◌∙◌, Bool, cond}
 use Common.{Option, Some, Result, Ok, Err, ◌==◌, None, ReadFault, Cause, Format, Form, Direct}
 use Common.{ImplicitConst, Indirect, ValueLayout, ◌>>=◌, form_of, Content, Signed, content_at}
 use Common.{reading, ValueFault, Value, direct_at, value_at, is_negative, is_negative_count}
 use Common.{accepts, number_of, is_used, AttributeSpecification, Attribute, reading_value}
-use Common.{attribute_at, unchecked_layout}
+use Common.{attribute_at, unchecked_layout, ◌+◌, ◌<◌, ◌≤◌, length, block_at, fixed_at, layout_len}
+use Common.{number_in, used_value, fixed_len, option_map_or}
 use Rattle.std.proofs.Common.{◌&&◌}
 use Rattle.dwarf_bytes.specs.{declared.constants.TheConstants.DW_FORM_INDIRECT, Items.refuse_if}
 use Rattle.dwarf_forms.specs.Values.{reading_value as of_value}
 use Rattle.dwarf_units.specs.Private.Runs.{is_signed, valid_layout}
+use Rattle.dwarf_units.specs.Private.FixedSizes.{constant_len}
+use Rattle.dwarf_bytes.specs.declared.fault.ReadFault.TheVariants as faults
 use Rattle.dwarf_bytes.specs.declared.fault.Cause.TheVariants as causes
+use Rattle.dwarf_forms.specs.declared.values.ValueFault.TheVariants as value_faults
+use Rattle.dwarf_units.specs.declared.used_position.UsedValue.TheVariants.{At}
 
-pub never-count : (name : ℕ) (c : Content) → is_negative c ≡ false
+never-count : (name : ℕ) (c : Content) → is_negative c ≡ false
     → is_negative_count name c ≡ false
 never-count name c h = grind arith
 
@@ -22,84 +27,82 @@ not-indirect : (form : ℕ) (found : Form) → form_of form ≡ Some found → (
 not-indirect form found is apart = ne_eqb form DW_FORM_INDIRECT
     (λ e. apart (same_Some found Indirect (sym is ∙ ap form_of e)))
 
--- ---- a value that is no negative count
-
-abbrev pub IsFine : ℕ → Result (Content × ℕ) ReadFault → Type 0
-IsFine name (Ok c) = is_negative_count name c.0 ≡ false
-IsFine name (Err e) = Unit {0}
-
 -- ---- the attribute
 
--- The content as a value, the value as an attribute, and the attribute after the validation.
+-- A value that is no negative count.
+abbrev IsFine : (Content → Bool) → Result (Content × ℕ) ReadFault → Type 0
+IsFine negative (Ok c) = negative c.0 ≡ false
+IsFine negative (Err e) = Unit {0}
+
+-- The attribute with a number, and the offset after it.
+abbrev pub with_number : AttributeSpecification → ℕ → ℕ → Result (Attribute × ℕ) Cause
+with_number s number end =
+    Ok (record { name = s.name; value = record { form = s.form; number = number } }, end)
+
+-- The content as a value, the content as an attribute, and the value as an attribute after the
+-- validation.
 abbrev as_value : AttributeSpecification → Content × ℕ → Result (Value × ℕ) ValueFault
 as_value s c = Ok (record { form = s.form; content = c.0 }, c.1)
 
 abbrev pub as_attribute : AttributeSpecification → Content × ℕ → Result (Attribute × ℕ) Cause
-as_attribute s c = Ok (
-  record {
-    name = s.name;
-    value =
-        record { form = s.form; number = number_of c.0 c.1 };
-  },
-  c.1,
-)
+as_attribute s c = with_number s (number_of c.0 c.1) c.1
 
-abbrev checked : AttributeSpecification → ℕ → Value × ℕ → Result (Attribute × ℕ) Cause
-checked s form value = refuse_if (is_negative_count s.name value.0.content) causes.AttrForm
-    >>= λ _. Ok (
-      record {
-        name = s.name;
-        value =
-            record { form = form; number = number_of value.0.content value.1 };
-      },
-      value.1,
-    )
+abbrev checked : AttributeSpecification → (Content → Bool) → Value × ℕ
+    → Result (Attribute × ℕ) Cause
+checked s negative value = refuse_if (negative value.0.content) causes.AttrForm
+    >>= λ _. as_attribute s (value.0.content, value.1)
 
-checked-fine : (s : AttributeSpecification) (r : Result (Content × ℕ) ReadFault) → IsFine s.name r
-    → (reading r >>= as_attribute s) ≡ (reading_value (of_value r >>= as_value s)
-    >>= checked s s.form)
-checked-fine s r fine = grind arith
+checked-fine : (s : AttributeSpecification) (negative : Content → Bool)
+    (r : Result (Content × ℕ) ReadFault) → IsFine negative r → (reading r >>= as_attribute s)
+    ≡ (reading_value (of_value r >>= as_value s) >>= checked s negative)
+checked-fine s negative r fine = grind arith
 
 -- An attribute whose form is in its declaration is read as a value of this form.
 attribute-direct : (format : Format) (s : AttributeSpecification) (found : Form) (bytes : List ℕ)
     (at : ℕ) → accepts s.name s.form ≡ true → form_of s.form ≡ Some found
     → (found ≡ Indirect → ⊥) → attribute_at format s bytes at
-    ≡ (reading_value (value_at s.form format s.constant bytes at) >>= checked s s.form)
+    ≡ (reading_value (value_at s.form format s.constant bytes at)
+    >>= checked s (is_negative_count s.name))
 attribute-direct format s found bytes at fine is apart =
     rw (not-indirect s.form found is apart, fine) refl
 
 -- An attribute whose form has a layout is read by the layout, if its value is no negative count.
-pub in-layout : (format : Format) (s : AttributeSpecification) (layout : ValueLayout)
+in-layout : (format : Format) (s : AttributeSpecification) (layout : ValueLayout)
     (bytes : List ℕ) (at : ℕ) → accepts s.name s.form ≡ true → form_of s.form ≡ Some (Direct layout)
-    → IsFine s.name (content_at layout format bytes at)
+    → IsFine (is_negative_count s.name) (content_at layout format bytes at)
     → (reading (content_at layout format bytes at) >>= as_attribute s)
     ≡ attribute_at format s bytes at
 unfolding value_at direct_at
 in-layout format s layout bytes at fine is valid =
-    checked-fine s (content_at layout format bytes at) valid
+    checked-fine s (is_negative_count s.name) (content_at layout format bytes at) valid
     ∙ sym (attribute-direct format s (Direct layout) bytes at fine is (λ e. cc)
     ∙ rw (is, value_at) (rw (is, direct_at) refl))
 
--- An attribute whose value is in its declaration.
-pub constant-there : (format : Format) (s : AttributeSpecification) (c : ℤ) (bytes : List ℕ)
-    (at : ℕ) → accepts s.name s.form ≡ true → form_of s.form ≡ Some ImplicitConst
-    → s.constant ≡ Some c → is_negative_count s.name (Signed c) ≡ false
-    → attribute_at format s bytes at ≡ Ok (
-      record {
-        name = s.name;
-        value = record { form = s.form; number = number_of (Signed c) at };
-      },
-      at,
-    )
-unfolding value_at
-constant-there format s c bytes at fine is there valid =
-    attribute-direct format s ImplicitConst bytes at fine is (λ e. cc)
-    ∙ rw (is, there, value_at, valid) refl
+-- What is known of an attribute from its form follows from the layout of its value, or from the
+-- constant of its declaration.
+pub by-form : {X P : Type 0} (in_layout : ValueLayout → Option X) (constant : Option X) (x : X)
+    (accepted : Bool) (found : Option Form) → cond accepted (elim found as (λ _. Option X) [
+      | None ↦ None
+      | Some (Direct layout) ↦ in_layout layout
+      | Some ImplicitConst ↦ constant
+      | Some Indirect ↦ None
+    ]) None ≡ Some x
+    → ((layout : ValueLayout) → accepted ≡ true → found ≡ Some (Direct layout)
+    → in_layout layout ≡ Some x → P)
+    → (accepted ≡ true → found ≡ Some ImplicitConst → constant ≡ Some x → P) → P
+by-form in_layout constant x false found is direct declared = cc
+by-form in_layout constant x true None is direct declared = cc
+by-form in_layout constant x true (Some (Direct layout)) is direct declared =
+    direct layout refl refl is
+by-form in_layout constant x true (Some ImplicitConst) is direct declared = declared refl refl is
+by-form in_layout constant x true (Some Indirect) is direct declared = cc
+
+-- ---- values that need no check
 
 valid-fine : (name : ℕ) (layout found : ValueLayout) (format : Format) (bytes : List ℕ) (at : ℕ)
     (b : Bool) → ((c : Content) → b ≡ false → is_negative_count name c ≡ false)
     → cond (b && is_signed layout) None (Some layout) ≡ Some found
-    → IsFine name (content_at layout format bytes at)
+    → IsFine (is_negative_count name) (content_at layout format bytes at)
 unfolding content_at
 valid-fine name layout found format bytes at b unused h =
     grind (arith, λ (z : ℤ). unused (Signed z), never-count name)
@@ -115,27 +118,107 @@ pub record IsInLayout (format : Format) (s : AttributeSpecification) (layout : V
   pub read : (reading (content_at layout format bytes at) >>= as_attribute s)
       ≡ attribute_at format s bytes at
 
+pub direct-value : (n : ℕ) (s : AttributeSpecification) (layout : ValueLayout)
+    → form_of s.form ≡ Some (Direct layout) → used_value n s ≡ At n layout
+direct-value n s layout is = rw (is, used_value) refl
+
 pub unchecked-read : (format : Format) (s : AttributeSpecification) (layout : ValueLayout)
     (bytes : List ℕ) (at : ℕ) → unchecked_layout s ≡ Some layout
     → IsInLayout format s layout bytes at
 unfolding unchecked_layout
 unchecked-read format s layout bytes at h =
-    by_form (accepts s.name s.form) refl (form_of s.form) refl
-  where
-    no-layout : {P : Type 0} → (let none : Option ValueLayout = None in none) ≡ Some layout → P
-    no-layout none = cc
+    by-form (valid_layout s.name) None layout (accepts s.name s.form) (form_of s.form) h
+    (λ own fine is valid. rw (← same-layout s.name own layout (is_used s.name && is_signed own)
+    valid) (record {
+      form = is;
+      read = in-layout format s own bytes at fine is
+          (valid-fine s.name own layout format bytes at (is_used s.name)
+          (λ c unused. grind (arith, unused)) valid);
+    })) (λ fine is none. cc)
 
-    by_form : (b : Bool) → accepts s.name s.form ≡ b → (found : Option Form)
-        → form_of s.form ≡ found → IsInLayout format s layout bytes at
-    by_form false fine found is = no-layout (rw (fine, unchecked_layout) at h)
-    by_form true fine None is = no-layout (rw (fine, is, unchecked_layout) at h)
-    by_form true fine (Some (Direct own)) is =
-        let valid : valid_layout s.name own ≡ Some layout = rw (fine, is, unchecked_layout) at h in
-        rw (← same-layout s.name own layout (is_used s.name && is_signed own) valid) (record {
-          form = is;
-          read = in-layout format s own bytes at fine is
-              (valid-fine s.name own layout format bytes at (is_used s.name)
-              (λ c unused. grind (arith, unused)) valid);
-        })
-    by_form true fine (Some ImplicitConst) is = no-layout (rw (fine, is, unchecked_layout) at h)
-    by_form true fine (Some Indirect) is = no-layout (rw (fine, is, unchecked_layout) at h)
+-- ---- values of a fixed size
+
+-- The read after n bytes.
+abbrev pub after_bytes : {X : Type 0} → ℕ → List ℕ → ℕ → (ℕ → Result X Cause) → Result X Cause
+after_bytes n bytes at next = reading (block_at n bytes at) >>= λ block. next block.1
+
+pub after-none : {X : Type 0} (bytes : List ℕ) (at : ℕ) (next : ℕ → Result X Cause)
+    → at ≤ length bytes → after_bytes 0 bytes at next ≡ next at
+unfolding block_at
+after-none bytes at next le = grind (arith, le)
+
+-- A read takes n bytes and returns a value with the property Good, or fails because fewer than n
+-- bytes remain.
+abbrev ReadsFixed : {X E : Type 0} → (X → Type 0) → E → ℕ → List ℕ → ℕ → Result (X × ℕ) E → Type 0
+ReadsFixed Good short n bytes at (Ok x) = Good x.0 × (x.1 ≡ at + n) × (at + n ≤ length bytes)
+ReadsFixed Good short n bytes at (Err e) = (e ≡ short) × (length bytes < at + n)
+
+fixed-fixed : (n : ℕ) (bytes : List ℕ) (at : ℕ)
+    → ReadsFixed (λ _. Unit {0}) faults.Short n bytes at (fixed_at n bytes at)
+unfolding fixed_at block_at
+fixed-fixed n bytes at = grind arith
+
+content-fixed : (layout : ValueLayout) (format : Format) (n : ℕ) (bytes : List ℕ) (at : ℕ)
+    → layout_len format layout ≡ Some n → at ≤ length bytes
+    → ReadsFixed (λ c. is_negative c ≡ false) faults.Short n bytes at
+    (content_at layout format bytes at)
+unfolding content_at block_at
+content-fixed layout format n bytes at len le =
+    grind (arith, λ (k : ℕ). fixed-fixed k bytes at, fixed-fixed 4 bytes at, fixed-fixed 8 bytes at)
+
+-- An attribute of m bytes, n bytes after the first one, has the value at its position.
+abbrev pub IsAt : Format → AttributeSpecification → List ℕ → ℕ → ℕ → ℕ → Type 0
+IsAt format s bytes first n m = attribute_at format s bytes (first + n)
+    ≡ after_bytes m bytes (first + n)
+    (with_number s (number_in format bytes first (used_value n s)))
+
+in-block : (format : Format) (s : AttributeSpecification) (bytes : List ℕ) (first n m : ℕ)
+    (layout : ValueLayout) (r : Result (Content × ℕ) ReadFault)
+    → content_at layout format bytes (first + n) ≡ r → first + n ≤ length bytes
+    → ReadsFixed (λ c. is_negative c ≡ false) faults.Short m bytes (first + n) r
+    → (reading r >>= as_attribute s) ≡ after_bytes m bytes (first + n)
+    (with_number s (number_in format bytes first (At n layout)))
+unfolding block_at
+in-block format s bytes first n m layout r read le fixed = grind (arith, read)
+
+fixed-fine : (name m : ℕ) (bytes : List ℕ) (at : ℕ) (r : Result (Content × ℕ) ReadFault)
+    → ReadsFixed (λ c. is_negative c ≡ false) faults.Short m bytes at r
+    → IsFine (is_negative_count name) r
+fixed-fine name m bytes at r fixed = grind (arith, never-count name)
+
+-- A constant of the declaration takes no bytes.
+constant-read : (s : AttributeSpecification) (negative : Content → Bool) (constant : Option ℤ)
+    (bytes : List ℕ) (at m : ℕ) → (elim constant as (λ _. Option ℕ) [
+      | None ↦ None
+      | Some c ↦ cond (negative (Signed c)) None (Some 0)
+    ]) ≡ Some m → at ≤ length bytes → (reading_value (elim constant as
+    (λ _. Result (Value × ℕ) ValueFault) [
+      | None ↦ Err value_faults.Form
+      | Some c ↦ Ok (record { form = s.form; content = Signed c }, at)
+    ]) >>= checked s negative) ≡ after_bytes m bytes at
+    (with_number s (option_map_or (λ c. number_of (Signed c) 0) constant 0))
+unfolding block_at
+constant-read s negative constant bytes at m len le = grind arith
+
+pub fixed-at : (format : Format) (s : AttributeSpecification) (bytes : List ℕ) (first n m : ℕ)
+    → fixed_len format s ≡ Some m → first + n ≤ length bytes → IsAt format s bytes first n m
+unfolding fixed_len value_at
+fixed-at format s bytes first n m h le = by-form (layout_len format) (constant_len s) m
+    (accepts s.name s.form) (form_of s.form) h in_entry in_declaration
+  where
+    in_entry : (layout : ValueLayout) → accepts s.name s.form ≡ true
+        → form_of s.form ≡ Some (Direct layout) → layout_len format layout ≡ Some m
+        → IsAt format s bytes first n m
+    in_entry layout fine is len =
+        let fixed = content-fixed layout format m bytes (first + n) len le in
+        let content = content_at layout format bytes (first + n) in
+        sym (in-layout format s layout bytes (first + n) fine is
+        (fixed-fine s.name m bytes (first + n) content fixed))
+        ∙ rw (is, used_value) (in-block format s bytes first n m layout content refl le fixed)
+
+    in_declaration : accepts s.name s.form ≡ true → form_of s.form ≡ Some ImplicitConst
+        → constant_len s ≡ Some m → IsAt format s bytes first n m
+    in_declaration fine is len = attribute-direct format s ImplicitConst bytes (first + n) fine is
+        (λ e. cc)
+        ∙ rw (is, value_at, used_value)
+        (constant-read s (is_negative_count s.name) s.constant bytes (first + n) m len le)

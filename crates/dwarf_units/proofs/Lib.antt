@@ -10,9 +10,7 @@ pub mod NodeLaws
 pub mod EntryOrder
 pub mod RereadLaws
 pub mod FixedValues
-pub mod FixedPositions
 pub mod FixedSizeLaws
-pub mod RunParts
 pub mod RunReads
 pub mod RunTurns
 pub mod StoredReads
@@ -31,9 +29,7 @@ pub use NodeLaws.*
 pub use EntryOrder.*
 pub use RereadLaws.*
 pub use FixedValues.*
-pub use FixedPositions.*
 pub use FixedSizeLaws.*
-pub use RunParts.*
 pub use RunReads.*
 pub use RunTurns.*
 pub use StoredReads.*

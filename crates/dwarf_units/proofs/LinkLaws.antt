@@ -3,37 +3,30 @@ use Rattle.dwarf_units.proofs.Common
 use Common.{cond, ◌≡◌, ℕ, ◌+◌, ◌-◌, ◌<◌, ◌≤◌, List, [], ◌∷◌, Bool, true, false, length, refl, sym}
 use Common.{◌∙◌, arith, Option, Some, None, Result, Ok, IfSome, option_map_or, Cause, Format, Form}
 use Common.{Direct, ImplicitConst, Indirect, ◌>>=◌, form_of, Item, AttributeSpecification, IsListAt}
-use Common.{list_at, Attribute, accepts, is_used, attributes_at, fixed_len, layout_len, IsLink}
+use Common.{list_at, Attribute, ValueLayout, accepts, is_used, attributes_at, fixed_len, layout_len, IsLink}
 use Common.{stored_attributes_at}
 use Rattle.dwarf_bytes.specs.declared.format.Format.TheVariants.{Dwarf32, Dwarf64}
 use Rattle.dwarf_forms.specs.Tables.{attribute_at as specification_at}
 use Rattle.abbreviation_memo.specs.{declared.list_start.ListStart.ListStart, Lists.first_of}
 use Rattle.abbreviation_memo.proofs.ListLaws.{list-within, starts-at}
 use Rattle.dwarf_units.specs.{Private.FixedSizes.constant_len, Private.Links.is_empty_unused}
-use Rattle.dwarf_units.proofs.{FixedPositions.fixed-at, StoredReads.{stored_all, with_first}}
+use Rattle.dwarf_units.proofs.{FixedValues.{after-none, by-form, fixed-at}, StoredReads.{stored_all, with_first}}
 
 -- ---- attributes that are skipped
+
+no-width : (layout : ValueLayout) → layout_len Dwarf32 layout ≡ Some 0
+    → layout_len Dwarf64 layout ≡ Some 0
+no-width layout is = grind arith
 
 -- An attribute of no bytes in one format has none in the other.
 no-bytes : (s : AttributeSpecification) (format : Format) → fixed_len Dwarf32 s ≡ Some 0
     → fixed_len format s ≡ Some 0
 unfolding fixed_len
 no-bytes s Dwarf32 is = is
-no-bytes s Dwarf64 is = by_layout (accepts s.name s.form) (form_of s.form) (constant_len s) is
-  where
-    by_layout : (b : Bool) (found : Option Form) (constant : Option ℕ)
-        → cond b (elim found as (λ _. Option ℕ) [
-          | None ↦ None
-          | Some (Direct layout) ↦ layout_len Dwarf32 layout
-          | Some ImplicitConst ↦ constant
-          | Some Indirect ↦ None
-        ]) None ≡ Some 0 → cond b (elim found as (λ _. Option ℕ) [
-          | None ↦ None
-          | Some (Direct layout) ↦ layout_len Dwarf64 layout
-          | Some ImplicitConst ↦ constant
-          | Some Indirect ↦ None
-        ]) None ≡ Some 0
-    by_layout b found constant is = grind arith
+no-bytes s Dwarf64 is =
+    by-form (layout_len Dwarf32) (constant_len s) 0 (accepts s.name s.form) (form_of s.form) is
+    (λ layout fine found len. rw (fine, found, fixed_len) (no-width layout len))
+    (λ fine found len. rw (fine, found, fixed_len) len)
 
 empty-is : (s : AttributeSpecification) → is_empty_unused s ≡ true
     → (is_used s.name ≡ false) × (fixed_len Dwarf32 s ≡ Some 0)
@@ -48,9 +41,8 @@ unfolding attributes_at
 empty-read keep format s ss bytes at is le =
     let empty = empty-is s is in
     let first : at + 0 ≡ at = omega arith in
-    let here = (fixed-at format s bytes at 0 0 (no-bytes s format empty.1)
-    (omega (arith, le))).there (omega (arith, le)) in
-    rw (rw (first, first) at here) (unstored empty.0 _ (attributes_at format ss bytes at))
+    let here = fixed-at format s bytes at 0 0 (no-bytes s format empty.1) (omega (arith, le)) in
+    rw (rw first at here ∙ after-none bytes at _ le) (unstored empty.0 _ (attributes_at format ss bytes at))
   where
     unstored : is_used s.name ≡ false → (value : _) (r : Result (List Attribute × ℕ) Cause)
         → ((r >>= with_first (record { name = s.name; value = value })) >>= stored_all keep)

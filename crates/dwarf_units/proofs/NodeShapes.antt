@@ -5,14 +5,14 @@ use Common.{length, length-append, refl, ap, ◌∙◌, arith, Option, Some, Non
 use Common.{Cause, drop, slice_get, le-ltb, ne_eqb, drop_more, get_or_from_slice_get}
 use Common.{option_and_then_some, same_Some, slice_get_within, Format, ◌>>=◌, uleb_at, Declaration}
 use Common.{AttributeSpecification, Attribute, at-last, Entry, Null, attributes_at, AreShapes}
-use Common.{shape_at, Run, Stretch, runs_at, runs_of, Table}
+use Common.{block_at, shape_at, Run, Stretch, runs_at, runs_of, Table}
 use Rattle.std.proofs.Common.{option_and_then}
 use Rattle.dwarf_bytes.proofs.Numbers.LebEncodings.{uleb-again}
 use Rattle.dwarf_units.specs.{declared.node_shape.NodeShape.NodeShape, Entries.declaration_of}
 use Rattle.dwarf_units.specs.{Entries.depth_limit, Private.NodeShapes.{IsFixedSizeNode, code_limit}}
 use Rattle.dwarf_units.specs.{Private.NodeShapes.{shape_of, shape_of_code}, NodeShapes.null_shape}
 use Rattle.dwarf_units.specs.Private.Runs.{fixed_size}
-use Rattle.dwarf_units.proofs.{FixedPositions.block-there, RunReads.runs-read}
+use Rattle.dwarf_units.proofs.RunReads.{runs-read}
 use Rattle.dwarf_units.proofs.StoredReads.{stored_all}
 
 -- ---- the shapes by code
@@ -53,6 +53,7 @@ shape-parts format d shape h = grind arith
 fixed-there : (format : Format) (declared : List AttributeSpecification) (bytes : List ℕ)
     (at size : ℕ) → fixed_size (runs_of format declared) ≡ Some size → at + size ≤ length bytes
     → (all : List Attribute) × (attributes_at format declared bytes at ≡ Ok (all, at + size))
+unfolding block_at
 fixed-there format declared bytes at size is le = by_read (attributes_at format declared bytes at)
     (by_runs (runs_of format declared).runs (runs_of format declared).rest is
     ∙ runs-read false format declared bytes at (omega (arith, le)))
@@ -60,7 +61,7 @@ fixed-there format declared bytes at size is le = by_read (attributes_at format 
     by_runs : (runs : List Run) (rest : Stretch)
         → cond (length runs == 0) (Some rest.len) None ≡ Some size
         → Ok ([], at + size) ≡ runs_at false format runs rest bytes at
-    by_runs [] rest is = let block = (block-there size bytes at le).1 in grind arith
+    by_runs [] rest is = grind (arith, le)
     by_runs (run ∷ runs) rest is = grind arith
 
     by_read : (r : Result (List Attribute × ℕ) Cause) → Ok ([], at + size)

@@ -1,156 +1,234 @@
 -- Reading attributes in runs is reading them one by one.
 use Rattle.dwarf_units.proofs.Common
-use Common.{◌≡◌, ℕ, ◌+◌, ◌<◌, ◌≤◌, ◌⊎◌, inl, inr, List, [], ◌∷◌, ◌++◌, Bool, cond, length, refl}
-use Common.{arith, append_assoc, append-nil, Option, Some, None, Result, Ok, Err, nat_le}
-use Common.{option_map_or, option_to_list, cases_lt, option_and_then_some, Cause, Format}
+use Common.{◌≡◌, ℕ, ◌+◌, ◌≤◌, List, [], ◌∷◌, ◌++◌, Bool, true, false, cond, filter, length, map, refl, sym}
+use Common.{arith, append_assoc, append-nil, Option, Some, None, Result, Ok, Err, nat_le, ReadFault}
+use Common.{option_map, option_map_or, option_to_list, option_and_then_some, Cause, Format, block_at, ◌∙◌, ap}
 use Common.{ValueLayout, ◌>>=◌, AttributeSpecification, Unchecked, Checked, Attribute, UsedPosition}
-use Common.{attributes_at, used_value, end_of, fixed_len, used_position, Run, Runs, all_at}
-use Common.{run_before, runs_from, runs_of, then_read, unchecked_layout, used_among, used_after}
-use Common.{used_attributes_at, stored_attributes, stored_attributes_at}
-use Rattle.dwarf_units.proofs.{SlotLaws.among-append, FixedPositions.{IsAt, block-there, fixed-at}}
-use Rattle.dwarf_units.proofs.StoredReads.{fault-first, stored-append, used_all, with_front}
-use Rattle.dwarf_units.proofs.RunParts.{ReadsLast, block-short, checked-one, front-more, kept_in}
-use Rattle.dwarf_units.proofs.RunParts.{stored-one, stored-within, unchecked-one}
-use Rattle.dwarf_bytes.specs.declared.fault.Cause.TheVariants as causes
+use Common.{attributes_at, attribute_at, used_value, end_of, fixed_len, used_position, Run, Runs}
+use Common.{run_before, runs_from, runs_of, then_read, stretch_at, unchecked_layout, used_among, used_after}
+use Common.{used_attributes_at, stored_attributes, stored_attributes_at, all_at, run_at, Content}
+use Common.{content_at, reading, UsedName, AttributeValue, number_of, attribute_in, attributes_in}
+use Common.{number_in, used_name, named_attribute, is_used}
+use Rattle.std.proofs.lemmas.List.{map-append}
+use Rattle.dwarf_units.specs.Private.FixedSizes.{number_or_zero}
+use Rattle.dwarf_units.proofs.{EntryAdvances.attributes-stay, FixedValues.{IsInLayout, after_bytes}}
+use Rattle.dwarf_units.proofs.FixedValues.{direct-value, fixed-at}
+use Rattle.dwarf_units.proofs.FixedValues.{unchecked-read, with_number}
+use Rattle.dwarf_units.proofs.SlotLaws.{among-append, found-number, used-none, used-some}
+use Rattle.dwarf_units.proofs.StoredReads.{stored-append, used_all, with_front}
 
--- The runs of attributes that start n bytes after the start of the first run read these attributes.
--- `used` has the positions in the first n bytes, which the first run contains.
-record AreRuns (format : Format) (n : ℕ) (used : List UsedPosition)
-    (declared : List AttributeSpecification) (all : Runs) : Type 0 where
-  same : (keep : Bool) (bytes : List ℕ) (first : ℕ) → first + n ≤ length bytes
-      → all_at keep format all bytes first
-      ≡ (stored_attributes_at keep format declared bytes (first + n)
-      >>= with_front (kept_in keep format bytes first used))
-  short : (keep : Bool) (bytes : List ℕ) (first : ℕ) → length bytes < first + n
-      → all_at keep format all bytes first ≡ Err causes.Short
+-- The attributes at these positions if they are stored, otherwise none.
+abbrev kept_in : Bool → Format → List ℕ → ℕ → List UsedPosition → List Attribute
+kept_in keep format bytes first used = cond keep (attributes_in format bytes first used) []
 
-start-same : (format : Format) (declared : List AttributeSpecification) (all : Runs)
-    → AreRuns format 0 [] declared all → (keep : Bool) (bytes : List ℕ) (at : ℕ)
-    → at ≤ length bytes → all_at keep format all bytes at
-    ≡ stored_attributes_at keep format declared bytes at
-start-same format declared all are keep bytes at le =
-    let same : at + 0 ≡ at = omega arith in
-    let here = rw same at (are.same keep bytes at (omega (arith, le))) in grind (arith, here)
+kept-append : (keep : Bool) (format : Format) (bytes : List ℕ) (first : ℕ)
+    (used more : List UsedPosition) → kept_in keep format bytes first (used ++ more)
+    ≡ kept_in keep format bytes first used ++ kept_in keep format bytes first more
+kept-append keep format bytes first used more =
+    grind (arith, map-append (attribute_in format bytes first) used more)
 
--- ---- one more attribute of a fixed size
+-- ---- one attribute at its position
 
-fixed-more : (format : Format) (n m : ℕ) (used : List UsedPosition) (s : AttributeSpecification)
-    (ss : List AttributeSpecification) (all : Runs) → fixed_len format s ≡ Some m
-    → AreRuns format (n + m) (used ++ option_to_list (used_position n s)) ss all
-    → AreRuns format n used (s ∷ ss) all
-fixed-more format n m used s ss all len more = record {
-  same = λ keep bytes first le.
-      by_first keep bytes first (fixed-at format s bytes first n m len le)
-      (cases_lt (length bytes) (first + n + m));
-  short = λ keep bytes first lt. more.short keep bytes first (omega (arith, lt));
-}
+abbrev valued : ℕ → AttributeValue → Attribute
+valued name value = record { name = name; value = value }
+
+used-one : (name : ℕ) (value : AttributeValue) (position : UsedName → UsedPosition)
+    (read : UsedPosition → Attribute) (found : Option UsedName) → used_name name ≡ found
+    → ((n : UsedName) → read (position n) ≡ named_attribute n value)
+    → filter (λ (a : Attribute). is_used a.name) (valued name value ∷ [])
+    ≡ map read (option_to_list (option_map position found))
+used-one name value position read None is same = rw (used-none name is) refl
+used-one name value position read (Some n) is same = rw (used-some name n is, same n)
+    (ap (λ k. valued k value ∷ []) (found-number name n is))
+
+-- The attribute with a number, if it is stored.
+abbrev here_in : Bool → AttributeSpecification → ℕ → List Attribute
+here_in keep s number =
+    stored_attributes keep (valued s.name (record { form = s.form; number = number }) ∷ [])
+
+here-kept : (keep : Bool) (format : Format) (s : AttributeSpecification) (bytes : List ℕ)
+    (first n : ℕ) → here_in keep s (number_in format bytes first (used_value n s))
+    ≡ kept_in keep format bytes first (option_to_list (used_position n s))
+here-kept false format s bytes first n = refl
+here-kept true format s bytes first n = used-one s.name _
+    (λ name. record { name = name; form = s.form; value = used_value n s })
+    (attribute_in format bytes first) (used_name s.name) refl (λ name. refl)
+
+stored-one : {X : Type 0} (keep : Bool) (format : Format) (s : AttributeSpecification)
+    (bytes : List ℕ) (at : ℕ) (r : Result X Cause) (number end : X → ℕ)
+    → attribute_at format s bytes at ≡ (r >>= λ x. with_number s (number x) (end x))
+    → stored_attributes_at keep format (s ∷ []) bytes at
+    ≡ (r >>= λ x. Ok (here_in keep s (number x), end x))
+unfolding attributes_at
+stored-one keep format s bytes at r number end is = rw is (grind arith)
+
+-- ---- a stretch and the attribute after it
+
+-- A stretch, and the attribute after it.
+abbrev then_one : Bool → Format → ℕ → List UsedPosition → AttributeSpecification → List ℕ → ℕ
+    → Result (List Attribute × ℕ) Cause
+then_one keep format n used s bytes at =
+    then_read (stretch_at keep format (record { len = n; used = used }) bytes at)
+    (stored_attributes_at keep format (s ∷ []) bytes)
+
+-- n bytes, and an attribute of m bytes.
+fixed-step : (n m : ℕ) (bytes : List ℕ) (at : ℕ) (front here : List Attribute)
+    (next : ℕ → Result (List Attribute × ℕ) Cause)
+    → (at + n ≤ length bytes → next (at + n) ≡ after_bytes m bytes (at + n) (λ k. Ok (here, k)))
+    → after_bytes (n + m) bytes at (λ k. Ok (front ++ here, k))
+    ≡ then_read (after_bytes n bytes at (λ k. Ok (front, k))) next
+unfolding block_at
+fixed-step n m bytes at front here next is = grind (arith, is)
+
+fixed-one : (keep : Bool) (format : Format) (n m : ℕ) (used : List UsedPosition)
+    (s : AttributeSpecification) (bytes : List ℕ) (at : ℕ) → fixed_len format s ≡ Some m
+    → stretch_at keep format (record {
+      len = n + m;
+      used = used ++ option_to_list (used_position n s);
+    }) bytes at ≡ then_one keep format n used s bytes at
+fixed-one keep format n m used s bytes at len = rw (
+  kept-append keep format bytes at used (option_to_list (used_position n s)),
+  ← here-kept keep format s bytes at n,
+)
+    (fixed-step n m bytes at (kept_in keep format bytes at used)
+    (here_in keep s (number_in format bytes at (used_value n s)))
+    (stored_attributes_at keep format (s ∷ []) bytes)
+    (λ le. stored-one keep format s bytes (at + n) (reading (block_at m bytes (at + n)))
+    (λ _. number_in format bytes at (used_value n s)) (λ block. block.1)
+    (fixed-at format s bytes at n m len le)))
+
+-- n bytes, and a value whose number is read with the stretch.
+unchecked-step : (n : ℕ) (bytes : List ℕ) (at : ℕ) (front : List Attribute)
+    (here : ℕ → List Attribute) (number : Content × ℕ → ℕ)
+    (content : ℕ → Result (Content × ℕ) ReadFault) (next : ℕ → Result (List Attribute × ℕ) Cause)
+    → ((k : ℕ) → next k ≡ (reading (content k) >>= λ c. Ok (here (number c), c.1)))
+    → then_read (after_bytes n bytes at (λ k. Ok (
+      front ++ here (number_or_zero
+          (after_bytes n bytes at (λ j. reading (content j) >>= λ c. Ok (number c, c.1)))),
+      k,
+    )))
+    (λ k. (reading (content k) >>= λ c. Ok c.1) >>= λ end. Ok ([], end))
+    ≡ then_read (after_bytes n bytes at (λ k. Ok (front, k))) next
+unfolding block_at
+unchecked-step n bytes at front here number content next is = grind (arith, is, append-nil)
+
+unchecked-one : (keep : Bool) (format : Format) (n : ℕ) (used : List UsedPosition)
+    (s : AttributeSpecification) (layout : ValueLayout) (bytes : List ℕ) (at : ℕ)
+    → unchecked_layout s ≡ Some layout → run_at keep format (record {
+      stretch = record { len = n; used = used ++ option_to_list (used_position n s) };
+      last = Unchecked layout;
+    }) bytes at ≡ then_one keep format n used s bytes at
+unchecked-one keep format n used s layout bytes at unchecked =
+    let read : (k : ℕ) → IsInLayout format s layout bytes k =
+    λ k. unchecked-read format s layout bytes k unchecked in
+    rw (
+      kept-append keep format bytes at used (option_to_list (used_position n s)),
+      ← here-kept keep format s bytes at n,
+      direct-value n s layout (read 0).form,
+    )
+    (unchecked-step n bytes at (kept_in keep format bytes at used) (here_in keep s)
+    (λ c. number_of c.0 c.1) (content_at layout format bytes)
+    (stored_attributes_at keep format (s ∷ []) bytes)
+    (λ k. stored-one keep format s bytes k (reading (content_at layout format bytes k))
+    (λ c. number_of c.0 c.1) (λ c. c.1) (sym (read k).read)))
+
+last-one : (keep : Bool) (format : Format) (n : ℕ) (used : List UsedPosition)
+    (s : AttributeSpecification) (bytes : List ℕ) (at : ℕ)
+    → run_at keep format (run_before n used s) bytes at ≡ then_one keep format n used s bytes at
+last-one keep format n used s bytes at = by_layout (unchecked_layout s) refl
   where
-    by_first : (keep : Bool) (bytes : List ℕ) (first : ℕ)
-        → IsAt format s bytes first n m (used_value n s)
-        → (length bytes < first + n + m) ⊎ (first + n + m ≤ length bytes)
-        → all_at keep format all bytes first
-        ≡ (stored_attributes_at keep format (s ∷ ss) bytes (first + n)
-        >>= with_front (kept_in keep format bytes first used))
-    by_first keep bytes first is (inl lt) =
-        rw (fault-first keep format s ss bytes (first + n) causes.Short (is.short lt))
-        (more.short keep bytes first (omega (arith, lt)))
-    by_first keep bytes first is (inr there) =
-        let place : first + n + m ≡ first + (n + m) = omega arith in
-        rw (
-          stored-append keep format (s ∷ []) ss bytes (first + n),
-          stored-one keep format s bytes first n (first + n + m) (is.there there),
-          place,
-          front-more keep format bytes first used (option_to_list (used_position n s))
-              (stored_attributes_at keep format ss bytes (first + (n + m))),
-        ) (more.same keep bytes first (omega (arith, there)))
-
--- ---- a run that ends with an attribute
-
-then-same : (r : Result (List Attribute × ℕ) Cause) (next other : ℕ → Result (List Attribute × ℕ)
-    Cause) (front : List Attribute)
-    → ((x : List Attribute × ℕ) → r ≡ Ok x → next x.1 ≡ other x.1)
-    → then_read (r >>= with_front front) next ≡ (then_read r other >>= with_front front)
-then-same r next other front same = grind (arith, same, append_assoc front)
-
-last-more : (format : Format) (n : ℕ) (used : List UsedPosition) (s : AttributeSpecification)
-    (ss : List AttributeSpecification) (run : Run) (others : Runs) → run.stretch.len ≡ n
-    → ReadsLast format n used s run → AreRuns format 0 [] ss others
-    → AreRuns format n used (s ∷ ss) (record others { runs = run ∷ others.runs })
-last-more format n used s ss run others len one more = record {
-  same = λ keep bytes first le. rw (
-    one keep bytes first le,
-    stored-append keep format (s ∷ []) ss bytes (first + n),
-  )
-      (then-same (stored_attributes_at keep format (s ∷ []) bytes (first + n))
-      (all_at keep format others bytes) (λ k. stored_attributes_at keep format ss bytes k) _
-      (λ x is. start-same format ss others more keep bytes x.1
-      (stored-within keep format (s ∷ []) bytes (first + n) x le is)));
-  short = λ keep bytes first lt.
-      rw (block-short run.stretch.len bytes first (omega (arith, len, lt))) refl;
-}
+    by_layout : (found : Option ValueLayout) → unchecked_layout s ≡ found
+        → run_at keep format (option_map_or (λ layout. record {
+          stretch = record { len = n; used = used ++ option_to_list (used_position n s) };
+          last = Unchecked layout;
+        }) found (record { stretch = record { len = n; used = used }; last = Checked s })) bytes at
+        ≡ then_one keep format n used s bytes at
+    by_layout None is = refl
+    by_layout (Some layout) is = unchecked-one keep format n used s layout bytes at is
 
 -- ---- all attributes
+
+stored-within : (keep : Bool) (format : Format) (declared : List AttributeSpecification)
+    (bytes : List ℕ) (at : ℕ) (x : List Attribute × ℕ) → at ≤ length bytes
+    → stored_attributes_at keep format declared bytes at ≡ Ok x → x.1 ≤ length bytes
+stored-within keep format declared bytes at x le is =
+    grind (arith, attributes-stay format declared bytes at)
+
+then-same : (r : Result (List Attribute × ℕ) Cause) (next other : ℕ → Result (List Attribute × ℕ)
+    Cause) → ((x : List Attribute × ℕ) → r ≡ Ok x → next x.1 ≡ other x.1)
+    → then_read r next ≡ then_read r other
+then-same r next other same = grind (arith, same)
+
+-- The stretch reads these attributes.
+abbrev IsStretch : Format → List AttributeSpecification → ℕ → List UsedPosition → Type 0
+IsStretch format done n used = (keep : Bool) (bytes : List ℕ) (at : ℕ) → at ≤ length bytes
+    → stretch_at keep format (record { len = n; used = used }) bytes at
+    ≡ stored_attributes_at keep format done bytes at
+
+no-stretch : (format : Format) → IsStretch format [] 0 []
+unfolding block_at attributes_at
+no-stretch format keep bytes at le = grind (arith, le)
+
+-- The attributes of the stretch, and the one after it.
+one-more : (keep : Bool) (format : Format) (done : List AttributeSpecification) (n : ℕ)
+    (used : List UsedPosition) (s : AttributeSpecification) (bytes : List ℕ) (at : ℕ)
+    → IsStretch format done n used → at ≤ length bytes → then_one keep format n used s bytes at
+    ≡ stored_attributes_at keep format (done ++ s ∷ []) bytes at
+one-more keep format done n used s bytes at is le =
+    rw (is keep bytes at le, stored-append keep format done (s ∷ []) bytes at) refl
 
 ended : (n m end : ℕ) (b : Bool) → cond b (Some (n + m)) None ≡ Some end → n + m ≡ end
 ended n m end b is = grind arith
 
-have-runs : (format : Format) (n : ℕ) (used : List UsedPosition)
-    (declared : List AttributeSpecification)
-    → AreRuns format n used declared (runs_from format n used declared)
-unfolding runs_from attributes_at
-have-runs format n used [] = record {
-  same = λ keep bytes first le. rw (block-there n bytes first le).1
-      (none-after keep (kept_in keep format bytes first used) (first + n));
-  short = λ keep bytes first lt. rw (block-short n bytes first lt) refl;
-}
-  where
-    result : List Attribute → ℕ → Result (List Attribute × ℕ) Cause
-    result all end = Ok (all, end)
-
-    none-after : (keep : Bool) (front : List Attribute) (end : ℕ) → result front end
-        ≡ result (front ++ stored_attributes keep []) end
-    none-after keep front end = grind (arith, append-nil front)
-have-runs format n used (s ∷ ss) =
-    by_end (λ end more. have-runs format end more ss) (end_of format n s) refl
+have-runs : (keep : Bool) (format : Format) (done : List AttributeSpecification) (n : ℕ)
+    (used : List UsedPosition) (declared : List AttributeSpecification) (bytes : List ℕ) (at : ℕ)
+    → IsStretch format done n used → at ≤ length bytes
+    → all_at keep format (runs_from format n used declared) bytes at
+    ≡ stored_attributes_at keep format (done ++ declared) bytes at
+unfolding runs_from
+have-runs keep format done n used [] bytes at is le =
+    rw (append-nil done) (is keep bytes at le)
+have-runs keep format done n used (s ∷ ss) bytes at is le =
+    rw (← append_assoc done (s ∷ []) ss)
+    (by_end (end_of format n s) refl (λ end more. have-runs keep format (done ++ s ∷ []) end more ss
+    bytes at) (λ k. have-runs keep format [] 0 [] ss bytes k (no-stretch format)))
   where
     position : List UsedPosition
     position = option_to_list (used_position n s)
 
-    others : Runs
-    others = runs_from format 0 [] ss
+    read : List AttributeSpecification → ℕ → Result (List Attribute × ℕ) Cause
+    read declared k = stored_attributes_at keep format declared bytes k
 
-    by_layout : (layout : Option ValueLayout) → unchecked_layout s ≡ layout
-        → AreRuns format 0 [] ss others
-        → AreRuns format n used (s ∷ ss) (record others {
-          runs = option_map_or (λ layout. record {
-            stretch = record { len = n; used = used ++ position };
-            last = Unchecked layout;
-          }) layout (record { stretch = record { len = n; used = used }; last = Checked s })
-              ∷ others.runs;
-        })
-    by_layout None is = last-more format n used s ss _ others refl (checked-one format n used s)
-    by_layout (Some layout) is =
-        last-more format n used s ss _ others refl (unchecked-one format n used s layout is)
-
-    by_end : ((end : ℕ) (more : List UsedPosition)
-        → AreRuns format end more ss (runs_from format end more ss))
-        → (end : Option ℕ) → end_of format n s ≡ end → AreRuns format n used (s ∷ ss)
+    by_end : (end : Option ℕ) → end_of format n s ≡ end
+        → ((k : ℕ) (more : List UsedPosition) → IsStretch format (done ++ s ∷ []) k more
+        → at ≤ length bytes → all_at keep format (runs_from format k more ss) bytes at
+        ≡ read ((done ++ s ∷ []) ++ ss) at)
+        → ((k : ℕ) → k ≤ length bytes → all_at keep format (runs_from format 0 [] ss) bytes k
+        ≡ read ss k) → all_at keep format
         (option_map_or (λ end. runs_from format end (used ++ position) ss) end
-        (record others { runs = run_before n used s ∷ others.runs }))
-    by_end more None is = by_layout (unchecked_layout s) refl (more 0 [])
-    by_end more (Some end) is =
+        (let others = runs_from format 0 [] ss in
+        record others { runs = run_before n used s ∷ others.runs })) bytes at
+        ≡ read ((done ++ s ∷ []) ++ ss) at
+    by_end None none more rest = rw (
+      last-one keep format n used s bytes at,
+      one-more keep format done n used s bytes at is le,
+      stored-append keep format (done ++ s ∷ []) ss bytes at,
+    )
+        (then-same (read (done ++ s ∷ []) at) _ (read ss)
+        (λ x found. rest x.1 (stored-within keep format (done ++ s ∷ []) bytes at x le found)))
+    by_end (Some end) some more rest =
         option_and_then_some (λ m. cond (nat_le (n + m) 65535) (Some (n + m)) None)
-        (fixed_len format s) end is (λ m len small.
-        let same : n + m ≡ end = ended n m end (nat_le (n + m) 65535) small in
-        rw (← same) (fixed-more format n m used s ss
-        (runs_from format (n + m) (used ++ position) ss) len (more (n + m) (used ++ position))))
+        (fixed_len format s) end some (λ m len small.
+        rw (← ended n m end (nat_le (n + m) 65535) small) (more (n + m) (used ++ position)
+        (λ also others place inside. fixed-one also format n m used s others place len
+        ∙ one-more also format done n used s others place is inside) le))
 
 pub runs-read : (keep : Bool) (format : Format) (declared : List AttributeSpecification)
     (bytes : List ℕ) (at : ℕ) → at ≤ length bytes
     → all_at keep format (runs_of format declared) bytes at
     ≡ stored_attributes_at keep format declared bytes at
-runs-read keep format declared bytes at le = start-same format declared
-    (runs_of format declared) (have-runs format 0 [] declared) keep bytes at le
+runs-read keep format declared bytes at le =
+    have-runs keep format [] 0 [] declared bytes at (no-stretch format) le
 
 -- ---- an entry
 
