@@ -12,7 +12,6 @@ pub mod RereadLaws
 pub mod FixedValues
 pub mod FixedSizeLaws
 pub mod RunReads
-pub mod RunTurns
 pub mod StoredReads
 pub mod NodeShapes
 pub mod LinkLaws
@@ -31,7 +30,6 @@ pub use RereadLaws.*
 pub use FixedValues.*
 pub use FixedSizeLaws.*
 pub use RunReads.*
-pub use RunTurns.*
 pub use StoredReads.*
 pub use NodeShapes.*
 pub use LinkLaws.*

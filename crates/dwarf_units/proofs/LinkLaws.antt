@@ -1,8 +1,8 @@
 -- Links of shared lists: attributes that are unused and have no bytes change nothing.
 use Rattle.dwarf_units.proofs.Common
-use Common.{cond, ◌≡◌, ℕ, ◌+◌, ◌-◌, ◌<◌, ◌≤◌, List, [], ◌∷◌, Bool, true, false, length, refl, sym}
-use Common.{◌∙◌, arith, Option, Some, None, Result, Ok, IfSome, option_map_or, Cause, Format, Form}
-use Common.{Direct, ImplicitConst, Indirect, ◌>>=◌, form_of, Item, AttributeSpecification, IsListAt}
+use Common.{◌≡◌, ℕ, ◌+◌, ◌-◌, ◌<◌, ◌≤◌, List, [], ◌∷◌, Bool, true, false, length, refl, sym}
+use Common.{◌∙◌, arith, Some, Result, Ok, IfSome, option_map_or, Cause, Format}
+use Common.{◌>>=◌, form_of, Item, AttributeSpecification, IsListAt}
 use Common.{list_at, Attribute, ValueLayout, accepts, is_used, attributes_at, fixed_len, layout_len, IsLink}
 use Common.{stored_attributes_at}
 use Rattle.dwarf_bytes.specs.declared.format.Format.TheVariants.{Dwarf32, Dwarf64}

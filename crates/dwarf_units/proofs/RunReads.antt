@@ -1,10 +1,10 @@
 -- Reading attributes in runs is reading them one by one.
 use Rattle.dwarf_units.proofs.Common
 use Common.{◌≡◌, ℕ, ◌+◌, ◌≤◌, List, [], ◌∷◌, ◌++◌, Bool, true, false, cond, filter, length, map, refl, sym}
-use Common.{arith, append_assoc, append-nil, Option, Some, None, Result, Ok, Err, nat_le, ReadFault}
+use Common.{arith, append_assoc, append-nil, Option, Some, None, Result, Ok, nat_le, ReadFault}
 use Common.{option_map, option_map_or, option_to_list, option_and_then_some, Cause, Format, block_at, ◌∙◌, ap}
 use Common.{ValueLayout, ◌>>=◌, AttributeSpecification, Unchecked, Checked, Attribute, UsedPosition}
-use Common.{attributes_at, attribute_at, used_value, end_of, fixed_len, used_position, Run, Runs}
+use Common.{attributes_at, attribute_at, used_value, end_of, fixed_len, used_position}
 use Common.{run_before, runs_from, runs_of, then_read, stretch_at, unchecked_layout, used_among, used_after}
 use Common.{used_attributes_at, stored_attributes, stored_attributes_at, all_at, run_at, Content}
 use Common.{content_at, reading, UsedName, AttributeValue, number_of, attribute_in, attributes_in}
@@ -15,7 +15,7 @@ use Rattle.dwarf_units.proofs.{EntryAdvances.attributes-stay, FixedValues.{IsInL
 use Rattle.dwarf_units.proofs.FixedValues.{direct-value, fixed-at}
 use Rattle.dwarf_units.proofs.FixedValues.{unchecked-read, with_number}
 use Rattle.dwarf_units.proofs.SlotLaws.{among-append, found-number, used-none, used-some}
-use Rattle.dwarf_units.proofs.StoredReads.{stored-append, used_all, with_front}
+use Rattle.dwarf_units.proofs.StoredReads.{stored-append, used_all}
 
 -- The attributes at these positions if they are stored, otherwise none.
 abbrev kept_in : Bool → Format → List ℕ → ℕ → List UsedPosition → List Attribute

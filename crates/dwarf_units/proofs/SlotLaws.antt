@@ -1,9 +1,9 @@
 -- The used attributes of an entry: their names, and adding attributes one by one.
 use Rattle.dwarf_units.proofs.Common
 use Common.{arith, ◌≡◌, ℕ, List, [], ◌∷◌, Bool, true, false, refl, ap, sym, ◌∙◌, ◌++◌, ◌<◌, length}
-use Common.{get_or, Some, None, ◌==◌, find, Option, Result, Ok, ne_eqb, UsedName, is_used, name_of}
-use Common.{used_name, Cause, Attribute, AttributeValue, value_of, Used, used_among, value_named}
-use Common.{with_used, used_after, slot_of}
+use Common.{get_or, Some, None, ◌==◌, find, Option, ne_eqb, UsedName, is_used, name_of}
+use Common.{used_name, Attribute, AttributeValue, value_of, Used, used_among, value_named}
+use Common.{with_used, slot_of}
 use Rattle.std.proofs.{lemmas.Bool.eqb-true, Math.ListN.set, lemmas.List.get_or-set_same}
 use Rattle.std.proofs.lemmas.List.{get_or-set_other}
 use Rattle.dwarf_units.specs.declared.used_name.UsedName.TheVariants.{Name, LinkageName}
@@ -114,11 +114,6 @@ with-twice u xs ys = same-by
       under-by (λ n. option_or (value_named n u) (value_of xs (name_of n))) name,
       value-append xs ys (name_of name),
     ))
-
--- A read that stores nothing.
-pub nothing-used : (u : Used) (r : Result (List Attribute × ℕ) Cause) (place : ℕ)
-    → r ≡ Ok ([], place) → used_after u r ≡ Ok (u, place)
-nothing-used u r place is = ap (used_after u) is ∙ ap (λ (v : Used). Ok (v, place)) (with-none u)
 
 -- ---- names, their codes and their slots
 

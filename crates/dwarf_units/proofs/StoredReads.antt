@@ -1,11 +1,10 @@
 -- Reading the attributes of an entry one by one, and storing the used ones.
 use Rattle.dwarf_units.proofs.Common
 use Common.{arith, ◌≡◌, ℕ, List, [], ◌∷◌, ◌++◌, Bool, true, false, refl, sym, ◌∙◌, ◌⊎◌, Some, None}
-use Common.{Result, Ok, Err, Cause, Format, ◌>>=◌, Position, AttributeSpecification, Attribute}
+use Common.{Result, Ok, Err, Cause, Format, ◌>>=◌, AttributeSpecification, Attribute}
 use Common.{UsedName, is_used, attribute_at, attributes_at, named_attribute, used_name, then_read}
-use Common.{Fills, stored_attributes, stored_attributes_at, Used, used_among, used_after, with_used}
+use Common.{stored_attributes, stored_attributes_at, Used, used_among, used_after, with_used}
 use Rattle.std.proofs.lemmas.List.Elements.{filter-append}
-use Rattle.dwarf_bytes.specs.Refusals.{Fails}
 use Rattle.dwarf_units.proofs.SlotLaws.{found-number, used-none, used-some, with-none, with-twice}
 
 -- ---- two lists of attributes
@@ -71,32 +70,21 @@ pub used-front : (u : Used) (front : List Attribute) (r : Result (List Attribute
 used-front u front r = grind (arith, with-twice u front)
 
 -- The used attributes of two reads, after those that are stored already.
-used-both : (u : Used) (r : Result (List Attribute × ℕ) Cause)
+pub used-both : (u : Used) (r : Result (List Attribute × ℕ) Cause)
     (next : ℕ → Result (List Attribute × ℕ) Cause) → used_after u (then_read r next)
     ≡ (used_after u r >>= λ first. used_after first.0 (next first.1))
 used-both u r next = grind (arith, used-front u)
 
--- The first of two reads is done.
-pub next-read : (u stored : Used) (r : Result (List Attribute × ℕ) Cause)
-    (next : ℕ → Result (List Attribute × ℕ) Cause) (place : ℕ) (whole : Result (Used × ℕ) Cause)
-    → used_after u (then_read r next) ≡ whole → used_after u r ≡ Ok (stored, place)
-    → used_after stored (next place) ≡ whole
-next-read u stored r next place whole so_far read = grind (arith, used-both u r next, so_far, read)
-
--- The first of two reads fails, or memory runs out.
-pub next-fault : (u : Used) (r : Result (List Attribute × ℕ) Cause)
-    (next : ℕ → Result (List Attribute × ℕ) Cause) (cause : Cause) (whole : Result (Used × ℕ) Cause)
-    → used_after u (then_read r next) ≡ whole → Fails cause (used_after u r) → Fails cause whole
-next-fault u r next cause whole so_far fails = grind (arith, used-both u r next, so_far, fails)
-
--- The last of several reads gives their outcome.
-pub last-read : (u used : Used) (read : List ℕ → ℕ → Result (List Attribute × ℕ) Cause)
-    (whole : List ℕ → ℕ → Result (Used × ℕ) Cause) (old mid new : Position)
-    (result : Result (Unit {0}) Cause) → mid.bytes ≡ old.bytes
-    → used_after u (read old.bytes mid.place) ≡ whole old.bytes old.place
-    → Fills result used (λ bytes at. used_after u (read bytes at)) mid new
-    → Fills result used whole old new
-last-read u used read whole old mid new result same so_far last = grind arith
+-- An attribute is read, and then the others.
+pub first-read : (keep : Bool) (format : Format) (s : AttributeSpecification)
+    (others : List AttributeSpecification) (bytes : List ℕ) (place : ℕ) (u : Used)
+    → used_after u (stored_attributes_at keep format (s ∷ others) bytes place)
+    ≡ (used_after u (stored_attributes_at keep format (s ∷ []) bytes place)
+    >>= λ first. used_after first.0 (stored_attributes_at keep format others bytes first.1))
+first-read keep format s others bytes place u =
+    rw (stored-append keep format (s ∷ []) others bytes place)
+    (used-both u (stored_attributes_at keep format (s ∷ []) bytes place)
+    (stored_attributes_at keep format others bytes))
 
 -- ---- one attribute
 
@@ -133,28 +121,3 @@ one-left keep format s bytes at used a why read = grind (
   used-none a.0.name,
   with-none used,
 )
-
--- ---- the loop over shared attributes
-
--- The attributes stored so far and then those of the rest of the list are the whole result.
-abbrev pub StoredSoFar : Bool → Format → List AttributeSpecification → List ℕ → Used → ℕ
-    → Result (Used × ℕ) Cause → Type 0
-StoredSoFar keep format left bytes used place whole =
-    used_after used (stored_attributes_at keep format left bytes place) ≡ whole
-
--- An attribute is left, and others may follow.
-pub stored-left : (keep : Bool) (format : Format) (s : AttributeSpecification)
-    (left behind : List AttributeSpecification) (bytes : List ℕ) (used : Used) (place : ℕ)
-    (whole : Result (Used × ℕ) Cause) → left ≡ s ∷ behind
-    → StoredSoFar keep format left bytes used place whole → used_after used
-    (then_read (stored_attributes_at keep format (s ∷ []) bytes place)
-    (λ k. stored_attributes_at keep format behind bytes k)) ≡ whole
-stored-left keep format s left behind bytes used place whole parts so_far =
-    rw (← stored-append keep format (s ∷ []) behind bytes place) (rw parts at so_far)
-
-pub stored-end : (keep : Bool) (format : Format) (left : List AttributeSpecification)
-    (bytes : List ℕ) (used : Used) (place : ℕ) (whole : Result (Used × ℕ) Cause) → left ≡ []
-    → StoredSoFar keep format left bytes used place whole → whole ≡ Ok (used, place)
-unfolding attributes_at
-stored-end keep format left bytes used place whole none so_far =
-    grind (arith, with-none used)

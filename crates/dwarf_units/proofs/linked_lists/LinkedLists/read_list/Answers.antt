@@ -1,6 +1,6 @@
 use Rattle.dwarf_units.proofs
-use proofs.{◌≡◌, ◌≤◌, length, refl, ap, ◌∙◌, arith, err_from_is_err_and, IsLink, used_after}
-use proofs.{link-smaller, link-valid, next-fault, next-read, stored-end, stored-left}
+use proofs.{◌≡◌, ◌≤◌, length, ◌∙◌, arith, err_from_is_err_and, attributes_at, IsLink}
+use proofs.{link-smaller, link-valid, first-read, list_at, with-none}
 use Rattle.dwarf_units.proofs.linked_lists.LinkedLists.read_list.Goals as goal
 
 pub link_of-requires-clause-links : goal.link_of-requires-clause-links
@@ -14,11 +14,16 @@ returns-in_err-read_one c =
     let p = err_from_is_err_and c.from_residual-in_err-read_one.result
     c.from_residual-in_err-read_one.ensures.1 in
     let loop = c.loop-link in
-    rw (p.1, p.2)
-    (next-fault loop.found _ _ c.in_err-read_one.field-0.0 _
-    (stored-left c.args.keep c.args.format c.in-Some.attribute _ _ c.args.cursor.now.bytes
-    loop.found loop.cursor.place _ refl (rw c.in-Some.is at loop.invariant.stored))
-    (rw loop.invariant.bytes at c.in_err-read_one.ensures))
+    grind (
+      arith,
+      p,
+      first-read c.args.keep c.args.format c.in-Some.attribute (list_at c.args.self.now loop.link.rest) c.args.cursor.now.bytes loop.cursor.place
+          loop.found,
+      c.in-Some.is,
+      loop.invariant.stored,
+      loop.invariant.bytes,
+      c.in_err-read_one.ensures,
+    )
 
 next-link : (c : goal.In_ok-link-2) → IsLink c.args.self.now c.loop-link.link.rest
     c.in_ok-link-2.link
@@ -39,19 +44,25 @@ loop-link-preserved c =
     record {
       valid = link-valid c.args.self.now loop.link.rest c.in_ok-link-2.link (next-link c);
       bytes = same;
-      stored =
-          ap (used_after c.read_one.new.found) ((next-link c).stored c.args.keep
-          c.args.format c.args.cursor.now.bytes c.read_one.new.cursor.place within)
-          ∙ next-read loop.found c.read_one.new.found _ _ c.read_one.new.cursor.place _
-          (stored-left c.args.keep c.args.format c.in-Some.attribute _ _ c.args.cursor.now.bytes
-          loop.found loop.cursor.place _ refl (rw c.in-Some.is at loop.invariant.stored))
-          (rw loop.invariant.bytes at c.in_ok-read_one.ensures.0);
+      stored = grind (
+        arith,
+        (next-link c).stored c.args.keep c.args.format c.args.cursor.now.bytes
+            c.read_one.new.cursor.place within,
+        first-read c.args.keep c.args.format c.in-Some.attribute (list_at c.args.self.now loop.link.rest) c.args.cursor.now.bytes loop.cursor.place
+            loop.found,
+        c.in-Some.is,
+        loop.invariant.stored,
+        loop.invariant.bytes,
+        c.in_ok-read_one.ensures,
+      );
     }
 
 pub returns : goal.returns
-returns c =
-    let loop = c.loop-link in (
-      stored-end c.args.keep c.args.format _ c.args.cursor.now.bytes loop.found loop.cursor.place _
-          (rw c.in_default.is refl) loop.invariant.stored,
-      loop.invariant.bytes,
-    )
+unfolding attributes_at
+returns c = grind (
+  arith,
+  with-none c.loop-link.found,
+  c.in_default.is,
+  c.loop-link.invariant.stored,
+  c.loop-link.invariant.bytes,
+)
