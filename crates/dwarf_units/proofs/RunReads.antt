@@ -2,7 +2,7 @@
 use Rattle.dwarf_units.proofs.Common
 use Common.{◌≡◌, ℕ, ◌+◌, ◌≤◌, List, [], ◌∷◌, ◌++◌, Bool, true, false, cond, filter, length, map, refl, sym}
 use Common.{arith, append_assoc, append-nil, Option, Some, None, Result, Ok, nat_le, ReadFault}
-use Common.{option_map, option_map_or, option_to_list, option_and_then_some, Cause, Format, block_at, ◌∙◌, ap}
+use Common.{option_map, option_map_or, option_to_list, option_and_then_some, Cause, Format, block_at, ◌∙◌}
 use Common.{ValueLayout, ◌>>=◌, AttributeSpecification, Unchecked, Checked, Attribute, UsedPosition}
 use Common.{attributes_at, attribute_at, used_value, end_of, fixed_len, used_position}
 use Common.{run_before, runs_from, runs_of, then_read, stretch_at, unchecked_layout, used_among, used_after}
@@ -14,8 +14,8 @@ use Rattle.dwarf_units.specs.Private.FixedSizes.{number_or_zero}
 use Rattle.dwarf_units.proofs.{EntryAdvances.attributes-stay, FixedValues.{IsInLayout, after_bytes}}
 use Rattle.dwarf_units.proofs.FixedValues.{direct-value, fixed-at}
 use Rattle.dwarf_units.proofs.FixedValues.{unchecked-read, with_number}
-use Rattle.dwarf_units.proofs.SlotLaws.{among-append, found-number, used-none, used-some}
-use Rattle.dwarf_units.proofs.StoredReads.{stored-append, used_all}
+use Rattle.dwarf_units.proofs.SlotLaws.{among-append, used-none, used-some}
+use Rattle.dwarf_units.proofs.StoredReads.{one-read, stored-append, used_all}
 
 -- The attributes at these positions if they are stored, otherwise none.
 abbrev kept_in : Bool → Format → List ℕ → ℕ → List UsedPosition → List Attribute
@@ -38,8 +38,8 @@ used-one : (name : ℕ) (value : AttributeValue) (position : UsedName → UsedPo
     → filter (λ (a : Attribute). is_used a.name) (valued name value ∷ [])
     ≡ map read (option_to_list (option_map position found))
 used-one name value position read None is same = rw (used-none name is) refl
-used-one name value position read (Some n) is same = rw (used-some name n is, same n)
-    (ap (λ k. valued k value ∷ []) (found-number name n is))
+used-one name value position read (Some n) is same =
+    rw (used-some (valued name value) n is, same n) refl
 
 -- The attribute with a number, if it is stored.
 abbrev here_in : Bool → AttributeSpecification → ℕ → List Attribute
@@ -59,8 +59,8 @@ stored-one : {X : Type 0} (keep : Bool) (format : Format) (s : AttributeSpecific
     → attribute_at format s bytes at ≡ (r >>= λ x. with_number s (number x) (end x))
     → stored_attributes_at keep format (s ∷ []) bytes at
     ≡ (r >>= λ x. Ok (here_in keep s (number x), end x))
-unfolding attributes_at
-stored-one keep format s bytes at r number end is = rw is (grind arith)
+stored-one keep format s bytes at r number end is =
+    rw (one-read keep format s bytes at _ is) (grind arith)
 
 -- ---- a stretch and the attribute after it
 

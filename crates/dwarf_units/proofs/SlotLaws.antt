@@ -1,93 +1,65 @@
 -- The used attributes of an entry: their names, and adding attributes one by one.
 use Rattle.dwarf_units.proofs.Common
-use Common.{arith, ◌≡◌, ℕ, List, [], ◌∷◌, Bool, true, false, refl, ap, sym, ◌∙◌, ◌++◌, ◌<◌, length}
-use Common.{get_or, Some, None, ◌==◌, find, Option, ne_eqb, UsedName, is_used, name_of}
-use Common.{used_name, Attribute, AttributeValue, value_of, Used, used_among, value_named}
-use Common.{with_used, slot_of}
+use Common.{arith, ◌≡◌, ℕ, List, [], ◌∷◌, Bool, true, false, refl, ◌++◌, ◌<◌, length, get_or, Some}
+use Common.{None, ◌==◌, Option, UsedName, is_used, name_of, used_name, Attribute, AttributeValue}
+use Common.{value_of, Used, used_among, value_named, with_used, slot_of, named_attribute, filter, sym, find, option_map}
+use Rattle.std.specs.List.{list_all}
 use Rattle.std.proofs.{lemmas.Bool.eqb-true, Math.ListN.set, lemmas.List.get_or-set_same}
 use Rattle.std.proofs.lemmas.List.{get_or-set_other}
-use Rattle.dwarf_units.specs.declared.used_name.UsedName.TheVariants.{Name, LinkageName}
-use Rattle.dwarf_units.specs.declared.used_name.UsedName.TheVariants.{AbstractOrigin, Specification}
-use Rattle.dwarf_units.specs.declared.used_name.UsedName.TheVariants.{LowPc, HighPc, Ranges}
-use Rattle.dwarf_units.specs.declared.used_name.UsedName.TheVariants.{CallFile, CallLine, StmtList}
-use Rattle.dwarf_units.specs.declared.used_name.UsedName.TheVariants.{StrOffsetsBase, AddrBase}
-use Rattle.dwarf_units.specs.declared.used_name.UsedName.TheVariants.{RnglistsBase}
-use Rattle.dwarf_units.specs.{Private.Names.used_names, Private.Used.used_by, Private.Slots.in_slot}
+use Rattle.dwarf_units.specs.{Private.Used.used_by, Private.Slots.in_slot}
 use Rattle.dwarf_units.specs.Private.Slots.{in_slots}
-use Rattle.std.specs.Option.{option_or}
+use Rattle.dwarf_units.specs.{Private.Names.used_names, Attributes.used_attributes}
+use Rattle.std.specs.{Prelude.is_some, Option.option_or}
 
-pub named : (name : UsedName) → used_name (name_of name) ≡ Some name
-named name = grind arith
+-- ---- names, their codes and their slots
 
-found-holds : {X : Type 0} (p : X → Bool) (xs : List X) (x : X) → find p xs ≡ Some x → p x ≡ true
-found-holds p [] x is = cc
-found-holds p (y ∷ ys) x is = let rest = found-holds p ys x in grind arith
+-- The element that is found has the property of all, and the one that is sought.
+found-holds : {X : Type 0} (p q : X → Bool) (xs : List X) (x : X) → list_all q xs ≡ true
+    → find p xs ≡ Some x → (p x ≡ true) × (q x ≡ true)
+found-holds p q [] x all is = cc
+found-holds p q (y ∷ ys) x all is = let rest = found-holds p q ys x in grind (arith, all, is, rest)
 
-pub found-number : (number : ℕ) (name : UsedName) → used_name number ≡ Some name
+found-number : (number : ℕ) (name : UsedName) → used_name number ≡ Some name
     → number ≡ name_of name
 found-number number name is = sym (eqb-true (name_of name) number
-    (found-holds (λ n. name_of n == number) used_names name is))
-
--- ---- whether an attribute is used
+    (found-holds (λ n. name_of n == number) (λ _. true) used_names name refl is).0)
 
 number-used : (name : UsedName) → is_used (name_of name) ≡ true
 number-used name = grind arith
 
-pub used-some : (number : ℕ) (name : UsedName) → used_name number ≡ Some name
-    → is_used number ≡ true
-used-some number name is = ap is_used (found-number number name is) ∙ number-used name
+pub used-some : (a : Attribute) (name : UsedName) → used_name a.name ≡ Some name
+    → filter (λ (b : Attribute). is_used b.name) (a ∷ []) ≡ named_attribute name a.value ∷ []
+used-some a name is = rw (found-number a.name name is, number-used name) refl
 
 pub used-none : (number : ℕ) → used_name number ≡ None → is_used number ≡ false
-used-none number none = rw (
-  ne_eqb number 3 (other Name),
-  ne_eqb number 110 (other LinkageName),
-  ne_eqb number 17 (other LowPc),
-  ne_eqb number 18 (other HighPc),
-  ne_eqb number 88 (other CallFile),
-  ne_eqb number 89 (other CallLine),
-  ne_eqb number 49 (other AbstractOrigin),
-  ne_eqb number 71 (other Specification),
-  ne_eqb number 85 (other Ranges),
-  ne_eqb number 16 (other StmtList),
-  ne_eqb number 114 (other StrOffsetsBase),
-  ne_eqb number 115 (other AddrBase),
-  ne_eqb number 116 (other RnglistsBase),
-) refl
+used-none number none = by_row (find (λ row. number == row.0) used_attributes) refl
   where
-    other : (name : UsedName) → number ≡ name_of name → ⊥
-    other name is = let some : used_name number ≡ Some name = ap used_name is ∙ named name in cc
+    by_row : (found : Option (ℕ × List ℕ)) → find (λ row. number == row.0) used_attributes ≡ found
+        → is_some (option_map (λ row. row.1) found) ≡ false
+    by_row None is = refl
+    by_row (Some row) is =
+        let holds = found-holds (λ r. number == r.0) (λ r. is_some (used_name r.0))
+        used_attributes row refl is in
+        let same : number ≡ row.0 = eqb-true number row.0 holds.0 in
+        let some : is_some (used_name number) ≡ true = rw same holds.1 in cc
+
+pub same-slot : (m n : UsedName) → (slot_of m == slot_of n) ≡ (name_of m == name_of n)
+same-slot m n = grind arith
 
 -- ---- the value of each name
 
-pub under-by : (value : UsedName → Option AttributeValue) (name : UsedName)
+under-by : (value : UsedName → Option AttributeValue) (name : UsedName)
     → value_named name (used_by value) ≡ value name
 under-by value name = grind arith
 
 -- Two records with the same value for each name are equal.
-pub same-by : (v w : UsedName → Option AttributeValue) → ((name : UsedName) → v name ≡ w name)
+same-by : (v w : UsedName → Option AttributeValue) → ((name : UsedName) → v name ≡ w name)
     → used_by v ≡ used_by w
-same-by v w same = rw (
-  same Name,
-  same LinkageName,
-  same AbstractOrigin,
-  same Specification,
-  same LowPc,
-  same HighPc,
-  same Ranges,
-  same CallFile,
-  same CallLine,
-  same StmtList,
-  same StrOffsetsBase,
-  same AddrBase,
-  same RnglistsBase,
-) refl
-
-pub by-under : (u : Used) → used_by (λ name. value_named name u) ≡ u
-by-under u = refl
+same-by v w same = grind (arith, same)
 
 -- ---- lists of attributes
 
-pub or-none : {X : Type 0} (x : Option X) → option_or x None ≡ x
+or-none : {X : Type 0} (x : Option X) → option_or x None ≡ x
 or-none x = grind arith
 
 value-append : (xs ys : List Attribute) (name : ℕ)
@@ -97,12 +69,17 @@ value-append (a ∷ xs) ys name = let rest = value-append xs ys name in grind ar
 
 pub among-append : (xs ys : List Attribute) → with_used (used_among xs) ys ≡ used_among (xs ++ ys)
 unfolding with_used
-among-append xs ys = same-by _ _ (λ name. ap (λ x. option_or x (value_of ys (name_of name)))
-    (under-by (λ n. value_of xs (name_of n)) name) ∙ sym (value-append xs ys (name_of name)))
+among-append xs ys = same-by
+    (λ name. option_or (value_named name (used_among xs)) (value_of ys (name_of name)))
+    (λ name. value_of (xs ++ ys) (name_of name)) (λ name. grind (
+      arith,
+      under-by (λ n. value_of xs (name_of n)) name,
+      value-append xs ys (name_of name),
+    ))
 
 pub with-none : (u : Used) → with_used u [] ≡ u
 unfolding with_used
-with-none u = same-by _ _ (λ name. or-none (value_named name u)) ∙ by-under u
+with-none u = same-by _ (λ name. value_named name u) (λ name. or-none (value_named name u))
 
 pub with-twice : (u : Used) (xs ys : List Attribute) → with_used (with_used u xs) ys
     ≡ with_used u (xs ++ ys)
@@ -115,78 +92,57 @@ with-twice u xs ys = same-by
       value-append xs ys (name_of name),
     ))
 
--- ---- names, their codes and their slots
-
-in-names : (name : UsedName) → get_or used_names (slot_of name) Name ≡ name
-in-names name = grind arith
-
-same-name : (x y : UsedName) → slot_of x ≡ slot_of y → x ≡ y
-same-name x y same = sym (in-names x) ∙ (ap (λ slot. get_or used_names slot Name) same ∙ in-names y)
-
--- ---- adding one attribute
-
-not-found : (a : Attribute) (name x : UsedName) → used_name a.name ≡ Some name
-    → (slot_of x ≡ slot_of name → ⊥) → a.name ≡ name_of x → ⊥
-not-found a name x found not_there is =
-    let at : used_name a.name ≡ Some x = ap used_name is ∙ named x in
-    let same : x ≡ name = cc in
-    not_there (ap slot_of same)
-
 -- ---- adding one used attribute in its slot
 
-put-slot : (has : List Bool) (values : List AttributeValue) (a : Attribute) (slot other number : ℕ)
-    → slot < length has → slot < length values → get_or has slot false ≡ false
-    → (other ≡ slot → a.name ≡ number) → ((other ≡ slot → ⊥) → a.name ≡ number → ⊥)
-    → in_slot (set has slot true) (set values slot a.value) other
-    ≡ option_or (in_slot has values other) (value_of (a ∷ []) number)
-put-slot has values a slot other number within place free same apart = grind (
+-- The value of another name, or of the same name.
+put-slot : (has : List Bool) (values : List AttributeValue) (value : AttributeValue)
+    (slot other own number : ℕ) → slot < length has → slot < length values
+    → get_or has slot false ≡ false → (slot == other) ≡ (own == number)
+    → in_slot (set has slot true) (set values slot value) other
+    ≡ option_or (in_slot has values other)
+    (value_of (record { name = own; value = value } ∷ []) number)
+put-slot has values value slot other own number within place free same = grind (
   arith,
   get_or-set_same has slot true false within,
-  get_or-set_same values slot a.value (record { form = 0; number = 0 }) place,
+  get_or-set_same values slot value (record { form = 0; number = 0 }) place,
   get_or-set_other has slot other true false,
-  get_or-set_other values slot other a.value (record { form = 0; number = 0 }),
+  get_or-set_other values slot other value (record { form = 0; number = 0 }),
 )
 
 -- The slot is empty, so the attribute is stored.
-put-each : (has : List Bool) (values : List AttributeValue) (a : Attribute) (name : UsedName)
-    → used_name a.name ≡ Some name → slot_of name < length has → slot_of name < length values
-    → get_or has (slot_of name) false ≡ false → (x : UsedName)
-    → in_slot (set has (slot_of name) true) (set values (slot_of name) a.value) (slot_of x)
-    ≡ option_or (in_slot has values (slot_of x)) (value_of (a ∷ []) (name_of x))
-put-each has values a name found within place free x =
-    put-slot has values a (slot_of name) (slot_of x) (name_of x) within place free
-    (λ same. found-number a.name x (rw (same-name x name same) found)) (not-found a name x found)
-
-pub put-is : (u : Used) (has : List Bool) (values : List AttributeValue) (a : Attribute)
-    (name : UsedName) (slot : ℕ) → in_slots has values ≡ u → slot ≡ slot_of name
-    → used_name a.name ≡ Some name → slot < length has → slot < length values
-    → get_or has slot false ≡ false
-    → in_slots (set has slot true) (set values slot a.value) ≡ with_used u (a ∷ [])
+pub put-is : (u : Used) (has : List Bool) (values : List AttributeValue) (name : UsedName)
+    (value : AttributeValue) (slot : ℕ) → in_slots has values ≡ u → slot ≡ slot_of name
+    → slot < length has → slot < length values → get_or has slot false ≡ false
+    → in_slots (set has slot true) (set values slot value)
+    ≡ with_used u (named_attribute name value ∷ [])
 unfolding with_used
-put-is u has values a name slot is at found within place free = rw (← is, at)
-    (same-by _ _ (λ x. put-each has values a name found (rw (← at) within) (rw (← at) place)
-    (rw (← at) free) x ∙ ap (λ v. option_or v (value_of (a ∷ []) (name_of x)))
-    (sym (under-by (λ n. in_slot has values (slot_of n)) x))))
+put-is u has values name value slot is at within place free = rw (← is) (same-by
+    (λ x. in_slot (set has slot true) (set values slot value) (slot_of x))
+    (λ x. option_or (value_named x (in_slots has values))
+    (value_of (named_attribute name value ∷ []) (name_of x))) (λ x. grind (
+      arith,
+      under-by (λ n. in_slot has values (slot_of n)) x,
+      put-slot has values value slot (slot_of x) (name_of name) (name_of x) within place free
+          (rw (← at) at (same-slot name x)),
+    )))
 
-stored-slot : (has : List Bool) (values : List AttributeValue) (a : Attribute)
-    (slot other number : ℕ) → get_or has slot false ≡ true
-    → ((other ≡ slot → ⊥) → a.name ≡ number → ⊥)
-    → option_or (in_slot has values other) (value_of (a ∷ []) number) ≡ in_slot has values other
-stored-slot has values a slot other number taken apart = grind arith
+taken-slot : (has : List Bool) (values : List AttributeValue) (value : AttributeValue)
+    (slot other own number : ℕ) → get_or has slot false ≡ true → (slot == other) ≡ (own == number)
+    → in_slot has values other ≡ option_or (in_slot has values other)
+    (value_of (record { name = own; value = value } ∷ []) number)
+taken-slot has values value slot other own number taken same = grind arith
 
 -- The slot is occupied, so the attribute is ignored.
-stored-each : (has : List Bool) (values : List AttributeValue) (a : Attribute) (name : UsedName)
-    → used_name a.name ≡ Some name → get_or has (slot_of name) false ≡ true → (x : UsedName)
-    → option_or (in_slot has values (slot_of x)) (value_of (a ∷ []) (name_of x))
-    ≡ in_slot has values (slot_of x)
-stored-each has values a name found taken x =
-    stored-slot has values a (slot_of name) (slot_of x) (name_of x) taken (not-found a name x found)
-
-pub stored-is : (u : Used) (has : List Bool) (values : List AttributeValue) (a : Attribute)
-    (name : UsedName) (slot : ℕ) → in_slots has values ≡ u → slot ≡ slot_of name
-    → used_name a.name ≡ Some name → get_or has slot false ≡ true → u ≡ with_used u (a ∷ [])
+pub stored-is : (u : Used) (has : List Bool) (values : List AttributeValue) (name : UsedName)
+    (value : AttributeValue) (slot : ℕ) → in_slots has values ≡ u → slot ≡ slot_of name
+    → get_or has slot false ≡ true → u ≡ with_used u (named_attribute name value ∷ [])
 unfolding with_used
-stored-is u has values a name slot is at found taken = rw (← is)
-    (sym (same-by _ _ (λ x. ap (λ v. option_or v (value_of (a ∷ []) (name_of x)))
-    (under-by (λ n. in_slot has values (slot_of n)) x) ∙ stored-each has values a name found
-    (rw (← at) taken) x)))
+stored-is u has values name value slot is at taken = rw (← is) (same-by
+    (λ x. in_slot has values (slot_of x))
+    (λ x. option_or (value_named x (in_slots has values))
+    (value_of (named_attribute name value ∷ []) (name_of x))) (λ x. grind (
+      arith,
+      under-by (λ n. in_slot has values (slot_of n)) x,
+      taken-slot has values value slot (slot_of x) (name_of name) (name_of x) taken
+          (rw (← at) at (same-slot name x)),
+    )))

@@ -1,11 +1,11 @@
 -- Reading the attributes of an entry one by one, and storing the used ones.
 use Rattle.dwarf_units.proofs.Common
-use Common.{arith, ◌≡◌, ℕ, List, [], ◌∷◌, ◌++◌, Bool, true, false, refl, sym, ◌∙◌, ◌⊎◌, Some, None}
-use Common.{Result, Ok, Err, Cause, Format, ◌>>=◌, AttributeSpecification, Attribute}
+use Common.{arith, ◌≡◌, ℕ, List, [], ◌∷◌, ◌++◌, Bool, true, refl, sym, Some}
+use Common.{Result, Ok, Cause, Format, ◌>>=◌, AttributeSpecification, Attribute}
 use Common.{UsedName, is_used, attribute_at, attributes_at, named_attribute, used_name, then_read}
 use Common.{stored_attributes, stored_attributes_at, Used, used_among, used_after, with_used}
 use Rattle.std.proofs.lemmas.List.Elements.{filter-append}
-use Rattle.dwarf_units.proofs.SlotLaws.{found-number, used-none, used-some, with-none, with-twice}
+use Rattle.dwarf_units.proofs.SlotLaws.{used-some, with-twice}
 
 -- ---- two lists of attributes
 
@@ -57,23 +57,11 @@ pub stored-append : (keep : Bool) (format : Format) (xs ys : List AttributeSpeci
 stored-append keep format xs ys bytes at =
     rw (attributes-append format xs ys bytes at) (grind (arith, stored-both keep))
 
--- If the first attribute cannot be read, the list cannot.
-pub fault-first : (keep : Bool) (format : Format) (s : AttributeSpecification)
-    (ss : List AttributeSpecification) (bytes : List ℕ) (at : ℕ) (cause : Cause)
-    → attribute_at format s bytes at ≡ Err cause
-    → stored_attributes_at keep format (s ∷ ss) bytes at ≡ Err cause
-unfolding attributes_at
-fault-first keep format s ss bytes at cause read = rw read refl
-
-pub used-front : (u : Used) (front : List Attribute) (r : Result (List Attribute × ℕ) Cause)
-    → used_after u (r >>= with_front front) ≡ used_after (with_used u front) r
-used-front u front r = grind (arith, with-twice u front)
-
 -- The used attributes of two reads, after those that are stored already.
 pub used-both : (u : Used) (r : Result (List Attribute × ℕ) Cause)
     (next : ℕ → Result (List Attribute × ℕ) Cause) → used_after u (then_read r next)
     ≡ (used_after u r >>= λ first. used_after first.0 (next first.1))
-used-both u r next = grind (arith, used-front u)
+used-both u r next = grind (arith, with-twice u)
 
 -- An attribute is read, and then the others.
 pub first-read : (keep : Bool) (format : Format) (s : AttributeSpecification)
@@ -88,36 +76,19 @@ first-read keep format s others bytes place u =
 
 -- ---- one attribute
 
-one-read : (keep : Bool) (format : Format) (s : AttributeSpecification) (bytes : List ℕ) (at : ℕ)
-    (used : Used) (a : Attribute × ℕ) → attribute_at format s bytes at ≡ Ok a
-    → used_after used (stored_attributes_at keep format (s ∷ []) bytes at)
-    ≡ Ok (with_used used (stored_attributes keep (a.0 ∷ [])), a.1)
+-- The attribute is stored if it is read.
+pub one-read : (keep : Bool) (format : Format) (s : AttributeSpecification) (bytes : List ℕ)
+    (at : ℕ) (r : Result (Attribute × ℕ) Cause) → attribute_at format s bytes at ≡ r
+    → stored_attributes_at keep format (s ∷ []) bytes at
+    ≡ (r >>= λ a. Ok (stored_attributes keep (a.0 ∷ []), a.1))
 unfolding attributes_at
-one-read keep format s bytes at used a read = rw read refl
+one-read keep format s bytes at r is = rw is (grind arith)
 
-pub one-fault : (keep : Bool) (format : Format) (s : AttributeSpecification) (bytes : List ℕ)
-    (at : ℕ) (used : Used) (cause : Cause) → attribute_at format s bytes at ≡ Err cause
-    → used_after used (stored_attributes_at keep format (s ∷ []) bytes at) ≡ Err cause
-unfolding attributes_at
-one-fault keep format s bytes at used cause read = rw read refl
-
+-- The attribute is stored under its name if it is used.
 pub one-stored : (keep : Bool) (format : Format) (s : AttributeSpecification) (bytes : List ℕ)
-    (at : ℕ) (used now : Used) (name : UsedName) (a : Attribute × ℕ) → keep ≡ true
-    → used_name a.0.name ≡ Some name
-    → now ≡ with_used used (named_attribute name a.0.value ∷ [])
-    → attribute_at format s bytes at ≡ Ok a
-    → used_after used (stored_attributes_at keep format (s ∷ []) bytes at) ≡ Ok (now, a.1)
-one-stored keep format s bytes at used now name a kept found added read =
-    one-read keep format s bytes at used a read
-    ∙ rw (kept, used-some a.0.name name found, added, ← found-number a.0.name name found) refl
-
-pub one-left : (keep : Bool) (format : Format) (s : AttributeSpecification) (bytes : List ℕ)
-    (at : ℕ) (used : Used) (a : Attribute × ℕ) → (keep ≡ false) ⊎ (used_name a.0.name ≡ None)
-    → attribute_at format s bytes at ≡ Ok a
-    → used_after used (stored_attributes_at keep format (s ∷ []) bytes at) ≡ Ok (used, a.1)
-one-left keep format s bytes at used a why read = grind (
-  arith,
-  one-read keep format s bytes at used a read,
-  used-none a.0.name,
-  with-none used,
-)
+    (at : ℕ) (used : Used) (name : UsedName) (a : Attribute × ℕ) → keep ≡ true
+    → used_name a.0.name ≡ Some name → attribute_at format s bytes at ≡ Ok a
+    → used_after used (stored_attributes_at keep format (s ∷ []) bytes at)
+    ≡ Ok (with_used used (named_attribute name a.0.value ∷ []), a.1)
+one-stored keep format s bytes at used name a kept is read =
+    rw (kept, one-read true format s bytes at (Ok a) read, used-some a.0 name is) refl
