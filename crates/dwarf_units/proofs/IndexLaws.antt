@@ -11,8 +11,8 @@ use Rattle.std.proofs.{Common.if◌then◌else◌, lemmas.List.take_more}
 use Rattle.dwarf_units.specs.Private.Tables.{IsIndexOf, IsTableAt, size_limit, table_read, IsAdded}
 use Rattle.dwarf_units.specs.Private.Tables.{IsAt, StaysCached}
 use Rattle.dwarf_units.proofs.{StoredLaws.cached, TableLaws.{cached-parsed, parsed-again}}
-use Rattle.dwarf_units.proofs.TableLaws.{parsed-too-long, parsed-at, last-at}
-use Rattle.dwarf_forms.proofs.Elements.{at-front}
+use Rattle.dwarf_units.proofs.TableLaws.{parsed-too-long, parsed-at}
+use Rattle.dwarf_forms.proofs.Elements.{at-end, at-front}
 
 -- The map has the index of a table.
 number-is : (section : List ℕ) (tables : List Table) (permanent budget : ℕ) (numbers : Numbers)
@@ -132,7 +132,7 @@ stays-with old unit table within at parsed =
         IsCachedOrTooLarge new unit × StaysCached old new)
     by_test before len is true fits =
         let tables : List Table = before ++ table ∷ [] in
-        let last = last-at before tables (length before) table refl refl in
+        let last = at-end before table (length before) refl in
         rw (take-length tables, ← is)
         ((table, at, parsed, inl (length before, last)), (table ∷ [], refl))
     by_test before len is false past =

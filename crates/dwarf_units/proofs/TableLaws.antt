@@ -2,10 +2,10 @@
 use Rattle.dwarf_units.proofs.Common
 use Common.{◌≡◌, ℕ, ◌+◌, ◌-◌, ◌<◌, ◌≤◌, ◌⊎◌, inl, inr, List, [], ◌∷◌, ◌++◌, length, take, drop}
 use Common.{get_or, refl, sym, ◌∙◌, arith, add-one, Some, Result, Ok, Err, slice_get, sum_by, All}
-use Common.{All-push, slice_get_within, get_or_from_slice_get, sum_by-append, drop_all, LoadFault}
+use Common.{slice_get_within, get_or_from_slice_get, sum_by-append, drop_all, LoadFault}
 use Common.{memory_fault, in_section, Declaration, UnitHeader, Table, IsParsedFrom}
 use Common.{declarations_limit}
-use Rattle.std.proofs.{Common.drop-cons, lemmas.List.Elements.All-take}
+use Rattle.std.proofs.{Common.drop-cons}
 use Rattle.dwarf_bytes.specs.{declared.fault.Section.Section, Items.{At, each_from}}
 use Rattle.dwarf_bytes.proofs.Items.EachLaws.{made_front, each-next, each-fault, each-end}
 use Rattle.dwarf_bytes.proofs.Items.EachPlaces.{each-place}
@@ -158,21 +158,3 @@ parsed-too-long section table offset left read parsed same is_read few past =
     let again = table-again left declarations_limit section offset read ok
     (omega (arith, short, few)) in
     grind (arith, same, parsed.1, again, short)
-
--- The invariant holds for a shorter list of tables, and for one more table appended.
-pub parsed-before : (section : List ℕ) (tables after : List Table) (permanent : ℕ)
-    → All (IsParsedFrom section) tables → after ≡ take permanent tables
-    → All (IsParsedFrom section) after
-parsed-before section tables after permanent all is =
-    rw is (All-take (IsParsedFrom section) permanent tables all)
-
-pub parsed-after : (section : List ℕ) (tables after : List Table) (permanent : ℕ) (table : Table)
-    → All (IsParsedFrom section) tables → IsParsedFrom section table
-    → after ≡ take permanent tables ++ table ∷ [] → All (IsParsedFrom section) after
-parsed-after section tables after permanent table all one is =
-    rw is (All-push (IsParsedFrom section) (take permanent tables) table
-    (All-take (IsParsedFrom section) permanent tables all) one)
-
-pub last-at : (before after : List Table) (number : ℕ) (table : Table)
-    → after ≡ before ++ table ∷ [] → number ≡ length before → slice_get after number ≡ Some table
-last-at before after number table is at = rw is (at-end before table number at)
