@@ -1,17 +1,17 @@
 -- Finding the table of a unit in the cache, and keeping it there as tables are added.
 use Rattle.dwarf_units.proofs.Common
 use Common.{◌≡◌, ◌⊎◌, inl, inr, ℕ, ◌+◌, ◌<◌, ◌≤◌, List, length, take, length-take-le, sym, arith}
-use Common.{take_all, Bool, get_or, [], ◌∷◌, ◌++◌, true, false, refl, append-nil, Some, Ok}
+use Common.{take_all, Bool, get_or, [], ◌∷◌, ◌++◌, true, false, refl, append-nil, Some}
 use Common.{slice_get, sum_by, nat_le, cases_lt, get_or-take, get_or_from_slice_get}
-use Common.{slice_get-get_or, slice_get_within, Format, Declaration, Numbers, UnitHeader}
+use Common.{slice_get-get_or, slice_get_within, Format, Numbers, UnitHeader}
 use Common.{declarations_limit, Table, table_size, number_at, AreCached, CachedTables}
 use Common.{IsCachedOrTooLarge, IsParsedFrom, with_table, All, take-append_seam, take-length}
 use Common.{common_steps, All-push, sum_by_push, sum_by-append}
 use Rattle.std.proofs.{Common.if◌then◌else◌, lemmas.List.take_more}
-use Rattle.dwarf_units.specs.Private.Tables.{IsIndexOf, IsTableAt, size_limit, table_read, IsAdded}
+use Rattle.dwarf_units.specs.Private.Tables.{IsIndexOf, IsTableAt, size_limit, IsAdded}
 use Rattle.dwarf_units.specs.Private.Tables.{IsAt, StaysCached}
 use Rattle.dwarf_units.proofs.{StoredLaws.cached, TableLaws.{cached-parsed, parsed-again}}
-use Rattle.dwarf_units.proofs.TableLaws.{parsed-too-long, parsed-at}
+use Rattle.dwarf_units.proofs.TableLaws.{parsed-at}
 use Rattle.dwarf_forms.proofs.Elements.{at-end, at-front}
 
 -- The map has the index of a table.
@@ -67,26 +67,6 @@ index-stays section tables permanent budget number numbers unit are (table, at, 
         let within = slice_get_within tables number table at in
         let last : number ≡ permanent = omega (arith, le, within, are.one) in
         inr (omega (arith, are.past table (rw last at at), are.counted))
-
--- A cached table is parsed again if the remaining budget is large enough ..
-pub index-fits : (k : CachedTables) (unit : UnitHeader) (number left : ℕ) (t : Table)
-    → IsIndexOf k unit number → slice_get k.tables number ≡ Some t
-    → length t.declarations ≤ left → table_read left k.section unit ≡ Ok t.declarations
-index-fits k unit number left t is found few = grind (
-  arith,
-  is.found,
-  found,
-  parsed-again k.section is.table unit.abbreviations left is.parsed is.at.0,
-)
-
--- .. and refused if it is not.
-pub index-long : {X : Type 0} (k : CachedTables) (unit : UnitHeader) (number left : ℕ) (t : Table)
-    (read : List Declaration) → IsIndexOf k unit number → slice_get k.tables number ≡ Some t
-    → table_read left k.section unit ≡ Ok read → left ≤ declarations_limit
-    → left < length t.declarations → X
-index-long k unit number left t read is found is_read few past =
-    parsed-too-long k.section is.table unit.abbreviations left read is.parsed is.at.0 is_read few
-    (grind (arith, is.found, found))
 
 -- What holds for the table of a unit still holds after more tables are cached.
 pub stays-on : (old new : CachedTables) (unit : UnitHeader) → StaysCached old new

@@ -1,11 +1,10 @@
 -- The iterations of the loop over the tables of the units.
 use Rattle.dwarf_units.proofs.Common
-use Common.{◌≡◌, ℕ, ◌+◌, ◌-◌, ◌<◌, ◌≤◌, ◌⊎◌, inl, inr, List, [], ◌∷◌, ◌++◌, length, take, drop}
-use Common.{get_or, refl, sym, ◌∙◌, arith, add-one, Some, Result, Ok, Err, slice_get, sum_by, All}
-use Common.{slice_get_within, get_or_from_slice_get, sum_by-append, drop_all, LoadFault}
+use Common.{◌≡◌, ℕ, ◌+◌, ◌-◌, ◌<◌, ◌≤◌, ◌⊎◌, List, [], ◌∷◌, ◌++◌, length, take, drop}
+use Common.{get_or, refl, sym, ◌∙◌, arith, Some, Result, Ok, Err, slice_get, sum_by, All}
+use Common.{slice_get_within, get_or_from_slice_get, sum_by_push, drop_more, drop_all, LoadFault}
 use Common.{memory_fault, in_section, Declaration, UnitHeader, Table, IsParsedFrom}
 use Common.{declarations_limit}
-use Rattle.std.proofs.{Common.drop-cons}
 use Rattle.dwarf_bytes.specs.{declared.fault.Section.Section, Items.{At, each_from}}
 use Rattle.dwarf_bytes.proofs.Items.EachLaws.{made_front, each-next, each-fault, each-end}
 use Rattle.dwarf_bytes.proofs.Items.EachPlaces.{each-place}
@@ -44,16 +43,12 @@ checked-next section units index left after d table so_far within found counted 
     let here : table_for section so_far.made unit ≡ Ok table = rw budget
     (in_section-ok sections.DebugAbbrev (declarations_of left section unit.abbreviations) table
     found) in
-    let rest : drop index units ≡ unit ∷ drop (index + 1) units =
-    rw (add-one, drop-cons units index d within) refl in
-    let sum : sum_by length (so_far.made ++ table ∷ []) ≡ sum_by length so_far.made + length table =
-    sum_by-append length so_far.made (table ∷ []) ∙ omega arith in
     record {
       made = so_far.made ++ table ∷ [];
-      counted = omega (arith, so_far.counted, counted, sum);
+      counted = omega (arith, so_far.counted, counted, sum_by_push length so_far.made table);
       read = sym (each-next (table_for section) so_far.made unit (drop (index + 1) units) table
           here)
-          ∙ rw (← rest) so_far.read;
+          ∙ rw (← drop_more units index d within) so_far.read;
     }
 
 pub checked-end : (section : List ℕ) (units : List UnitHeader) (index left : ℕ)
@@ -61,10 +56,15 @@ pub checked-end : (section : List ℕ) (units : List UnitHeader) (index left : �
     → (tables : List (List Declaration))
     × (in_section sections.DebugAbbrev (tables_of section units) ≡ Ok tables)
 unfolding tables_of
-checked-end section units index left so_far past =
-    let all : each_from (table_for section) [] units ≡ Ok so_far.made = sym so_far.read
-    ∙ rw (drop_all index units past) (each-end (table_for section) so_far.made) in
-    (so_far.made, rw all refl)
+checked-end section units index left so_far past = (
+  so_far.made,
+  grind (
+    arith,
+    so_far.read,
+    drop_all index units past,
+    each-end (table_for section) so_far.made,
+  ),
+)
 
 pub checked-fault : (section : List ℕ) (units : List UnitHeader) (index left : ℕ) (d : UnitHeader)
     (fault : LoadFault) → AreParsedSoFar section units index left → index < length units
@@ -73,15 +73,12 @@ pub checked-fault : (section : List ℕ) (units : List UnitHeader) (index left :
     → (fault ≡ memory_fault) ⊎ (in_section sections.DebugAbbrev (tables_of section units)
     ≡ Err fault)
 unfolding tables_of
-checked-fault section units index left d fault so_far within (inl memory) = inl memory
-checked-fault section units index left d fault so_far within (inr bad) =
+checked-fault section units index left d fault so_far within bad =
     let budget : left ≡ declarations_limit - sum_by length so_far.made =
     omega (arith, so_far.counted) in
-    let rest : drop index units ≡ get_or units index d ∷ drop (index + 1) units =
-    rw (add-one, drop-cons units index d within) refl in
     let faults = each-fault (table_for section) so_far.made (get_or units index d)
     (drop (index + 1) units) in
-    grind (arith, budget, rest, so_far.read, faults, bad)
+    grind (arith, budget, drop_more units index d within, so_far.read, faults, bad)
 
 -- A table that was parsed is parsed to the same result with any budget that is large enough.
 pub table-again : (budget other : ℕ) (section : List ℕ) (offset : ℕ) (table : List Declaration)

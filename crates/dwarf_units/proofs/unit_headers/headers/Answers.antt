@@ -1,9 +1,18 @@
-use Rattle.dwarf_units.proofs.{arith, sym, unit_at-moves, units-item, units-end, units-fault}
+use Rattle.dwarf_units.proofs.{arith, refl, sym, length, header_at, header_at-advances, unit_at-moves}
+use Rattle.dwarf_units.proofs.{at_item_cases}
+use Rattle.dwarf_units.specs.Units.{headers_of}
+use Rattle.dwarf_bytes.proofs.Items.Turns.{so-far-item, so-far-end, so-far-fault}
 use Rattle.dwarf_units.proofs.unit_headers.headers.Goals as goal
 
 pub returns-in-Err : goal.returns-in-Err
-returns-in-Err c = units-fault c.args.info.now c.loop-at.all.items c.loop-at.at c.in-Err.cause
-    c.at_item.result c.loop-at.invariant.read c.loop-at-test.true c.in-Err.ensures c.at_item.ensures
+unfolding headers_of
+returns-in-Err c =
+    let info = c.args.info.now in
+    let loop = c.loop-at in
+    let stops = so-far-fault (length info) (header_at info) (header_at-advances info) 0
+    loop.all.items loop.at c.in-Err.cause loop.invariant.read
+    (grind (arith, c.loop-at-test.true, c.in-Err.ensures)) in
+    grind (arith, stops, c.at_item.ensures, at_item_cases c.in-Err.cause loop.at)
 
 pub loop-at-smaller : goal.loop-at-smaller
 loop-at-smaller c =
@@ -12,14 +21,21 @@ loop-at-smaller c =
 
 pub loop-at-preserved : goal.loop-at-preserved
 loop-at-preserved c =
-    let moved = unit_at-moves c.args.info.now c.loop-at.at c.in-Ok.header (sym c.in-Ok.ensures) in
+    let info = c.args.info.now in
+    let loop = c.loop-at in
+    let header = c.in-Ok.header in
     record {
-      within = moved.1;
-      read = rw (c.in_ok-push-in-Ok.ensures.items)
-          (units-item c.args.info.now c.loop-at.all.items c.loop-at.at c.in-Ok.header
-          c.loop-at.invariant.read c.loop-at-test.true c.in-Ok.ensures);
+      within = (unit_at-moves info loop.at header (sym c.in-Ok.ensures)).1;
+      read = rw c.in_ok-push-in-Ok.ensures.items
+          (so-far-item (length info) (header_at info) (header_at-advances info) 0 loop.all.items
+          loop.at header header.end loop.invariant.read
+          (grind (arith, c.loop-at-test.true, c.in-Ok.ensures)));
     }
 
 pub returns : goal.returns
-returns c = units-end c.args.info.now c.loop-at.all.items c.loop-at.at c.loop-at.invariant.read
-    c.loop-at-test.false
+unfolding headers_of
+returns c =
+    let info = c.args.info.now in
+    let loop = c.loop-at in
+    rw (so-far-end (length info) (header_at info) (header_at-advances info) 0 loop.all.items loop.at
+    loop.at loop.invariant.read (grind (arith, c.loop-at-test.false))) refl

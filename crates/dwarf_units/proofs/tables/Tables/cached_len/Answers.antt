@@ -1,19 +1,27 @@
-use Rattle.dwarf_units.proofs.{arith, sym, index-fits, index-long}
+use Rattle.dwarf_units.proofs.{arith, sym, parsed-again, parsed-too-long}
 use Rattle.dwarf_units.proofs.tables.Tables.cached_len.Goals as goal
 
 pub returns-then-len-left-clause-none : goal.returns-then-len-left-clause-none
 returns-then-len-left-clause-none c = λ read is_read i table at is.
-    index-long c.self.inside.store c.args.unit.now c.in_ok-number.number c.args.left
-    c.table.result.now read c.in_ok-number.ensures.some c.table.ensures.found
-    (rw (← c.self.view_is) at is_read) c.requires
-    (omega (arith, c.len-len.ensures, c.if-len-left.true))
+    let some = c.in_ok-number.ensures.some in
+    parsed-too-long c.self.inside.store.section some.table c.args.unit.now.abbreviations c.args.left
+    read some.parsed some.at.0 (rw (← c.self.view_is) at is_read) c.requires
+    (grind (arith, c.len-len.ensures, c.if-len-left.true, some.found, c.table.ensures.found))
 
 pub returns-clause-some : goal.returns-clause-some
-returns-clause-some c = (
-  c.table.result.now.declarations,
-  rw (← c.self.view_is) (index-fits c.self.inside.store c.args.unit.now c.in_ok-number.number
-      c.args.left c.table.result.now c.in_ok-number.ensures.some c.table.ensures.found
-      (omega (arith, c.len-len.ensures, c.if-len-left.false))),
-  sym c.len-len.ensures,
-  c.if-len-left.false,
-)
+returns-clause-some c =
+    let some = c.in_ok-number.ensures.some in
+    let again = parsed-again c.self.inside.store.section some.table c.args.unit.now.abbreviations
+    c.args.left some.parsed some.at.0 in (
+      c.table.result.now.declarations,
+      rw (← c.self.view_is) (grind (
+        arith,
+        again,
+        some.found,
+        c.table.ensures.found,
+        c.len-len.ensures,
+        c.if-len-left.false,
+      )),
+      sym c.len-len.ensures,
+      c.if-len-left.false,
+    )
