@@ -2,12 +2,12 @@
 use Rattle.dwarf_units.proofs.Common
 use Common.{◌≡◌, ℕ, ◌≤◌, ℤ, List, length, drop, arith, length-take, Option, Some, None, Result, Ok}
 use Common.{Err, ◌==◌, Format, Form, Direct, ImplicitConst, Indirect, ValueLayout, ◌>>=◌, form_of}
-use Common.{Content, Signed, content_at, block_at, fixed_at, uleb_at, ValueFault, Value, direct_at}
+use Common.{Content, Signed, content_at, fixed_at, uleb_at, ValueFault, Value, direct_at}
 use Common.{value_at}
 use Rattle.std.proofs.{Common.length-drop, lemmas.List.Quantifiers.position-Some}
 use Rattle.dwarf_bytes.specs.Numbers.{sleb_at, cstr_at, text_front, offset_at}
-use Rattle.dwarf_bytes.proofs.Numbers.Advance.{uleb_at-moves, sleb_at-moves}
-use Rattle.dwarf_bytes.proofs.Numbers.Moves.{block_at-moves, fixed_at-moves}
+use Rattle.dwarf_bytes.proofs.Numbers.Advance.{sleb_at-moves}
+use Rattle.dwarf_bytes.proofs.Numbers.Moves.{block_at-moves, fixed_at-moves, uleb-moves}
 use Rattle.dwarf_forms.specs.Values.{reading_value as of_value}
 use Rattle.dwarf_forms.specs.declared.values.ValueFault.TheVariants as values
 
@@ -18,14 +18,6 @@ StaysWithin bytes at after = (at ≤ after) × (after ≤ length bytes)
 pub fixed-stays : (n : ℕ) (bytes : List ℕ) (at : ℕ) (x : ℕ × ℕ) → fixed_at n bytes at ≡ Ok x
     → StaysWithin bytes at x.1
 fixed-stays n bytes at x h = grind (arith, fixed_at-moves n bytes at x h)
-
-block-stays : (n : ℕ) (bytes : List ℕ) (at : ℕ) (x : List ℕ × ℕ) → block_at n bytes at ≡ Ok x
-    → StaysWithin bytes at x.1
-block-stays n bytes at x h = grind (arith, block_at-moves n bytes at x h)
-
-uleb-stays : (bytes : List ℕ) (at : ℕ) (x : ℕ × ℕ) → uleb_at bytes at ≡ Ok x
-    → StaysWithin bytes at x.1
-uleb-stays bytes at x h = grind (arith, uleb_at-moves bytes at x.0 x.1)
 
 sleb-stays : (bytes : List ℕ) (at : ℕ) (x : ℤ × ℕ) → sleb_at bytes at ≡ Ok x
     → StaysWithin bytes at x.1
@@ -54,9 +46,9 @@ content-stays layout format bytes at x le h = grind (
   fixed-stays,
   offset-stays format bytes at,
   sleb-stays bytes at,
-  uleb-stays bytes at,
+  uleb-moves bytes at,
   cstr-stays bytes at,
-  block-stays,
+  block_at-moves,
 )
 
 direct-stays : (form : ℕ) (format : Format) (bytes : List ℕ) (at : ℕ) (x : Value × ℕ)
@@ -91,4 +83,4 @@ value-stays form format constant bytes at x le h = by_form (form_of form) h
           >>= λ inner. direct_at inner.0 format bytes inner.1
     ]) ≡ Ok x → StaysWithin bytes at x.1
     by_form found h =
-        grind (arith, uleb-stays bytes at, λ (form : ℕ). direct-stays form format bytes)
+        grind (arith, uleb-moves bytes at, λ (form : ℕ). direct-stays form format bytes)

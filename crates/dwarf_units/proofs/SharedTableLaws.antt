@@ -1,11 +1,11 @@
 -- Tables whose declarations share attributes, compared with tables whose declarations have all
 -- attributes.
 use Rattle.dwarf_units.proofs.Common
-use Common.{◌≡◌, ℕ, suc, ◌+◌, ◌*◌, List, [], ◌∷◌, length, take, refl, ap, sym, ◌∙◌, arith}
+use Common.{◌≡◌, ℕ, suc, ◌+◌, ◌*◌, List, [], ◌∷◌, length, take, refl, ap, arith}
 use Common.{append-nil, Bool, ◌==◌, Option, Some, map, find, option_map, slice_get, sum_by, All}
-use Common.{take-append_seam, AttributeSpecification, Declaration, AreShared, IsShared}
+use Common.{take-append_seam, Declaration, AreShared, IsShared}
 use Common.{SharedDeclaration, full_declarations, Table, table_size}
-use Rattle.std.proofs.{lemmas.List.take_all, lemmas.List.Folds.fold-map}
+use Rattle.std.proofs.{lemmas.List.take_all, lemmas.List.Sums.sum_by-cons}
 use Rattle.std.proofs.lemmas.Option.{slice_get-map}
 use Rattle.abbreviation_memo.specs.declared.shared.TheConstants.{UNSHARED}
 use Rattle.abbreviation_memo.specs.Declarations.{SharedAttributes, all_of, full_declaration}
@@ -48,25 +48,18 @@ own-first section list is = grind (
   take-append_seam list.own,
 )
 
-own-lists : (section : List ℕ) (ds : List SharedDeclaration)
-    → AreShared section ds
-    → map own_attributes (full_declarations section ds) ≡ map (λ d. d.list.own) ds
-own-lists section [] are = refl
-own-lists section (d ∷ ds) are =
-    let first = own-first section d.list (are 0 d (omega arith)) in
-    let rest = own-lists section ds (λ k e lt. are (suc k) e (omega (arith, lt))) in
-    grind arith
-
-own-sum : (section : List ℕ) (ds : List SharedDeclaration)
-    → AreShared section ds
+own-sum : (section : List ℕ) (ds : List SharedDeclaration) → AreShared section ds
     → sum_by (λ d. length (own_attributes d)) (full_declarations section ds)
     ≡ sum_by (λ d. length d.list.own) ds
-own-sum section ds are =
-    sym (fold-map (λ (a : ℕ) (l : List AttributeSpecification). a + length l) own_attributes 0
-    (full_declarations section ds))
-    ∙ rw (own-lists section ds are)
-    (fold-map (λ (a : ℕ) (l : List AttributeSpecification). a + length l)
-    (λ (d : SharedDeclaration). d.list.own) 0 ds)
+own-sum section [] are = refl
+own-sum section (d ∷ ds) are = grind (
+  arith,
+  own-first section d.list (are 0 d (omega arith)),
+  own-sum section ds (λ k e lt. are (suc k) e (omega (arith, lt))),
+  sum_by-cons (λ (e : Declaration). length (own_attributes e)) (full_declaration section d)
+      (full_declarations section ds),
+  sum_by-cons (λ (e : SharedDeclaration). length e.list.own) d ds,
+)
 
 -- The size is computed from the stored declarations.
 pub size-is : (table : Table) (ds : List SharedDeclaration) (len attributes : ℕ)
