@@ -2,8 +2,7 @@
 use Rattle.dwarf_units.proofs.Common
 use Common.{◌≡◌, ℕ, ◌≤◌, ℤ, List, length, drop, arith, length-take, Option, Some, None, Result, Ok}
 use Common.{Err, ◌==◌, Format, Form, Direct, ImplicitConst, Indirect, ValueLayout, ◌>>=◌, form_of}
-use Common.{Content, Signed, content_at, fixed_at, uleb_at, ValueFault, Value, direct_at}
-use Common.{value_at}
+use Common.{Content, Signed, content_at, fixed_at, uleb_at, ValueFault, Value, direct_at, value_at}
 use Rattle.std.proofs.{Common.length-drop, lemmas.List.Quantifiers.position-Some}
 use Rattle.dwarf_bytes.specs.Numbers.{sleb_at, cstr_at, text_front, offset_at}
 use Rattle.dwarf_bytes.proofs.Numbers.Advance.{sleb_at-moves}

@@ -1,10 +1,10 @@
 -- The used attributes of an entry whose attributes all have a fixed size.
 use Rattle.dwarf_units.proofs.Common
-use Common.{◌≡◌, ℕ, ◌≤◌, List, [], ◌∷◌, ◌++◌, length, Bool, true, append-nil, arith}
-use Common.{refl, map, sym, ◌∙◌, ◌==◌, Option, Ok, option_map, slice_get, find, Format}
-use Common.{AttributeSpecification, Attribute, AttributeValue, UsedName, UsedPosition, value_of}
-use Common.{used_among, value_named, attribute_in, attributes_in, name_of, Runs, all_at, runs_of}
-use Common.{index_in, slot_of, used_attributes_at}
+use Common.{◌≡◌, ℕ, ◌≤◌, List, [], ◌∷◌, ◌++◌, length, Bool, true, append-nil, arith, refl, map, sym}
+use Common.{◌∙◌, ◌==◌, Option, Ok, option_map, slice_get, find, Format, AttributeSpecification}
+use Common.{Attribute, AttributeValue, UsedName, UsedPosition, value_of, used_among, value_named}
+use Common.{attribute_in, attributes_in, name_of, Runs, all_at, runs_of, index_in, slot_of}
+use Common.{used_attributes_at}
 use Rattle.std.proofs.lemmas.List.Folds.{find_at}
 use Rattle.dwarf_units.proofs.{RunReads.runs-read, SlotLaws.same-slot}
 
@@ -45,4 +45,4 @@ pub unshared-read : (format : Format) (own rest : List AttributeSpecification) (
     → all_at true format all bytes at ≡ Ok (attributes, after)
     → used_attributes_at true format (own ++ rest) bytes at ≡ Ok (used_among attributes, after)
 unshared-read format own rest all bytes at after attributes le is none read =
-    rw (none, append-nil own, ← runs-read true format own bytes at le, ← is, read) refl
+    rw (none, append-nil own, ← runs-read true format bytes own at le, ← is, read) refl

@@ -57,27 +57,6 @@ checked-fine : (s : AttributeSpecification) (negative : Content → Bool)
     ≡ (reading_value (of_value r >>= as_value s) >>= checked s negative)
 checked-fine s negative r fine = grind arith
 
--- An attribute whose form is in its declaration is read as a value of this form.
-attribute-direct : (format : Format) (s : AttributeSpecification) (found : Form) (bytes : List ℕ)
-    (at : ℕ) → accepts s.name s.form ≡ true → form_of s.form ≡ Some found
-    → (found ≡ Indirect → ⊥) → attribute_at format s bytes at
-    ≡ (reading_value (value_at s.form format s.constant bytes at)
-    >>= checked s (is_negative_count s.name))
-attribute-direct format s found bytes at fine is apart =
-    rw (not-indirect s.form found is apart, fine) refl
-
--- An attribute whose form has a layout is read by the layout, if its value is no negative count.
-in-layout : (format : Format) (s : AttributeSpecification) (layout : ValueLayout)
-    (bytes : List ℕ) (at : ℕ) → accepts s.name s.form ≡ true → form_of s.form ≡ Some (Direct layout)
-    → IsFine (is_negative_count s.name) (content_at layout format bytes at)
-    → (reading (content_at layout format bytes at) >>= as_attribute s)
-    ≡ attribute_at format s bytes at
-unfolding value_at direct_at
-in-layout format s layout bytes at fine is valid =
-    checked-fine s (is_negative_count s.name) (content_at layout format bytes at) valid
-    ∙ sym (attribute-direct format s (Direct layout) bytes at fine is (λ e. cc)
-    ∙ rw (is, value_at) (rw (is, direct_at) refl))
-
 -- What is known of an attribute from its form follows from the layout of its value, or from the
 -- constant of its declaration.
 pub by-form : {X P : Type 0} (in_layout : ValueLayout → Option X) (constant : Option X) (x : X)
@@ -97,44 +76,14 @@ by-form in_layout constant x true (Some (Direct layout)) is direct declared =
 by-form in_layout constant x true (Some ImplicitConst) is direct declared = declared refl refl is
 by-form in_layout constant x true (Some Indirect) is direct declared = cc
 
--- ---- values that need no check
-
+-- The value in a layout that needs no check is no negative count.
 valid-fine : (name : ℕ) (layout found : ValueLayout) (format : Format) (bytes : List ℕ) (at : ℕ)
     (b : Bool) → ((c : Content) → b ≡ false → is_negative_count name c ≡ false)
-    → cond (b && is_signed layout) None (Some layout) ≡ Some found
-    → IsFine (is_negative_count name) (content_at layout format bytes at)
+    → cond (b && is_signed layout) None (Some layout) ≡ Some found → (layout ≡ found)
+    × IsFine (is_negative_count name) (content_at layout format bytes at)
 unfolding content_at
 valid-fine name layout found format bytes at b unused h =
     grind (arith, λ (z : ℤ). unused (Signed z), never-count name)
-
-same-layout : (name : ℕ) (layout found : ValueLayout) (b : Bool)
-    → cond b None (Some layout) ≡ Some found → layout ≡ found
-same-layout name layout found b h = grind arith
-
--- An attribute whose value needs no check is read by its layout.
-pub record IsInLayout (format : Format) (s : AttributeSpecification) (layout : ValueLayout)
-    (bytes : List ℕ) (at : ℕ) : Type 0 where
-  pub form : form_of s.form ≡ Some (Direct layout)
-  pub read : (reading (content_at layout format bytes at) >>= as_attribute s)
-      ≡ attribute_at format s bytes at
-
-pub direct-value : (n : ℕ) (s : AttributeSpecification) (layout : ValueLayout)
-    → form_of s.form ≡ Some (Direct layout) → used_value n s ≡ At n layout
-direct-value n s layout is = rw (is, used_value) refl
-
-pub unchecked-read : (format : Format) (s : AttributeSpecification) (layout : ValueLayout)
-    (bytes : List ℕ) (at : ℕ) → unchecked_layout s ≡ Some layout
-    → IsInLayout format s layout bytes at
-unfolding unchecked_layout
-unchecked-read format s layout bytes at h =
-    by-form (valid_layout s.name) None layout (accepts s.name s.form) (form_of s.form) h
-    (λ own fine is valid. rw (← same-layout s.name own layout (is_used s.name && is_signed own)
-    valid) (record {
-      form = is;
-      read = in-layout format s own bytes at fine is
-          (valid-fine s.name own layout format bytes at (is_used s.name)
-          (λ c unused. grind (arith, unused)) valid);
-    })) (λ fine is none. cc)
 
 -- ---- values of a fixed size
 
@@ -147,44 +96,21 @@ pub after-none : {X : Type 0} (bytes : List ℕ) (at : ℕ) (next : ℕ → Resu
 unfolding block_at
 after-none bytes at next le = grind (arith, le)
 
--- A read takes n bytes and returns a value with the property Good, or fails because fewer than n
--- bytes remain.
-abbrev ReadsFixed : {X E : Type 0} → (X → Type 0) → E → ℕ → List ℕ → ℕ → Result (X × ℕ) E → Type 0
-ReadsFixed Good short n bytes at (Ok x) = Good x.0 × (x.1 ≡ at + n) × (at + n ≤ length bytes)
-ReadsFixed Good short n bytes at (Err e) = (e ≡ short) × (length bytes < at + n)
-
-fixed-fixed : (n : ℕ) (bytes : List ℕ) (at : ℕ)
-    → ReadsFixed (λ _. Unit {0}) faults.Short n bytes at (fixed_at n bytes at)
-unfolding fixed_at block_at
-fixed-fixed n bytes at = grind arith
+-- A read takes n bytes and returns no negative number, or fails because fewer than n bytes remain.
+abbrev IsFixed : ℕ → List ℕ → ℕ → Result (Content × ℕ) ReadFault → Type 0
+IsFixed n bytes at (Ok c) =
+    (is_negative c.0 ≡ false) × (c.1 ≡ at + n) × (at + n ≤ length bytes)
+IsFixed n bytes at (Err e) = (e ≡ faults.Short) × (length bytes < at + n)
 
 content-fixed : (layout : ValueLayout) (format : Format) (n : ℕ) (bytes : List ℕ) (at : ℕ)
     → layout_len format layout ≡ Some n → at ≤ length bytes
-    → ReadsFixed (λ c. is_negative c ≡ false) faults.Short n bytes at
-    (content_at layout format bytes at)
-unfolding content_at block_at
-content-fixed layout format n bytes at len le =
-    grind (arith, λ (k : ℕ). fixed-fixed k bytes at, fixed-fixed 4 bytes at, fixed-fixed 8 bytes at)
+    → IsFixed n bytes at (content_at layout format bytes at)
+unfolding content_at fixed_at block_at
+content-fixed layout format n bytes at len le = grind arith
 
--- An attribute of m bytes, n bytes after the first one, has the value at its position.
-abbrev pub IsAt : Format → AttributeSpecification → List ℕ → ℕ → ℕ → ℕ → Type 0
-IsAt format s bytes first n m = attribute_at format s bytes (first + n)
-    ≡ after_bytes m bytes (first + n)
-    (with_number s (number_in format bytes first (used_value n s)))
-
-in-block : (format : Format) (s : AttributeSpecification) (bytes : List ℕ) (first n m : ℕ)
-    (layout : ValueLayout) (r : Result (Content × ℕ) ReadFault)
-    → content_at layout format bytes (first + n) ≡ r → first + n ≤ length bytes
-    → ReadsFixed (λ c. is_negative c ≡ false) faults.Short m bytes (first + n) r
-    → (reading r >>= as_attribute s) ≡ after_bytes m bytes (first + n)
-    (with_number s (number_in format bytes first (At n layout)))
-unfolding block_at
-in-block format s bytes first n m layout r read le fixed = grind (arith, read)
-
-fixed-fine : (name m : ℕ) (bytes : List ℕ) (at : ℕ) (r : Result (Content × ℕ) ReadFault)
-    → ReadsFixed (λ c. is_negative c ≡ false) faults.Short m bytes at r
-    → IsFine (is_negative_count name) r
-fixed-fine name m bytes at r fixed = grind (arith, never-count name)
+fixed-fine : (name n : ℕ) (bytes : List ℕ) (at : ℕ) (r : Result (Content × ℕ) ReadFault)
+    → IsFixed n bytes at r → IsFine (is_negative_count name) r
+fixed-fine name n bytes at r fixed = grind (arith, never-count name)
 
 -- A constant of the declaration takes no bytes.
 constant-read : (s : AttributeSpecification) (negative : Content → Bool) (constant : Option ℤ)
@@ -200,25 +126,70 @@ constant-read : (s : AttributeSpecification) (negative : Content → Bool) (cons
 unfolding block_at
 constant-read s negative constant bytes at m len le = grind arith
 
-pub fixed-at : (format : Format) (s : AttributeSpecification) (bytes : List ℕ) (first n m : ℕ)
-    → fixed_len format s ≡ Some m → first + n ≤ length bytes → IsAt format s bytes first n m
-unfolding fixed_len value_at
-fixed-at format s bytes first n m h le = by-form (layout_len format) (constant_len s) m
-    (accepts s.name s.form) (form_of s.form) h in_entry in_declaration
-  where
-    in_entry : (layout : ValueLayout) → accepts s.name s.form ≡ true
-        → form_of s.form ≡ Some (Direct layout) → layout_len format layout ≡ Some m
-        → IsAt format s bytes first n m
-    in_entry layout fine is len =
-        let fixed = content-fixed layout format m bytes (first + n) len le in
-        let content = content_at layout format bytes (first + n) in
-        sym (in-layout format s layout bytes (first + n) fine is
-        (fixed-fine s.name m bytes (first + n) content fixed))
-        ∙ rw (is, used_value) (in-block format s bytes first n m layout content refl le fixed)
+-- ---- the attribute of a specification
 
-    in_declaration : accepts s.name s.form ≡ true → form_of s.form ≡ Some ImplicitConst
-        → constant_len s ≡ Some m → IsAt format s bytes first n m
-    in_declaration fine is len = attribute-direct format s ImplicitConst bytes (first + n) fine is
-        (λ e. cc)
-        ∙ rw (is, value_at, used_value)
-        (constant-read s (is_negative_count s.name) s.constant bytes (first + n) m len le)
+module _ (format : Format) (s : AttributeSpecification) (bytes : List ℕ) where
+  -- An attribute whose form is in its declaration is read as a value of this form.
+  attribute-direct : (found : Form) (at : ℕ) → accepts s.name s.form ≡ true
+      → form_of s.form ≡ Some found → (found ≡ Indirect → ⊥) → attribute_at format s bytes at
+      ≡ (reading_value (value_at s.form format s.constant bytes at)
+      >>= checked s (is_negative_count s.name))
+  attribute-direct found at fine is apart = rw (not-indirect s.form found is apart, fine) refl
+
+  -- If the form has a layout and the value is no negative count, the layout is read.
+  in-layout : (layout : ValueLayout) (at : ℕ) → accepts s.name s.form ≡ true
+      → form_of s.form ≡ Some (Direct layout)
+      → IsFine (is_negative_count s.name) (content_at layout format bytes at)
+      → attribute_at format s bytes at
+      ≡ (reading (content_at layout format bytes at) >>= as_attribute s)
+  unfolding value_at direct_at
+  in-layout layout at fine is valid =
+      attribute-direct (Direct layout) at fine is (λ e. cc)
+      ∙ (rw (is, value_at) (rw (is, direct_at) refl)
+      ∙ sym (checked-fine s (is_negative_count s.name) (content_at layout format bytes at) valid))
+
+  -- An attribute whose value needs no check is read by its layout.
+  pub record IsInLayout (layout : ValueLayout) (at : ℕ) : Type 0 where
+    pub value : (n : ℕ) → used_value n s ≡ At n layout
+    pub read : attribute_at format s bytes at
+        ≡ (reading (content_at layout format bytes at) >>= as_attribute s)
+
+  pub unchecked-read : (layout : ValueLayout) (at : ℕ) → unchecked_layout s ≡ Some layout
+      → IsInLayout layout at
+  unfolding unchecked_layout
+  unchecked-read layout at h =
+      by-form (valid_layout s.name) None layout (accepts s.name s.form) (form_of s.form) h
+      (λ own fine is found.
+      let valid = valid-fine s.name own layout format bytes at (is_used s.name)
+      (λ c unused. grind (arith, unused)) found in
+      rw (← valid.0)
+      (record { value = λ n. rw (is, used_value) refl; read = in-layout own at fine is valid.1 }))
+      (λ fine is none. cc)
+
+  -- An attribute of m bytes, n bytes after the first one, has the value at its position.
+  abbrev pub IsAt : ℕ → ℕ → ℕ → Type 0
+  IsAt first n m = attribute_at format s bytes (first + n) ≡ after_bytes m bytes (first + n)
+      (with_number s (number_in format bytes first (used_value n s)))
+
+  in-block : (first n m : ℕ) (layout : ValueLayout) (r : Result (Content × ℕ) ReadFault)
+      → content_at layout format bytes (first + n) ≡ r → first + n ≤ length bytes
+      → IsFixed m bytes (first + n) r → (reading r >>= as_attribute s)
+      ≡ after_bytes m bytes (first + n)
+      (with_number s (number_in format bytes first (At n layout)))
+  unfolding block_at
+  in-block first n m layout r read le fixed = grind (arith, read)
+
+  pub fixed-at : (first n m : ℕ) → fixed_len format s ≡ Some m → first + n ≤ length bytes
+      → IsAt first n m
+  unfolding fixed_len value_at
+  fixed-at first n m h le = by-form (layout_len format) (constant_len s) m
+      (accepts s.name s.form) (form_of s.form) h
+      (λ layout fine is len.
+      let content = content_at layout format bytes (first + n) in
+      let fixed = content-fixed layout format m bytes (first + n) len le in
+      let valid = fixed-fine s.name m bytes (first + n) content fixed in
+      in-layout layout (first + n) fine is valid
+      ∙ rw (is, used_value) (in-block first n m layout content refl le fixed))
+      (λ fine is len. attribute-direct ImplicitConst (first + n) fine is (λ e. cc)
+      ∙ rw (is, value_at, used_value)
+      (constant-read s (is_negative_count s.name) s.constant bytes (first + n) m len le))

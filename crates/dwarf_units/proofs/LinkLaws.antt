@@ -1,16 +1,16 @@
 -- Links of shared lists: attributes that are unused and have no bytes change nothing.
 use Rattle.dwarf_units.proofs.Common
-use Common.{◌≡◌, ℕ, ◌+◌, ◌-◌, ◌<◌, ◌≤◌, List, [], ◌∷◌, Bool, true, false, length, refl, sym}
-use Common.{◌∙◌, arith, Some, Result, Ok, IfSome, option_map_or, Cause, Format}
-use Common.{◌>>=◌, form_of, Item, AttributeSpecification, IsListAt}
-use Common.{list_at, Attribute, ValueLayout, accepts, is_used, attributes_at, fixed_len, layout_len, IsLink}
-use Common.{stored_attributes_at}
+use Common.{◌≡◌, ℕ, ◌+◌, ◌-◌, ◌<◌, ◌≤◌, List, [], ◌∷◌, Bool, true, false, length, refl, sym, ◌∙◌}
+use Common.{arith, Some, Result, Ok, IfSome, option_map_or, Cause, Format, ◌>>=◌, form_of, Item}
+use Common.{AttributeSpecification, IsListAt, list_at, Attribute, ValueLayout, accepts, is_used}
+use Common.{attributes_at, fixed_len, layout_len, IsLink, stored_attributes_at}
 use Rattle.dwarf_bytes.specs.declared.format.Format.TheVariants.{Dwarf32, Dwarf64}
 use Rattle.dwarf_forms.specs.Tables.{attribute_at as specification_at}
 use Rattle.abbreviation_memo.specs.{declared.list_start.ListStart.ListStart, Lists.first_of}
 use Rattle.abbreviation_memo.proofs.ListLaws.{list-within, starts-at}
 use Rattle.dwarf_units.specs.{Private.FixedSizes.constant_len, Private.Links.is_empty_unused}
-use Rattle.dwarf_units.proofs.{FixedValues.{after-none, by-form, fixed-at}, StoredReads.{stored_all, with_first}}
+use Rattle.dwarf_units.proofs.FixedValues.{after-none, by-form, fixed-at}
+use Rattle.dwarf_units.proofs.StoredReads.{stored_all, with_first}
 
 -- ---- attributes that are skipped
 
@@ -42,7 +42,8 @@ empty-read keep format s ss bytes at is le =
     let empty = empty-is s is in
     let first : at + 0 ≡ at = omega arith in
     let here = fixed-at format s bytes at 0 0 (no-bytes s format empty.1) (omega (arith, le)) in
-    rw (rw first at here ∙ after-none bytes at _ le) (unstored empty.0 _ (attributes_at format ss bytes at))
+    rw (rw first at here ∙ after-none bytes at _ le)
+    (unstored empty.0 _ (attributes_at format ss bytes at))
   where
     unstored : is_used s.name ≡ false → (value : _) (r : Result (List Attribute × ℕ) Cause)
         → ((r >>= with_first (record { name = s.name; value = value })) >>= stored_all keep)

@@ -1,7 +1,7 @@
 -- The offset, depth and end of a node of a unit.
 use Rattle.dwarf_units.proofs.Common
-use Common.{arith, ◌≡◌, ℕ, List, Ok, list_any, Format, Item, MovesOn}
-use Common.{Declaration, LocatedNode, depth_after, is_root, node_at}
+use Common.{arith, ◌≡◌, ℕ, List, Ok, list_any, Format, Item, MovesOn, Declaration, LocatedNode}
+use Common.{depth_after, is_root, node_at}
 use Rattle.dwarf_units.proofs.EntryAdvances.{node_at_depth-moves}
 
 -- A node that is read at an offset has this offset, the depth after the nodes before it, and at

@@ -56,7 +56,7 @@ fixed-there : (format : Format) (declared : List AttributeSpecification) (bytes 
 unfolding block_at
 fixed-there format declared bytes at size is le = by_read (attributes_at format declared bytes at)
     (by_runs (runs_of format declared).runs (runs_of format declared).rest is
-    ∙ runs-read false format declared bytes at (omega (arith, le)))
+    ∙ runs-read false format bytes declared at (omega (arith, le)))
   where
     by_runs : (runs : List Run) (rest : Stretch)
         → cond (length runs == 0) (Some rest.len) None ≡ Some size

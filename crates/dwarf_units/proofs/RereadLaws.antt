@@ -1,8 +1,8 @@
 -- An entry can be re-read at its offset.
 use Rattle.dwarf_units.proofs.Common
-use Common.{arith, ◌≡◌, ℕ, zero, suc, List, [], ◌∷◌, ◌++◌, take, Some, Ok, slice_get}
-use Common.{filter_map, Format, Item, Lists, Declaration, Attribute, UnitHeader}
-use Common.{Option, None, LocatedNode, Die, node_at, die_of, entries_of}
+use Common.{arith, ◌≡◌, ℕ, zero, suc, List, [], ◌∷◌, ◌++◌, take, Some, Ok, slice_get, filter_map}
+use Common.{Format, Item, Lists, Declaration, Attribute, UnitHeader, Option, None, LocatedNode, Die}
+use Common.{node_at, die_of, entries_of}
 use Rattle.std.specs.List.{cons_option}
 use Rattle.dwarf_units.specs.Entries.{entry_at}
 use Rattle.dwarf_units.proofs.EntryOrder.{list-in}

@@ -1,10 +1,10 @@
 -- Tables whose declarations share attributes, compared with tables whose declarations have all
 -- attributes.
 use Rattle.dwarf_units.proofs.Common
-use Common.{◌≡◌, ℕ, suc, ◌+◌, ◌*◌, List, [], ◌∷◌, length, take, refl, ap, arith}
-use Common.{append-nil, Bool, ◌==◌, Option, Some, map, find, option_map, slice_get, sum_by, All}
-use Common.{take-append_seam, Declaration, AreShared, IsShared}
-use Common.{SharedDeclaration, full_declarations, Table, table_size}
+use Common.{◌≡◌, ℕ, suc, ◌+◌, ◌*◌, List, [], ◌∷◌, length, take, refl, ap, arith, append-nil, Bool}
+use Common.{◌==◌, Option, Some, map, find, option_map, slice_get, sum_by, All, take-append_seam}
+use Common.{Declaration, AreShared, IsShared, SharedDeclaration, full_declarations, Table}
+use Common.{table_size}
 use Rattle.std.proofs.{lemmas.List.take_all, lemmas.List.Sums.sum_by-cons}
 use Rattle.std.proofs.lemmas.Option.{slice_get-map}
 use Rattle.abbreviation_memo.specs.declared.shared.TheConstants.{UNSHARED}

@@ -2,7 +2,8 @@
 use Rattle.dwarf_units.proofs.Common
 use Common.{arith, ◌≡◌, ℕ, List, [], ◌∷◌, Bool, true, false, refl, ◌++◌, ◌<◌, length, get_or, Some}
 use Common.{None, ◌==◌, Option, UsedName, is_used, name_of, used_name, Attribute, AttributeValue}
-use Common.{value_of, Used, used_among, value_named, with_used, slot_of, named_attribute, filter, sym, find, option_map}
+use Common.{value_of, Used, used_among, value_named, with_used, slot_of, named_attribute, filter}
+use Common.{sym, find, option_map}
 use Rattle.std.specs.List.{list_all}
 use Rattle.std.proofs.{lemmas.Bool.eqb-true, Math.ListN.set, lemmas.List.get_or-set_same}
 use Rattle.std.proofs.lemmas.List.{get_or-set_other}

@@ -2,9 +2,8 @@
 use Rattle.dwarf_units.proofs.Common
 use Common.{take_all, ◌≡◌, ℕ, ◌≤◌, List, [], ◌∷◌, ◌++◌, length, take, length-take-le, refl, arith}
 use Common.{◌⊎◌, ◌+◌, ◌-◌, ◌<◌, length-append, sym, Some, slice_get, common_steps, drop, All-push}
-use Common.{slice_get_within, Format, at-last, Numbers}
-use Common.{number_at, Table, table_size, AreCached, CachedTables, IsParsedFrom, with_table}
-use Common.{take-append_seam, take-length, sum_by_push}
+use Common.{slice_get_within, Format, at-last, Numbers, number_at, Table, table_size, AreCached}
+use Common.{CachedTables, IsParsedFrom, with_table, take-append_seam, take-length, sum_by_push}
 use Rattle.std.proofs.lemmas.List.{take-append-drop, Elements.All-take}
 use Rattle.dwarf_forms.proofs.Elements.{at-end, at-front}
 use Rattle.dwarf_units.specs.{Private.Numbers.with_number, Private.Tables.AreElsewhere}
@@ -54,8 +53,8 @@ abbrev pub cached : List ℕ → List Table → ℕ → CachedTables
 cached section tables permanent =
     record { section = section; tables = tables; permanent = permanent }
 
--- A table of this size is added as the last one of `after`: `now` tables are permanent after it, and
--- `left` of the budget remains.
+-- A table of this size is the last one of `after`: `now` tables are permanent after it is added,
+-- and `left` of the budget remains.
 abbrev pub IsPlaced : List Table → ℕ → ℕ → ℕ → ℕ → ℕ → Type 0
 IsPlaced after permanent budget now left size =
     ((size ≤ budget) × (now ≡ length after) × (left ≡ budget - size))
@@ -69,8 +68,8 @@ pub cached-added : {section : List ℕ} {tables after : List Table} {permanent b
     → after ≡ take permanent tables ++ table ∷ [] → size ≡ table_size table
     → IsPlaced after permanent budget now left size
     → AreCached section tables permanent budget numbers → AreCached section after now left next
-cached-added {section = section} {tables = tables} {after = after} {permanent = permanent} {budget = budget}
-    {now = now} {next = next} table size elsewhere sets parsed is size_is placed all =
+cached-added {section = section} {tables = tables} {after = after} {permanent = permanent}
+    {budget = budget} {now = now} {next = next} table size elsewhere sets parsed is size_is placed all =
     let before : List Table = take permanent tables in
     let short : AreCached section before permanent budget next =
     cached-truncated table.format table.offset elsewhere sets refl all in

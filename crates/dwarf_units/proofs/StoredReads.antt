@@ -1,9 +1,9 @@
 -- Reading the attributes of an entry one by one, and storing the used ones.
 use Rattle.dwarf_units.proofs.Common
-use Common.{arith, ◌≡◌, ℕ, List, [], ◌∷◌, ◌++◌, Bool, true, refl, sym, Some}
-use Common.{Result, Ok, Cause, Format, ◌>>=◌, AttributeSpecification, Attribute}
-use Common.{UsedName, is_used, attribute_at, attributes_at, named_attribute, used_name, then_read}
-use Common.{stored_attributes, stored_attributes_at, Used, used_among, used_after, with_used}
+use Common.{arith, ◌≡◌, ℕ, List, [], ◌∷◌, ◌++◌, Bool, true, refl, sym, Some, Result, Ok, Cause}
+use Common.{Format, ◌>>=◌, AttributeSpecification, Attribute, UsedName, is_used, attribute_at}
+use Common.{attributes_at, named_attribute, used_name, then_read, stored_attributes}
+use Common.{stored_attributes_at, Used, used_among, used_after, with_used}
 use Rattle.std.proofs.lemmas.List.Elements.{filter-append}
 use Rattle.dwarf_units.proofs.SlotLaws.{used-some, with-twice}
 

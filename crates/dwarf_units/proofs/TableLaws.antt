@@ -1,10 +1,9 @@
 -- The iterations of the loop over the tables of the units.
 use Rattle.dwarf_units.proofs.Common
-use Common.{◌≡◌, ℕ, ◌+◌, ◌-◌, ◌<◌, ◌≤◌, ◌⊎◌, List, [], ◌∷◌, ◌++◌, length, take, drop}
-use Common.{get_or, refl, sym, ◌∙◌, arith, Some, Result, Ok, Err, slice_get, sum_by, All}
-use Common.{slice_get_within, get_or_from_slice_get, sum_by_push, drop_more, drop_all, LoadFault}
-use Common.{memory_fault, in_section, Declaration, UnitHeader, Table, IsParsedFrom}
-use Common.{declarations_limit}
+use Common.{◌≡◌, ℕ, ◌+◌, ◌-◌, ◌<◌, ◌≤◌, ◌⊎◌, List, [], ◌∷◌, ◌++◌, length, take, drop, get_or, refl}
+use Common.{sym, ◌∙◌, arith, Some, Result, Ok, Err, slice_get, sum_by, All, slice_get_within}
+use Common.{get_or_from_slice_get, sum_by_push, drop_more, drop_all, LoadFault, memory_fault}
+use Common.{in_section, Declaration, UnitHeader, Table, IsParsedFrom, declarations_limit}
 use Rattle.dwarf_bytes.specs.{declared.fault.Section.Section, Items.{At, each_from}}
 use Rattle.dwarf_bytes.proofs.Items.EachLaws.{made_front, each-next, each-fault, each-end}
 use Rattle.dwarf_bytes.proofs.Items.EachPlaces.{each-place}

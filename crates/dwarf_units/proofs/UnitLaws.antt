@@ -1,8 +1,7 @@
 -- Each unit takes at least one byte, and none extends beyond the end of the section.
 use Rattle.dwarf_units.proofs.Common
-use Common.{◌≡◌, ℕ, ◌<◌, ◌≤◌, ◌⊎◌, inl, inr, List, length, refl, arith, length-take}
-use Common.{Ok, Cause, Format, Advances, memory_fault}
-use Common.{UnitHeader, header_at}
+use Common.{◌≡◌, ℕ, ◌<◌, ◌≤◌, ◌⊎◌, inl, inr, List, length, refl, arith, length-take, Ok, Cause}
+use Common.{Format, Advances, memory_fault, UnitHeader, header_at}
 use Rattle.dwarf_bytes.specs.Refusals.{at_item}
 use Rattle.dwarf_bytes.proofs.{Numbers.LengthLaws.initial_length_at-moves}
 use Rattle.dwarf_units.specs.Units.{header_in, unit_at}

@@ -1,5 +1,5 @@
-use Rattle.dwarf_units.proofs.{arith, err_from_is_err_and, Err, Ok, None-from-no-Some}
-use Rattle.dwarf_units.proofs.{one-read, one-stored, used-none, with-none}
+use Rattle.dwarf_units.proofs.{arith, err_from_is_err_and, Err, Ok, None-from-no-Some, one-read}
+use Rattle.dwarf_units.proofs.{one-stored, used-none, with-none}
 use Rattle.dwarf_units.proofs.attribute_run.read_one.Goals as goal
 
 pub returns-in_err-attribute : goal.returns-in_err-attribute

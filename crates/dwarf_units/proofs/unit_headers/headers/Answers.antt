@@ -1,5 +1,5 @@
-use Rattle.dwarf_units.proofs.{arith, refl, sym, length, header_at, header_at-advances, unit_at-moves}
-use Rattle.dwarf_units.proofs.{at_item_cases}
+use Rattle.dwarf_units.proofs.{arith, refl, sym, length, header_at, header_at-advances}
+use Rattle.dwarf_units.proofs.{unit_at-moves, at_item_cases}
 use Rattle.dwarf_units.specs.Units.{headers_of}
 use Rattle.dwarf_bytes.proofs.Items.Turns.{so-far-item, so-far-end, so-far-fault}
 use Rattle.dwarf_units.proofs.unit_headers.headers.Goals as goal

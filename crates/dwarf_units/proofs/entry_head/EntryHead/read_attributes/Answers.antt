@@ -1,6 +1,5 @@
 use Rattle.dwarf_units.proofs
-use proofs.{arith, err_from_is_err_and, rest_attributes, own-rest}
-use proofs.{used_among, used-both, []}
+use proofs.{arith, err_from_is_err_and, rest_attributes, own-rest, used_among, used-both, []}
 use Rattle.dwarf_units.proofs.entry_head.EntryHead.read_attributes.Goals as goal
 
 pub returns-in_err-read : goal.returns-in_err-read

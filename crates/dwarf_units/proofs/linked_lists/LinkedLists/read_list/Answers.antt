@@ -1,6 +1,6 @@
 use Rattle.dwarf_units.proofs
-use proofs.{◌≡◌, ◌≤◌, length, ◌∙◌, arith, err_from_is_err_and, attributes_at, IsLink}
-use proofs.{link-smaller, link-valid, first-read, list_at, with-none}
+use proofs.{◌≡◌, ◌≤◌, length, ◌∙◌, arith, err_from_is_err_and, attributes_at, IsLink, link-smaller}
+use proofs.{link-valid, first-read, list_at, with-none}
 use Rattle.dwarf_units.proofs.linked_lists.LinkedLists.read_list.Goals as goal
 
 pub link_of-requires-clause-links : goal.link_of-requires-clause-links
@@ -17,8 +17,7 @@ returns-in_err-read_one c =
     grind (
       arith,
       p,
-      first-read c.args.keep c.args.format c.in-Some.attribute (list_at c.args.self.now loop.link.rest) c.args.cursor.now.bytes loop.cursor.place
-          loop.found,
+      first-read c.args.keep c.args.format c.in-Some.attribute,
       c.in-Some.is,
       loop.invariant.stored,
       loop.invariant.bytes,
@@ -48,8 +47,7 @@ loop-link-preserved c =
         arith,
         (next-link c).stored c.args.keep c.args.format c.args.cursor.now.bytes
             c.read_one.new.cursor.place within,
-        first-read c.args.keep c.args.format c.in-Some.attribute (list_at c.args.self.now loop.link.rest) c.args.cursor.now.bytes loop.cursor.place
-            loop.found,
+        first-read c.args.keep c.args.format c.in-Some.attribute,
         c.in-Some.is,
         loop.invariant.stored,
         loop.invariant.bytes,

@@ -1,5 +1,4 @@
-use Rattle.dwarf_units.proofs.{inl, inr, refl, ◌∙◌, cached-added, contents-added}
-use Rattle.dwarf_units.proofs.{cached-truncated}
+use Rattle.dwarf_units.proofs.{inl, inr, refl, ◌∙◌, cached-added, contents-added, cached-truncated}
 use Rattle.dwarf_forms.proofs.Elements.{at-end}
 use Rattle.dwarf_units.proofs.table_store.TableStore.add.Goals as goal
 
