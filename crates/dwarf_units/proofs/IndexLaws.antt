@@ -1,13 +1,13 @@
 -- Finding the table of a unit in the cache, and keeping it there as tables are added.
 use Rattle.dwarf_units.proofs.Common
 use Common.{◌≡◌, ◌⊎◌, inl, inr, ℕ, ◌+◌, ◌<◌, ◌≤◌, List, length, take, length-take-le, sym, arith}
-use Common.{take_all, Bool, get_or, [], ◌∷◌, ◌++◌, true, false, refl, append-nil, Some, slice_get}
-use Common.{sum_by, nat_le, cases_lt, get_or-take, get_or_from_slice_get, slice_get-get_or}
+use Common.{get_or, [], ◌∷◌, ◌++◌, refl, append-nil, Some, slice_get}
+use Common.{sum_by, cases_lt, get_or-take, get_or_from_slice_get, slice_get-get_or}
 use Common.{slice_get_within, Format, Numbers, UnitHeader, declarations_limit, Table, table_size}
 use Common.{number_at, AreCached, CachedTables, IsCachedOrTooLarge, IsParsedFrom, with_table, All}
 use Common.{take-append_seam, take-length, common_steps, All-push, sum_by_push, sum_by-append}
-use Rattle.std.proofs.{Common.if◌then◌else◌, lemmas.List.take_more}
-use Rattle.dwarf_units.specs.Private.Tables.{IsIndexOf, IsTableAt, size_limit, IsAdded, IsAt}
+use Rattle.std.proofs.{lemmas.List.take_more}
+use Rattle.dwarf_units.specs.Private.Tables.{IsIndexOf, IsTableAt, size_limit, IsAdded}
 use Rattle.dwarf_units.specs.Private.Tables.{StaysCached}
 use Rattle.dwarf_units.proofs.{StoredLaws.cached, TableLaws.{cached-parsed, parsed-again}}
 use Rattle.dwarf_units.proofs.TableLaws.{parsed-at}
@@ -46,6 +46,11 @@ got-taken tables permanent i table lt within at = grind (
   slice_get-get_or (take permanent tables) i table,
 )
 
+-- The table is cached permanently, or it would exceed the limit.
+abbrev IsKept : CachedTables → Table → Type 0
+IsKept k table = ((number : ℕ) × (slice_get (take k.permanent k.tables) number ≡ Some table))
+    ⊎ (size_limit k.section < sum_by table_size (take k.permanent k.tables) + table_size table)
+
 -- A cached table is permanent, or exceeds the limit.
 pub index-stays : (section : List ℕ) (tables : List Table) (permanent budget number : ℕ)
     (numbers : Numbers) (unit : UnitHeader) → AreCached section tables permanent budget numbers
@@ -59,8 +64,7 @@ index-stays section tables permanent budget number numbers unit are (table, at, 
 )
   where
     by_place : (number < permanent) ⊎ (permanent ≤ number)
-        → ((k : ℕ) × (slice_get (take permanent tables) k ≡ Some table))
-        ⊎ (size_limit section < sum_by table_size (take permanent tables) + table_size table)
+        → IsKept (cached section tables permanent) table
     by_place (inl lt) = inl (number, got-taken tables permanent number table lt are.within at)
     by_place (inr le) =
         let within = slice_get_within tables number table at in
@@ -73,12 +77,7 @@ pub stays-on : (old new : CachedTables) (unit : UnitHeader) → StaysCached old 
 stays-on old new unit grows same (table, at, parsed, is) =
     (table, at, rw same parsed, by_case is)
   where
-    by_case : ((number : ℕ) × (slice_get (take old.permanent old.tables) number ≡ Some table))
-        ⊎ (size_limit old.section < sum_by table_size (take old.permanent old.tables) + table_size
-        table)
-        → ((number : ℕ) × (slice_get (take new.permanent new.tables) number ≡ Some table))
-        ⊎ (size_limit new.section < sum_by table_size (take new.permanent new.tables) + table_size
-        table)
+    by_case : IsKept old table → IsKept new table
     by_case (inl there) = inl (
       there.0,
       rw grows.1
@@ -88,41 +87,31 @@ stays-on old new unit grows same (table, at, parsed, is) =
         (inr (omega
         (arith, large, sum_by-append table_size (take old.permanent old.tables) grows.0)))
 
--- A table that is added for a unit stays in the cache, or exceeds the limit.
-pub stays-with : (old : CachedTables) (unit : UnitHeader) (table : Table)
-    → old.permanent ≤ length old.tables → IsAt unit.format unit.abbreviations table
-    → IsParsedFrom old.section table → IsCachedOrTooLarge (with_table old table) unit
-    × StaysCached old (with_table old table)
-stays-with old unit table within at parsed =
-    let before : List Table = take old.permanent old.tables in
-    by_test before (length-take-le old.permanent old.tables within) refl
-    (nat_le (sum_by table_size (before ++ table ∷ [])) (size_limit old.section)) refl
+-- A table that is added stays in the cache, or exceeds the limit.
+kept-with : (old : CachedTables) (table : Table) → old.permanent ≤ length old.tables
+    → IsKept (with_table old table) table × StaysCached old (with_table old table)
+kept-with old table within = by_test (with_table old table).permanent (grind (arith, common_steps))
   where
-    by_test : (before : List Table) → length before ≡ old.permanent → before
-        ≡ take old.permanent old.tables
-        → (b : Bool) → nat_le (sum_by table_size (before ++ table ∷ [])) (size_limit old.section)
-        ≡ b
-        → (let new : CachedTables = record {
-          section = old.section;
-          tables = before ++ table ∷ [];
-          permanent =
-              if b then length (before ++ table ∷ []) else old.permanent;
-        } in
-        IsCachedOrTooLarge new unit × StaysCached old new)
-    by_test before len is true fits =
-        let tables : List Table = before ++ table ∷ [] in
-        let last = at-end before table (length before) refl in
-        rw (take-length tables, ← is)
-        ((table, at, parsed, inl (length before, last)), (table ∷ [], refl))
-    by_test before len is false past =
-        let tables : List Table = before ++ table ∷ [] in
-        let front : take old.permanent tables ≡ before =
-        rw len at (take-append_seam before (table ∷ [])) in
-        let large : size_limit old.section < sum_by table_size before + table_size table =
-        grind (arith, common_steps, past, sum_by_push table_size before table) in
-        rw (front, ← is) ((table, at, parsed, inr large), ([], sym (append-nil before)))
+    before : List Table
+    before = take old.permanent old.tables
 
--- The same for a table that was parsed for the unit.
+    by_test : (now : ℕ) → (let after : List Table = before ++ table ∷ [] in
+        (now ≡ length after)
+        ⊎ ((now ≡ old.permanent) × (size_limit old.section < sum_by table_size after)))
+        → IsKept (cached old.section (before ++ table ∷ []) now) table
+        × StaysCached old (cached old.section (before ++ table ∷ []) now)
+    by_test now (inl is) = rw (is, take-length (before ++ table ∷ []))
+        (inl (length before, at-end before table (length before) refl), (table ∷ [], refl))
+    by_test now (inr (is, past)) =
+        let front : take old.permanent (before ++ table ∷ []) ≡ before =
+        rw (length-take-le old.permanent old.tables within)
+        at (take-append_seam before (table ∷ [])) in
+        rw (is, front) (
+          inr (omega (arith, past, sum_by_push table_size before table)),
+          ([], sym (append-nil before)),
+        )
+
+-- A table that was parsed for a unit stays in the cache, or exceeds the limit.
 pub stays-parsed : (old new : CachedTables) (unit : UnitHeader) (budget left number : ℕ)
     → old.permanent ≤ length old.tables → budget ≤ declarations_limit
     → IsAdded unit.format unit.abbreviations budget left old new number
@@ -131,7 +120,8 @@ stays-parsed old new unit budget left number within few added =
     let parsed : IsParsedFrom old.section added.table =
     parsed-at old.section budget added.table unit.abbreviations added.within added.at.0 added.read
     (omega (arith, added.counted, few)) in
-    rw added.added (stays-with old unit added.table within added.at parsed)
+    let kept = kept-with old added.table within in
+    rw added.added ((added.table, added.at, parsed, kept.0), kept.1)
 
 -- It holds for the units up to the next index.
 pub stays-next : (old new : CachedTables) (units : List UnitHeader) (index : ℕ) (d : UnitHeader)
@@ -142,7 +132,3 @@ pub stays-next : (old new : CachedTables) (units : List UnitHeader) (index : ℕ
 stays-next old new units index d grows same within here all = rw (take_more units index d within)
     (All-push (IsCachedOrTooLarge new) (take index units) (get_or units index d)
     (λ k u lt. stays-on old new (get_or (take index units) k u) grows same (all k u lt)) here)
-
-pub stays-end : (tables : CachedTables) (units : List UnitHeader) (index : ℕ) → length units ≤ index
-    → All (IsCachedOrTooLarge tables) (take index units) → All (IsCachedOrTooLarge tables) units
-stays-end tables units index past all = rw (take_all index units past) at all

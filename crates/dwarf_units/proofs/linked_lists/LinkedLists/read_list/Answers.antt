@@ -1,6 +1,6 @@
 use Rattle.dwarf_units.proofs
 use proofs.{◌≡◌, ◌≤◌, length, ◌∙◌, arith, err_from_is_err_and, attributes_at, IsLink, link-smaller}
-use proofs.{link-valid, first-read, list_at, with-none}
+use proofs.{link-valid, first-read, with-none}
 use Rattle.dwarf_units.proofs.linked_lists.LinkedLists.read_list.Goals as goal
 
 pub link_of-requires-clause-links : goal.link_of-requires-clause-links

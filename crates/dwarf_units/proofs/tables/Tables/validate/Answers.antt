@@ -1,5 +1,5 @@
 use Rattle.dwarf_units.proofs.{◌∙◌, err_from_is_err_and, checked-next, checked-end, checked-fault}
-use Rattle.dwarf_units.proofs.{stays-next, stays-end}
+use Rattle.dwarf_units.proofs.{stays-next, take_all}
 use Rattle.dwarf_units.proofs.tables.Tables.validate.Goals as goal
 
 pub returns-in_err-validate_unit-clause-err : goal.returns-in_err-validate_unit-clause-err
@@ -32,5 +32,6 @@ returns-clause-ok c = checked-end c.args.section.now c.args.units.now c.loop-uni
     c.loop-unit.left c.loop-unit.invariant.checked c.loop-unit-test.false
 
 pub returns-clause-stays : goal.returns-clause-stays
-returns-clause-stays c = stays-end c.loop-unit.tables c.args.units.now c.loop-unit.unit-index
-    c.loop-unit-test.false c.loop-unit.invariant.stays
+returns-clause-stays c =
+    rw (take_all c.loop-unit.unit-index c.args.units.now c.loop-unit-test.false)
+    at c.loop-unit.invariant.stays
