@@ -1,14 +1,13 @@
 -- Finding the table of a unit in the cache, and keeping it there as tables are added.
 use Rattle.dwarf_units.proofs.Common
 use Common.{◌≡◌, ◌⊎◌, inl, inr, ℕ, ◌+◌, ◌<◌, ◌≤◌, List, length, take, length-take-le, sym, arith}
-use Common.{get_or, [], ◌∷◌, ◌++◌, refl, append-nil, Some, slice_get}
-use Common.{sum_by, cases_lt, get_or-take, get_or_from_slice_get, slice_get-get_or}
-use Common.{slice_get_within, Format, Numbers, UnitHeader, declarations_limit, Table, table_size}
-use Common.{number_at, AreCached, CachedTables, IsCachedOrTooLarge, IsParsedFrom, with_table, All}
-use Common.{take-append_seam, take-length, common_steps, All-push, sum_by_push, sum_by-append}
+use Common.{get_or, [], ◌∷◌, ◌++◌, refl, append-nil, Some, slice_get, sum_by, cases_lt, get_or-take}
+use Common.{get_or_from_slice_get, slice_get-get_or, slice_get_within, Format, Numbers, UnitHeader}
+use Common.{declarations_limit, Table, table_size, number_at, AreCached, CachedTables}
+use Common.{IsCachedOrTooLarge, IsParsedFrom, with_table, All, take-append_seam, take-length}
+use Common.{common_steps, All-push, sum_by_push, sum_by-append}
 use Rattle.std.proofs.{lemmas.List.take_more}
-use Rattle.dwarf_units.specs.Private.Tables.{IsIndexOf, IsTableAt, size_limit, IsAdded}
-use Rattle.dwarf_units.specs.Private.Tables.{StaysCached}
+use Rattle.dwarf_units.specs.Private.Tables.{IsIndexOf, IsTableAt, size_limit, IsAdded, StaysCached}
 use Rattle.dwarf_units.proofs.{StoredLaws.cached, TableLaws.{cached-parsed, parsed-again}}
 use Rattle.dwarf_units.proofs.TableLaws.{parsed-at}
 use Rattle.dwarf_forms.proofs.Elements.{at-end, at-front}

@@ -1,11 +1,11 @@
 -- The iterations of the loop over the tables of the units.
 use Rattle.dwarf_units.proofs.Common
-use Common.{◌≡◌, ℕ, ◌+◌, ◌-◌, ◌<◌, ◌≤◌, ◌⊎◌, List, [], ◌∷◌, ◌++◌, length, take, drop, get_or, refl}
-use Common.{sym, ◌∙◌, arith, Some, Result, Ok, Err, slice_get, sum_by, All, slice_get_within}
-use Common.{get_or_from_slice_get, sum_by_push, drop_more, drop_all, LoadFault, memory_fault}
-use Common.{in_section, Declaration, UnitHeader, Table, IsParsedFrom, declarations_limit}
+use Common.{◌≡◌, ℕ, ◌+◌, ◌-◌, ◌<◌, ◌≤◌, List, [], ◌∷◌, ◌++◌, length, take, drop, get_or, refl, sym}
+use Common.{◌∙◌, arith, Some, Result, Ok, slice_get, sum_by, All, slice_get_within}
+use Common.{get_or_from_slice_get, sum_by_push, drop_more, in_section, Declaration, UnitHeader}
+use Common.{Table, IsParsedFrom, declarations_limit}
 use Rattle.dwarf_bytes.specs.{declared.fault.Section.Section, Items.{At, each_from}}
-use Rattle.dwarf_bytes.proofs.Items.EachLaws.{made_front, each-next, each-fault, each-end}
+use Rattle.dwarf_bytes.proofs.Items.EachLaws.{made_front, each-next}
 use Rattle.dwarf_bytes.proofs.Items.EachPlaces.{each-place}
 use Rattle.dwarf_forms.specs.Tables.{table_at, declarations_of}
 use Rattle.dwarf_forms.proofs.{Elements.at-end, EncodedTables.{table-encoded, table_read}}
@@ -49,35 +49,6 @@ checked-next section units index left after d table so_far within found counted 
           here)
           ∙ rw (← drop_more units index d within) so_far.read;
     }
-
-pub checked-end : (section : List ℕ) (units : List UnitHeader) (index left : ℕ)
-    → AreParsedSoFar section units index left → length units ≤ index
-    → (tables : List (List Declaration))
-    × (in_section sections.DebugAbbrev (tables_of section units) ≡ Ok tables)
-unfolding tables_of
-checked-end section units index left so_far past = (
-  so_far.made,
-  grind (
-    arith,
-    so_far.read,
-    drop_all index units past,
-    each-end (table_for section) so_far.made,
-  ),
-)
-
-pub checked-fault : (section : List ℕ) (units : List UnitHeader) (index left : ℕ) (d : UnitHeader)
-    (fault : LoadFault) → AreParsedSoFar section units index left → index < length units
-    → (fault ≡ memory_fault) ⊎ (in_section sections.DebugAbbrev
-    (declarations_of left section (get_or units index d).abbreviations) ≡ Err fault)
-    → (fault ≡ memory_fault) ⊎ (in_section sections.DebugAbbrev (tables_of section units)
-    ≡ Err fault)
-unfolding tables_of
-checked-fault section units index left d fault so_far within bad =
-    let budget : left ≡ declarations_limit - sum_by length so_far.made =
-    omega (arith, so_far.counted) in
-    let faults = each-fault (table_for section) so_far.made (get_or units index d)
-    (drop (index + 1) units) in
-    grind (arith, budget, drop_more units index d within, so_far.read, faults, bad)
 
 -- A table that was parsed is parsed to the same result with any budget that is large enough.
 pub table-again : (budget other : ℕ) (section : List ℕ) (offset : ℕ) (table : List Declaration)

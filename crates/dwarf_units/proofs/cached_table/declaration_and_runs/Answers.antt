@@ -1,6 +1,6 @@
 use Rattle.dwarf_units.proofs
-use proofs.{◌≡◌, List, ap, sym, ◌∙◌, Some, None, find, slice_get, option_copied, ◌==◌, IsShared}
-use proofs.{SharedDeclaration, got, runs_of, all-found, at-place, found-full}
+use proofs.{◌≡◌, arith, sym, ◌∙◌, Some, None, find, slice_get, ◌==◌, IsShared, SharedDeclaration}
+use proofs.{got, runs_of, all-found, at-place, found-full}
 use Rattle.dwarf_forms.proofs.Codes.{find-place}
 use Rattle.dwarf_units.proofs.cached_table.declaration_and_runs.Goals as goal
 
@@ -16,16 +16,21 @@ returns-clause-some c = λ section format shared are.
     let table = c.args.table.now in
     let place = c.in_ok-place.place in
     let declaration = c.in_ok-declaration.declaration.now in
-    let here : slice_get table place ≡ Some declaration =
-    ap (λ (ds : List SharedDeclaration). slice_get ds place) (sym c.declarations.ensures)
-    ∙ sym (got c.declarations.result.now place c.get.result c.get.ensures.lookup.0
-    c.get.ensures.lookup.1) ∙ ap (λ r. option_copied r) c.in_ok-declaration.was in
+    let here : slice_get table place ≡ Some declaration = grind (
+      arith,
+      c.declarations.ensures,
+      got c.declarations.result.now place c.get.result c.get.ensures.lookup.0
+          c.get.ensures.lookup.1,
+      c.in_ok-declaration.was,
+    ) in
     let found : find (λ d. d.code == c.args.code) table ≡ Some declaration =
     find-place (λ (d : SharedDeclaration). d.code == c.args.code) table (Some place)
     (sym c.in_ok-place.ensures) ∙ here in
-    let runs : slice_get c.args.runs.now place ≡ Some c.in_ok-runs.runs.now =
-    sym (got c.args.runs.now place c.get-2.result c.get-2.ensures.lookup.0
-    c.get-2.ensures.lookup.1) ∙ ap (λ r. option_copied r) c.in_ok-runs.was in
+    let runs : slice_get c.args.runs.now place ≡ Some c.in_ok-runs.runs.now = grind (
+      arith,
+      got c.args.runs.now place c.get-2.result c.get-2.ensures.lookup.0 c.get-2.ensures.lookup.1,
+      c.in_ok-runs.was,
+    ) in
     record {
       declared = found-full section c.args.code table (Some declaration) found;
       shared = all-found (λ (d : SharedDeclaration). IsShared section d.list)
