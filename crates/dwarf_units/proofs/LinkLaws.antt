@@ -1,13 +1,13 @@
 -- Links of shared lists: attributes that are unused and have no bytes change nothing.
 use Rattle.dwarf_units.proofs.Common
-use Common.{◌≡◌, ℕ, ◌+◌, ◌-◌, ◌<◌, ◌≤◌, List, [], ◌∷◌, Bool, true, false, length, refl, sym, ◌∙◌}
-use Common.{arith, Some, Result, Ok, IfSome, option_map_or, Cause, Format, ◌>>=◌, form_of, Item}
-use Common.{AttributeSpecification, IsListAt, list_at, Attribute, ValueLayout, accepts, is_used}
-use Common.{attributes_at, fixed_len, layout_len, IsLink, stored_attributes_at}
+use Common.{◌≡◌, ℕ, ◌+◌, ◌-◌, ◌≤◌, List, [], ◌∷◌, Bool, true, false, length, refl, sym, ◌∙◌, arith}
+use Common.{Some, Result, Ok, Cause, Format, ◌>>=◌, form_of, Item, AttributeSpecification, IsListAt}
+use Common.{list_at, Attribute, ValueLayout, accepts, is_used, attributes_at, fixed_len, layout_len}
+use Common.{IsLink, stored_attributes_at}
 use Rattle.dwarf_bytes.specs.declared.format.Format.TheVariants.{Dwarf32, Dwarf64}
 use Rattle.dwarf_forms.specs.Tables.{attribute_at as specification_at}
 use Rattle.abbreviation_memo.specs.{declared.list_start.ListStart.ListStart, Lists.first_of}
-use Rattle.abbreviation_memo.proofs.ListLaws.{list-within, starts-at}
+use Rattle.abbreviation_memo.proofs.ListLaws.{starts-at}
 use Rattle.dwarf_units.specs.{Private.FixedSizes.constant_len, Private.Links.is_empty_unused}
 use Rattle.dwarf_units.proofs.FixedValues.{after-none, by-form, fixed-at}
 use Rattle.dwarf_units.proofs.StoredReads.{stored_all, with_first}
@@ -74,13 +74,3 @@ link-next section place rest s link is read empty next =
           (sym (empty-read keep format s (list_at section rest) bytes at empty le));
       after = grind (arith, next.after, starts.after);
     }
-
-pub link-valid : (section : List ℕ) (place : ℕ) (link : ListStart) → IsLink section place link
-    → IfSome link.attribute (λ _. IsListAt section link.rest)
-link-valid section place link is = grind (arith, is.after)
-
--- The rest of a list is shorter after each link.
-pub link-smaller : (section : List ℕ) (place : ℕ) (link : ListStart) → IsListAt section place
-    → IsLink section place link
-    → option_map_or (λ _. length section - link.rest) link.attribute 0 < length section - place
-link-smaller section place link valid is = grind (arith, list-within section place valid, is.after)

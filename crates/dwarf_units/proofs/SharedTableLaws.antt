@@ -1,22 +1,13 @@
 -- Tables whose declarations share attributes, compared with tables whose declarations have all
 -- attributes.
 use Rattle.dwarf_units.proofs.Common
-use Common.{◌≡◌, ℕ, suc, ◌+◌, ◌*◌, List, [], ◌∷◌, length, take, refl, ap, arith, append-nil, Bool}
-use Common.{◌==◌, Option, Some, map, find, option_map, slice_get, sum_by, All, take-append_seam}
-use Common.{Declaration, AreShared, IsShared, SharedDeclaration, full_declarations, Table}
-use Common.{table_size}
+use Common.{◌≡◌, ℕ, suc, List, [], ◌∷◌, length, take, refl, arith, append-nil, Bool, ◌==◌, Option}
+use Common.{Some, find, option_map, sum_by, All, take-append_seam, Declaration, AreShared, IsShared}
+use Common.{SharedDeclaration, full_declarations}
 use Rattle.std.proofs.{lemmas.List.take_all, lemmas.List.Sums.sum_by-cons}
-use Rattle.std.proofs.lemmas.Option.{slice_get-map}
 use Rattle.abbreviation_memo.specs.declared.shared.TheConstants.{UNSHARED}
 use Rattle.abbreviation_memo.specs.Declarations.{SharedAttributes, all_of, full_declaration}
 use Rattle.dwarf_units.specs.Private.AbbreviationTables.{own_attributes}
-
--- An element of a list that is parallel to the declarations.
-pub at-place : {D Y : Type 0} (f : D → Y) (table : List D) (ys : List Y) (place : ℕ)
-    (declaration : D) (y : Y) → ys ≡ map f table → slice_get table place ≡ Some declaration
-    → slice_get ys place ≡ Some y → y ≡ f declaration
-at-place f table ys place declaration y are here there =
-    grind (arith, are, here, there, slice_get-map f table place)
 
 -- The same declaration, with all attributes.
 pub found-full : (section : List ℕ) (code : ℕ) (ds : List SharedDeclaration)
@@ -48,7 +39,7 @@ own-first section list is = grind (
   take-append_seam list.own,
 )
 
-own-sum : (section : List ℕ) (ds : List SharedDeclaration) → AreShared section ds
+pub own-sum : (section : List ℕ) (ds : List SharedDeclaration) → AreShared section ds
     → sum_by (λ d. length (own_attributes d)) (full_declarations section ds)
     ≡ sum_by (λ d. length d.list.own) ds
 own-sum section [] are = refl
@@ -59,17 +50,4 @@ own-sum section (d ∷ ds) are = grind (
   sum_by-cons (λ (e : Declaration). length (own_attributes e)) (full_declaration section d)
       (full_declarations section ds),
   sum_by-cons (λ (e : SharedDeclaration). length e.list.own) d ds,
-)
-
--- The size is computed from the stored declarations.
-pub size-is : (table : Table) (ds : List SharedDeclaration) (len attributes : ℕ)
-    → AreShared table.section ds → full_declarations table.section ds ≡ table.declarations
-    → len ≡ length table.declarations → attributes ≡ sum_by (λ d. length d.list.own) ds
-    → len + 2 * attributes ≡ table_size table
-size-is table ds len attributes are same len_is attributes_are = omega (
-  arith,
-  len_is,
-  attributes_are,
-  own-sum table.section ds are,
-  ap (λ (all : List Declaration). sum_by (λ d. length (own_attributes d)) all) same,
 )

@@ -49,19 +49,28 @@ same-slot m n = grind arith
 
 -- ---- the value of each name
 
-under-by : (value : UsedName → Option AttributeValue) (name : UsedName)
+by-named : (value : UsedName → Option AttributeValue) (name : UsedName)
     → value_named name (used_by value) ≡ value name
-under-by value name = grind arith
+by-named value name = grind arith
 
--- Two records with the same value for each name are equal.
+pub among-named : (name : UsedName) (attributes : List Attribute)
+    → value_named name (used_among attributes) ≡ value_of attributes (name_of name)
+among-named name attributes = grind arith
+
+with-named : (u : Used) (xs : List Attribute) (name : UsedName) → value_named name (with_used u xs)
+    ≡ option_or (value_named name u) (value_of xs (name_of name))
+unfolding with_used
+with-named u xs = by-named _
+
 same-by : (v w : UsedName → Option AttributeValue) → ((name : UsedName) → v name ≡ w name)
     → used_by v ≡ used_by w
 same-by v w same = grind (arith, same)
 
--- ---- lists of attributes
+-- Two records with the same value for each name are equal.
+same-used : (u v : Used) → ((name : UsedName) → value_named name u ≡ value_named name v) → u ≡ v
+same-used u v same = same-by (λ name. value_named name u) (λ name. value_named name v) same
 
-or-none : {X : Type 0} (x : Option X) → option_or x None ≡ x
-or-none x = grind arith
+-- ---- lists of attributes
 
 value-append : (xs ys : List Attribute) (name : ℕ)
     → value_of (xs ++ ys) name ≡ option_or (value_of xs name) (value_of ys name)
@@ -69,29 +78,28 @@ value-append [] ys name = refl
 value-append (a ∷ xs) ys name = let rest = value-append xs ys name in grind arith
 
 pub among-append : (xs ys : List Attribute) → with_used (used_among xs) ys ≡ used_among (xs ++ ys)
-unfolding with_used
-among-append xs ys = same-by
-    (λ name. option_or (value_named name (used_among xs)) (value_of ys (name_of name)))
-    (λ name. value_of (xs ++ ys) (name_of name)) (λ name. grind (
-      arith,
-      under-by (λ n. value_of xs (name_of n)) name,
-      value-append xs ys (name_of name),
-    ))
+among-append xs ys = same-used _ _ (λ name. rw (
+  with-named (used_among xs) ys name,
+  among-named name xs,
+  among-named name (xs ++ ys),
+  value-append xs ys (name_of name),
+) refl)
 
 pub with-none : (u : Used) → with_used u [] ≡ u
-unfolding with_used
-with-none u = same-by _ (λ name. value_named name u) (λ name. or-none (value_named name u))
+with-none u = same-used _ _ (λ name. rw (with-named u [] name) (over (value_named name u)))
+  where
+    over : (x : Option AttributeValue) → option_or x None ≡ x
+    over x = grind arith
 
 pub with-twice : (u : Used) (xs ys : List Attribute) → with_used (with_used u xs) ys
     ≡ with_used u (xs ++ ys)
-unfolding with_used
-with-twice u xs ys = same-by
-    (λ name. option_or (value_named name (with_used u xs)) (value_of ys (name_of name)))
-    (λ name. option_or (value_named name u) (value_of (xs ++ ys) (name_of name))) (λ name. grind (
-      arith,
-      under-by (λ n. option_or (value_named n u) (value_of xs (name_of n))) name,
-      value-append xs ys (name_of name),
-    ))
+with-twice u xs ys = same-used _ _ (λ name. grind (
+  arith,
+  with-named (with_used u xs) ys name,
+  with-named u xs name,
+  with-named u (xs ++ ys) name,
+  value-append xs ys (name_of name),
+))
 
 -- ---- adding one used attribute in its slot
 
@@ -116,16 +124,14 @@ pub put-is : (u : Used) (has : List Bool) (values : List AttributeValue) (name :
     → slot < length has → slot < length values → get_or has slot false ≡ false
     → in_slots (set has slot true) (set values slot value)
     ≡ with_used u (named_attribute name value ∷ [])
-unfolding with_used
-put-is u has values name value slot is at within place free = rw (← is) (same-by
-    (λ x. in_slot (set has slot true) (set values slot value) (slot_of x))
-    (λ x. option_or (value_named x (in_slots has values))
-    (value_of (named_attribute name value ∷ []) (name_of x))) (λ x. grind (
-      arith,
-      under-by (λ n. in_slot has values (slot_of n)) x,
-      put-slot has values value slot (slot_of x) (name_of name) (name_of x) within place free
-          (rw (← at) at (same-slot name x)),
-    )))
+put-is u has values name value slot is at within place free = rw (← is)
+    (same-used _ _ (λ x. rw (
+      by-named (λ n. in_slot (set has slot true) (set values slot value) (slot_of n)) x,
+      with-named (in_slots has values) (named_attribute name value ∷ []) x,
+      by-named (λ n. in_slot has values (slot_of n)) x,
+    )
+    (put-slot has values value slot (slot_of x) (name_of name) (name_of x) within place free
+    (rw (← at) at (same-slot name x)))))
 
 taken-slot : (has : List Bool) (values : List AttributeValue) (value : AttributeValue)
     (slot other own number : ℕ) → get_or has slot false ≡ true → (slot == other) ≡ (own == number)
@@ -137,13 +143,10 @@ taken-slot has values value slot other own number taken same = grind arith
 pub stored-is : (u : Used) (has : List Bool) (values : List AttributeValue) (name : UsedName)
     (value : AttributeValue) (slot : ℕ) → in_slots has values ≡ u → slot ≡ slot_of name
     → get_or has slot false ≡ true → u ≡ with_used u (named_attribute name value ∷ [])
-unfolding with_used
-stored-is u has values name value slot is at taken = rw (← is) (same-by
-    (λ x. in_slot has values (slot_of x))
-    (λ x. option_or (value_named x (in_slots has values))
-    (value_of (named_attribute name value ∷ []) (name_of x))) (λ x. grind (
-      arith,
-      under-by (λ n. in_slot has values (slot_of n)) x,
-      taken-slot has values value slot (slot_of x) (name_of name) (name_of x) taken
-          (rw (← at) at (same-slot name x)),
-    )))
+stored-is u has values name value slot is at taken = rw (← is)
+    (same-used _ _ (λ x. rw (
+      with-named (in_slots has values) (named_attribute name value ∷ []) x,
+      by-named (λ n. in_slot has values (slot_of n)) x,
+    )
+    (taken-slot has values value slot (slot_of x) (name_of name) (name_of x) taken
+    (rw (← at) at (same-slot name x)))))

@@ -1,6 +1,7 @@
 use Rattle.dwarf_units.proofs
 use proofs.{◌≡◌, arith, sym, ◌∙◌, Some, None, find, slice_get, ◌==◌, IsShared, SharedDeclaration}
-use proofs.{got, runs_of, all-found, at-place, found-full}
+use proofs.{got, runs_of, all-found, found-full}
+use Rattle.std.proofs.lemmas.Option.{slice_get-map}
 use Rattle.dwarf_forms.proofs.Codes.{find-place}
 use Rattle.dwarf_units.proofs.cached_table.declaration_and_runs.Goals as goal
 
@@ -35,6 +36,11 @@ returns-clause-some c = λ section format shared are.
       declared = found-full section c.args.code table (Some declaration) found;
       shared = all-found (λ (d : SharedDeclaration). IsShared section d.list)
           (λ (d : SharedDeclaration). d.code == c.args.code) table declaration shared found;
-      runs = at-place (λ (d : SharedDeclaration). runs_of format d.list.own) table
-          c.args.runs.now place declaration c.in_ok-runs.runs.now are here runs;
+      runs = grind (
+        arith,
+        here,
+        runs,
+        are,
+        slice_get-map (λ (d : SharedDeclaration). runs_of format d.list.own) table place,
+      );
     }

@@ -1,5 +1,5 @@
 use Rattle.dwarf_units.proofs.{arith, refl, sym, length, header_at, header_at-advances}
-use Rattle.dwarf_units.proofs.{unit_at-moves, at_item_cases}
+use Rattle.dwarf_units.proofs.{unit_at-moves}
 use Rattle.dwarf_units.specs.Units.{headers_of}
 use Rattle.dwarf_bytes.proofs.Items.Turns.{so-far-item, so-far-end, so-far-fault}
 use Rattle.dwarf_units.proofs.unit_headers.headers.Goals as goal
@@ -12,7 +12,7 @@ returns-in-Err c =
     let stops = so-far-fault (length info) (header_at info) (header_at-advances info) 0
     loop.all.items loop.at c.in-Err.cause loop.invariant.read
     (grind (arith, c.loop-at-test.true, c.in-Err.ensures)) in
-    grind (arith, stops, c.at_item.ensures, at_item_cases c.in-Err.cause loop.at)
+    grind (arith, stops, c.at_item.ensures)
 
 pub loop-at-smaller : goal.loop-at-smaller
 loop-at-smaller c =

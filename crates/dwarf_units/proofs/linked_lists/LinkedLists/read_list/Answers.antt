@@ -1,6 +1,7 @@
 use Rattle.dwarf_units.proofs
-use proofs.{◌≡◌, ◌≤◌, length, ◌∙◌, arith, err_from_is_err_and, attributes_at, IsLink, link-smaller}
-use proofs.{link-valid, first-read, with-none}
+use proofs.{◌≡◌, ◌≤◌, length, ◌∙◌, arith, err_from_is_err_and, attributes_at, IsLink, first-read}
+use proofs.{with-none}
+use Rattle.abbreviation_memo.proofs.ListLaws.{list-within}
 use Rattle.dwarf_units.proofs.linked_lists.LinkedLists.read_list.Goals as goal
 
 pub link_of-requires-clause-links : goal.link_of-requires-clause-links
@@ -30,8 +31,9 @@ next-link c = rw (c.section-section.ensures, c.self.view_is) at c.in_ok-link-2.e
 
 pub loop-link-smaller : goal.loop-link-smaller
 loop-link-smaller c =
-    rw c.in-Some.is (link-smaller c.args.self.now c.loop-link.link.rest c.in_ok-link-2.link
-    (rw c.in-Some.is at c.loop-link.invariant.valid) (next-link c))
+    let within = list-within c.args.self.now c.loop-link.link.rest in
+    rw c.in-Some.is
+    (grind (arith, within, c.in-Some.is, c.loop-link.invariant.valid, (next-link c).after))
 
 pub loop-link-preserved : goal.loop-link-preserved
 loop-link-preserved c =
@@ -41,7 +43,7 @@ loop-link-preserved c =
     let within : c.read_one.new.cursor.place ≤ length c.args.cursor.now.bytes =
     rw (← same) (omega (arith, c.place-in-Some.ensures.place, c.place-in-Some.ensures.within)) in
     record {
-      valid = link-valid c.args.self.now loop.link.rest c.in_ok-link-2.link (next-link c);
+      valid = grind (arith, (next-link c).after);
       bytes = same;
       stored = grind (
         arith,
