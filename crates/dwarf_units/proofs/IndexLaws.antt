@@ -2,37 +2,15 @@
 use Rattle.dwarf_units.proofs.Common
 use Common.{◌≡◌, ◌⊎◌, inl, inr, ℕ, ◌+◌, ◌<◌, ◌≤◌, List, length, take, length-take-le, sym, arith}
 use Common.{get_or, [], ◌∷◌, ◌++◌, refl, append-nil, Some, slice_get, sum_by, cases_lt, get_or-take}
-use Common.{get_or_from_slice_get, slice_get-get_or, slice_get_within, Format, Numbers, UnitHeader}
-use Common.{declarations_limit, Table, table_size, number_at, AreCached, CachedTables}
-use Common.{IsCachedOrTooLarge, IsParsedFrom, with_table, All, take-append_seam, take-length}
-use Common.{common_steps, All-push, sum_by_push, sum_by-append}
+use Common.{get_or_from_slice_get, slice_get-get_or, slice_get_within, Numbers, UnitHeader}
+use Common.{declarations_limit, Table, table_size, AreCached, CachedTables, IsCachedOrTooLarge}
+use Common.{IsParsedFrom, with_table, All, take-append_seam, take-length, common_steps, All-push}
+use Common.{sum_by_push, sum_by-append}
 use Rattle.std.proofs.{lemmas.List.take_more}
 use Rattle.dwarf_units.specs.Private.Tables.{IsIndexOf, IsTableAt, size_limit, IsAdded, StaysCached}
 use Rattle.dwarf_units.proofs.{StoredLaws.cached, TableLaws.{cached-parsed, parsed-again}}
 use Rattle.dwarf_units.proofs.TableLaws.{parsed-at}
 use Rattle.dwarf_forms.proofs.Elements.{at-end, at-front}
-
--- The map has the index of a table.
-number-is : (section : List ℕ) (tables : List Table) (permanent budget : ℕ) (numbers : Numbers)
-    (format : Format) (offset i : ℕ) → AreCached section tables permanent budget numbers
-    → IsTableAt format offset tables i → number_at numbers format offset ≡ Some i
-number-is section tables permanent budget numbers format offset i are (table, at, is) =
-    rw (← is.1, ← is.0) (are.found i table at)
-
-pub index-some : (section : List ℕ) (tables : List Table) (permanent budget number : ℕ)
-    (numbers : Numbers) (unit : UnitHeader) → AreCached section tables permanent budget numbers
-    → IsTableAt unit.format unit.abbreviations tables number
-    → IsIndexOf (cached section tables permanent) unit number
-index-some section tables permanent budget number numbers unit are is =
-    let found = number-is section tables permanent budget numbers unit.format unit.abbreviations in
-    record {
-      table = is.0;
-      found = is.1;
-      at = is.2;
-      parsed = cached-parsed section tables number is.0 are.parsed is.1;
-      only = λ other same at is_same.
-          grind (arith, found number are is, found other are (same, at, is_same));
-    }
 
 got-taken : (tables : List Table) (permanent i : ℕ) (table : Table) → i < permanent
     → permanent ≤ length tables
@@ -50,25 +28,36 @@ abbrev IsKept : CachedTables → Table → Type 0
 IsKept k table = ((number : ℕ) × (slice_get (take k.permanent k.tables) number ≡ Some table))
     ⊎ (size_limit k.section < sum_by table_size (take k.permanent k.tables) + table_size table)
 
--- A cached table is permanent, or exceeds the limit.
-pub index-stays : (section : List ℕ) (tables : List Table) (permanent budget number : ℕ)
-    (numbers : Numbers) (unit : UnitHeader) → AreCached section tables permanent budget numbers
-    → IsTableAt unit.format unit.abbreviations tables number
-    → IsCachedOrTooLarge (cached section tables permanent) unit
-index-stays section tables permanent budget number numbers unit are (table, at, is) = (
-  table,
-  is,
-  cached-parsed section tables number table are.parsed at,
-  by_place (cases_lt number permanent),
-)
-  where
-    by_place : (number < permanent) ⊎ (permanent ≤ number)
-        → IsKept (cached section tables permanent) table
-    by_place (inl lt) = inl (number, got-taken tables permanent number table lt are.within at)
-    by_place (inr le) =
-        let within = slice_get_within tables number table at in
-        let last : number ≡ permanent = omega (arith, le, within, are.one) in
-        inr (omega (arith, are.past table (rw last at at), are.counted))
+-- The table of a unit is at an index of the cache.
+module _ {section : List ℕ} {tables : List Table} {permanent budget : ℕ} {numbers : Numbers}
+    (unit : UnitHeader) (number : ℕ) (are : AreCached section tables permanent budget numbers)
+    (is : IsTableAt unit.format unit.abbreviations tables number) where
+  pub index-some : IsIndexOf (cached section tables permanent) unit number
+  index-some = record {
+    table = is.0;
+    found = is.1;
+    at = is.2;
+    parsed = cached-parsed section tables number is.0 are.parsed is.1;
+    only = λ other same at is_same.
+        grind (arith, are.found number is.0 is.1, is.2, are.found other same at, is_same);
+  }
+
+  -- The table is permanent, or exceeds the limit.
+  pub index-stays : IsCachedOrTooLarge (cached section tables permanent) unit
+  index-stays = (
+    is.0,
+    is.2,
+    cached-parsed section tables number is.0 are.parsed is.1,
+    by_place (cases_lt number permanent),
+  )
+    where
+      by_place : (number < permanent) ⊎ (permanent ≤ number)
+          → IsKept (cached section tables permanent) is.0
+      by_place (inl lt) = inl (number, got-taken tables permanent number is.0 lt are.within is.1)
+      by_place (inr le) =
+          let within = slice_get_within tables number is.0 is.1 in
+          let last : number ≡ permanent = omega (arith, le, within, are.one) in
+          inr (omega (arith, are.past is.0 (rw last at is.1), are.counted))
 
 -- What holds for the table of a unit still holds after more tables are cached.
 pub stays-on : (old new : CachedTables) (unit : UnitHeader) → StaysCached old new
@@ -118,7 +107,7 @@ pub stays-parsed : (old new : CachedTables) (unit : UnitHeader) (budget left num
 stays-parsed old new unit budget left number within few added =
     let parsed : IsParsedFrom old.section added.table =
     parsed-at old.section budget added.table unit.abbreviations added.within added.at.0 added.read
-    (omega (arith, added.counted, few)) in
+    few in
     let kept = kept-with old added.table within in
     rw added.added ((added.table, added.at, parsed, kept.0), kept.1)
 

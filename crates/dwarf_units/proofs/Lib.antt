@@ -10,12 +10,10 @@ pub mod NodeLaws
 pub mod EntryOrder
 pub mod RereadLaws
 pub mod FixedValues
-pub mod FixedSizeLaws
 pub mod RunReads
 pub mod StoredReads
 pub mod NodeShapes
 pub mod LinkLaws
-pub mod SharedTableLaws
 pub mod IndexLaws
 pub mod SlotLaws
 unfoldable pub use Common.*
@@ -28,11 +26,9 @@ pub use NodeLaws.*
 pub use EntryOrder.*
 pub use RereadLaws.*
 pub use FixedValues.*
-pub use FixedSizeLaws.*
 pub use RunReads.*
 pub use StoredReads.*
 pub use NodeShapes.*
 pub use LinkLaws.*
-pub use SharedTableLaws.*
 pub use IndexLaws.*
 pub use SlotLaws.*

@@ -54,20 +54,18 @@ fixed-there : (format : Format) (declared : List AttributeSpecification) (bytes 
     (at size : ℕ) → fixed_size (runs_of format declared) ≡ Some size → at + size ≤ length bytes
     → (all : List Attribute) × (attributes_at format declared bytes at ≡ Ok (all, at + size))
 unfolding block_at
-fixed-there format declared bytes at size is le = by_read (attributes_at format declared bytes at)
-    (by_runs (runs_of format declared).runs (runs_of format declared).rest is
-    ∙ runs-read false format bytes declared at (omega (arith, le)))
+fixed-there format declared bytes at size is le =
+    by_read (runs_of format declared).runs (runs_of format declared).rest
+    (attributes_at format declared bytes at) is
+    (runs-read false format bytes declared at (omega (arith, le)))
   where
-    by_runs : (runs : List Run) (rest : Stretch)
+    by_read : (runs : List Run) (rest : Stretch) (r : Result (List Attribute × ℕ) Cause)
         → cond (length runs == 0) (Some rest.len) None ≡ Some size
-        → Ok ([], at + size) ≡ runs_at false format runs rest bytes at
-    by_runs [] rest is = grind (arith, le)
-    by_runs (run ∷ runs) rest is = grind arith
-
-    by_read : (r : Result (List Attribute × ℕ) Cause) → Ok ([], at + size)
-        ≡ (r >>= stored_all false) → (all : List Attribute) × (r ≡ Ok (all, at + size))
-    by_read (Ok all) same = (all.0, grind (arith, same))
-    by_read (Err e) same = cc
+        → runs_at false format runs rest bytes at ≡ (r >>= stored_all false)
+        → (all : List Attribute) × (r ≡ Ok (all, at + size))
+    by_read [] rest (Ok all) is same = (all.0, grind (arith, le, is, same))
+    by_read [] rest (Err e) is same = absurd (grind (arith, le, is, same))
+    by_read (run ∷ runs) rest r is same = absurd (grind (arith, is))
 
 pub shape-there : (table : Table) (depth code : ℕ) (unit : List ℕ) (at : ℕ) (shape : NodeShape)
     → shape_at table code ≡ Some shape → slice_get unit at ≡ Some code → 0 < depth

@@ -3,7 +3,9 @@ use Rattle.dwarf_units.proofs.Common
 use Common.{arith, ◌≡◌, ℕ, List, [], ◌∷◌, Bool, true, false, refl, ◌++◌, ◌<◌, length, get_or, Some}
 use Common.{None, ◌==◌, Option, UsedName, is_used, name_of, used_name, Attribute, AttributeValue}
 use Common.{value_of, Used, used_among, value_named, with_used, slot_of, named_attribute, filter}
-use Common.{sym, find, option_map}
+use Common.{sym, find, option_map, map, ◌∙◌, slice_get, Format, UsedPosition, attribute_in}
+use Common.{attributes_in, index_in}
+use Rattle.std.proofs.lemmas.List.Folds.{find_at}
 use Rattle.std.specs.List.{list_all}
 use Rattle.std.proofs.{lemmas.Bool.eqb-true, Math.ListN.set, lemmas.List.get_or-set_same}
 use Rattle.std.proofs.lemmas.List.{get_or-set_other}
@@ -150,3 +152,31 @@ stored-is u has values name value slot is at taken = rw (← is)
     )
     (taken-slot has values value slot (slot_of x) (name_of name) (name_of x) taken
     (rw (← at) at (same-slot name x)))))
+
+-- ---- the attributes of an entry at their positions
+
+-- The value of the attribute at a position.
+abbrev value_in : Format → List ℕ → ℕ → UsedPosition → AttributeValue
+value_in format bytes first p = (attribute_in format bytes first p).value
+
+pub find-map : {X Y : Type 0} (f : X → Y) (p : X → Bool) (q : Y → Bool)
+    → ((x : X) → q (f x) ≡ p x) → (xs : List X) → find q (map f xs) ≡ option_map f (find p xs)
+find-map f p q same [] = refl
+find-map f p q same (x ∷ xs) = let rest = find-map f p q same xs in grind (arith, same x)
+
+-- The value of a name is the one at the first position in its slot.
+pub value-at : (format : Format) (bytes : List ℕ) (first : ℕ) (n : UsedName)
+    (used : List UsedPosition) → value_named n (used_among (attributes_in format bytes first used))
+    ≡ option_map (value_in format bytes first) (slice_get used (index_in (slot_of n) used))
+value-at format bytes first n used = among-named n (attributes_in format bytes first used)
+    ∙ (rw (
+      find-map (attribute_in format bytes first) (λ p. slot_of p.name == slot_of n)
+          (λ a. a.name == name_of n) (λ p. sym (same-slot p.name n)) used,
+      find_at _ used,
+    )
+    (read (slice_get used (index_in (slot_of n) used))))
+  where
+    read : (found : Option UsedPosition) → option_map (λ (a : Attribute). a.value)
+        (option_map (attribute_in format bytes first) found)
+        ≡ option_map (value_in format bytes first) found
+    read found = grind arith

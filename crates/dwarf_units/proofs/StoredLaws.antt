@@ -69,7 +69,8 @@ pub cached-added : {section : List ℕ} {tables after : List Table} {permanent b
     → IsPlaced after permanent budget now left size
     → AreCached section tables permanent budget numbers → AreCached section after now left next
 cached-added {section = section} {tables = tables} {after = after} {permanent = permanent}
-    {budget = budget} {now = now} {next = next} table size elsewhere sets parsed is size_is placed all =
+    {budget = budget} {now = now} {next = next} table size elsewhere sets parsed is size_is placed
+    all =
     let before : List Table = take permanent tables in
     let short : AreCached section before permanent budget next =
     cached-truncated table.format table.offset elsewhere sets refl all in

@@ -1,14 +1,19 @@
--- The iterations of the loop over the tables of the units.
+-- The tables of the units, and declarations that share attributes.
 use Rattle.dwarf_units.proofs.Common
 use Common.{◌≡◌, ℕ, ◌+◌, ◌-◌, ◌<◌, ◌≤◌, List, [], ◌∷◌, ◌++◌, length, take, drop, get_or, refl, sym}
 use Common.{◌∙◌, arith, Some, Result, Ok, slice_get, sum_by, All, slice_get_within}
 use Common.{get_or_from_slice_get, sum_by_push, drop_more, in_section, Declaration, UnitHeader}
-use Common.{Table, IsParsedFrom, declarations_limit}
+use Common.{Table, IsParsedFrom, declarations_limit, suc, append-nil, Bool, find, take-append_seam}
+use Common.{AreShared, IsShared, SharedDeclaration, full_declarations}
+use Rattle.std.proofs.{lemmas.List.take_all, lemmas.List.Sums.sum_by-cons}
+use Rattle.abbreviation_memo.specs.declared.shared.TheConstants.{UNSHARED}
+use Rattle.abbreviation_memo.specs.Declarations.{SharedAttributes, all_of, full_declaration}
+use Rattle.dwarf_units.specs.Private.AbbreviationTables.{own_attributes}
 use Rattle.dwarf_bytes.specs.{declared.fault.Section.Section, Items.{At, each_from}}
 use Rattle.dwarf_bytes.proofs.Items.EachLaws.{made_front, each-next}
 use Rattle.dwarf_bytes.proofs.Items.EachPlaces.{each-place}
 use Rattle.dwarf_forms.specs.Tables.{table_at, declarations_of}
-use Rattle.dwarf_forms.proofs.{Elements.at-end, EncodedTables.{table-encoded, table_read}}
+use Rattle.dwarf_forms.proofs.EncodedTables.{table-encoded, table_read}
 use Rattle.dwarf_units.specs.Units.{tables_of}
 use Rattle.dwarf_bytes.specs.declared.fault.Section.TheVariants as sections
 
@@ -61,11 +66,15 @@ table-again budget other section offset table read few = grind (
   table_read other section offset,
 )
 
--- A table has no more declarations than the budget.
-pub table-few : (budget : ℕ) (section : List ℕ) (offset : ℕ) (table : List Declaration)
-    → declarations_of budget section offset ≡ Ok table → length table ≤ budget
-table-few budget section offset table read =
-    grind (arith, λ (x : List Declaration × ℕ). table-encoded budget section offset x.0 x.1)
+-- A table that was parsed is parsed to the same result with the whole budget.
+pub table-whole : (budget : ℕ) (section : List ℕ) (offset : ℕ) (table : List Declaration)
+    → budget ≤ declarations_limit → declarations_of budget section offset ≡ Ok table
+    → (declarations_of declarations_limit section offset ≡ Ok table) × (length table ≤ budget)
+table-whole budget section offset table few read = grind (
+  arith,
+  λ (x : List Declaration × ℕ). table-encoded budget section offset x.0 x.1,
+  table-again budget declarations_limit section offset table read,
+)
 
 -- The table of a unit is the result of parsing it with the whole budget.
 pub table_is : (section : List ℕ) (headers : List UnitHeader) (tables : List (List Declaration))
@@ -74,26 +83,21 @@ pub table_is : (section : List ℕ) (headers : List UnitHeader) (tables : List (
     ≡ Ok (get_or tables index [])
 unfolding tables_of
 table_is section headers tables index d all within =
-    let budget : ℕ = declarations_limit - sum_by length (take index tables) in
-    let offset : ℕ = (get_or headers index d).abbreviations in
-    let read : declarations_of budget section offset ≡ Ok (get_or tables index []) =
-    each-place (table_for section) [] headers tables all index d [] within in
-    let few : length (get_or tables index []) ≤ budget =
-    table-few budget section offset (get_or tables index []) read in
-    table-again budget declarations_limit section offset (get_or tables index []) read
-    (omega (arith, few))
+    (table-whole (declarations_limit - sum_by length (take index tables)) section
+    (get_or headers index d).abbreviations (get_or tables index []) (omega arith)
+    (each-place (table_for section) [] headers tables all index d [] within)).0
 
 -- A table that was parsed is the table at its offset.
 pub parsed-at : (section : List ℕ) (budget : ℕ) (table : Table) (offset : ℕ)
     → table.section ≡ section → table.offset ≡ offset
     → in_section sections.DebugAbbrev (declarations_of budget section offset)
-    ≡ Ok table.declarations
-    → length table.declarations ≤ declarations_limit → IsParsedFrom section table
-parsed-at section budget table offset in_same same read few = (
+    ≡ Ok table.declarations → budget ≤ declarations_limit → IsParsedFrom section table
+parsed-at section budget table offset in_same same read few = grind (
+  arith,
   in_same,
-  table-again budget declarations_limit section table.offset table.declarations
-      (in_section-ok sections.DebugAbbrev (declarations_of budget section table.offset)
-      table.declarations (rw same read)) few,
+  same,
+  read,
+  table-whole budget section offset table.declarations few,
 )
 
 -- A cached table is parsed from the section.
@@ -119,9 +123,45 @@ pub parsed-too-long : {X : Type 0} (section : List ℕ) (table : Table) (offset 
     (read : List Declaration) → IsParsedFrom section table → table.offset ≡ offset
     → in_section sections.DebugAbbrev (declarations_of left section offset) ≡ Ok read
     → left ≤ declarations_limit → left < length table.declarations → X
-parsed-too-long section table offset left read parsed same is_read few past =
-    let ok : declarations_of left section offset ≡ Ok read = grind (arith, is_read) in
-    let short : length read ≤ left = table-few left section offset read ok in
-    let again = table-again left declarations_limit section offset read ok
-    (omega (arith, short, few)) in
-    grind (arith, same, parsed.1, again, short)
+parsed-too-long section table offset left read parsed same is_read few past = grind (
+  arith,
+  table-whole left section offset read few,
+  is_read,
+  same,
+  parsed.1,
+  past,
+)
+
+-- ---- declarations that share attributes
+
+-- A property of every element is a property of the element that is found.
+pub all-found : {D : Type 0} (P : D → Type 0) (p : D → Bool) (xs : List D) (x : D) → All P xs
+    → find p xs ≡ Some x → P x
+all-found P p [] x all is = cc
+all-found P p (y ∷ ys) x all is =
+    let rest = all-found P p ys x (λ k d lt. all (suc k) d (omega (arith, lt))) in
+    grind (arith, rest, all 0 y (omega arith))
+
+-- The unshared attributes of a declaration are the first ones of all.
+own-first : (section : List ℕ) (list : SharedAttributes) → IsShared section list
+    → take UNSHARED (all_of section list) ≡ list.own
+own-first section list is = grind (
+  arith,
+  is.full,
+  append-nil list.own,
+  take_all UNSHARED list.own is.few,
+  take-append_seam list.own,
+)
+
+pub own-sum : (section : List ℕ) (ds : List SharedDeclaration) → AreShared section ds
+    → sum_by (λ d. length (own_attributes d)) (full_declarations section ds)
+    ≡ sum_by (λ d. length d.list.own) ds
+own-sum section [] are = refl
+own-sum section (d ∷ ds) are = grind (
+  arith,
+  own-first section d.list (are 0 d (omega arith)),
+  own-sum section ds (λ k e lt. are (suc k) e (omega (arith, lt))),
+  sum_by-cons (λ (e : Declaration). length (own_attributes e)) (full_declaration section d)
+      (full_declarations section ds),
+  sum_by-cons (λ (e : SharedDeclaration). length e.list.own) d ds,
+)

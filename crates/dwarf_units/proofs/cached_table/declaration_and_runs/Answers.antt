@@ -1,16 +1,23 @@
 use Rattle.dwarf_units.proofs
 use proofs.{◌≡◌, arith, sym, ◌∙◌, Some, None, find, slice_get, ◌==◌, IsShared, SharedDeclaration}
-use proofs.{got, runs_of, all-found, found-full}
+use proofs.{full_declarations, option_map, refl, List, ℕ, got, runs_of, all-found, find-map}
 use Rattle.std.proofs.lemmas.Option.{slice_get-map}
+use Rattle.abbreviation_memo.specs.Declarations.{full_declaration}
 use Rattle.dwarf_forms.proofs.Codes.{find-place}
 use Rattle.dwarf_units.proofs.cached_table.declaration_and_runs.Goals as goal
 
+-- The declaration of a code is found among those with all attributes.
+found-full : (section : List ℕ) (code : ℕ) (ds : List SharedDeclaration)
+    → find (λ d. d.code == code) (full_declarations section ds)
+    ≡ option_map (full_declaration section) (find (λ d. d.code == code) ds)
+found-full section code ds = find-map (full_declaration section) (λ d. d.code == code)
+    (λ d. d.code == code) (λ d. refl) ds
+
 pub returns-in_err-place-clause-none : goal.returns-in_err-place-clause-none
 returns-in_err-place-clause-none c = λ section format are.
-    rw c.from_residual.ensures
-    (found-full section c.args.code c.args.table.now None
-    (find-place (λ (d : SharedDeclaration). d.code == c.args.code) c.args.table.now None
-    (sym c.in_err-place.ensures)))
+    let none = find-place (λ (d : SharedDeclaration). d.code == c.args.code) c.args.table.now None
+    (sym c.in_err-place.ensures) in
+    rw (c.from_residual.ensures, found-full section c.args.code c.args.table.now, none) refl
 
 pub returns-clause-some : goal.returns-clause-some
 returns-clause-some c = λ section format shared are.
@@ -20,26 +27,23 @@ returns-clause-some c = λ section format shared are.
     let here : slice_get table place ≡ Some declaration = grind (
       arith,
       c.declarations.ensures,
-      got c.declarations.result.now place c.get.result c.get.ensures.lookup.0
-          c.get.ensures.lookup.1,
+      got c.declarations.result.now place c.get.result,
+      c.get.ensures.lookup,
       c.in_ok-declaration.was,
     ) in
     let found : find (λ d. d.code == c.args.code) table ≡ Some declaration =
     find-place (λ (d : SharedDeclaration). d.code == c.args.code) table (Some place)
     (sym c.in_ok-place.ensures) ∙ here in
-    let runs : slice_get c.args.runs.now place ≡ Some c.in_ok-runs.runs.now = grind (
-      arith,
-      got c.args.runs.now place c.get-2.result c.get-2.ensures.lookup.0 c.get-2.ensures.lookup.1,
-      c.in_ok-runs.was,
-    ) in
     record {
-      declared = found-full section c.args.code table (Some declaration) found;
+      declared = rw (found-full section c.args.code table, found) refl;
       shared = all-found (λ (d : SharedDeclaration). IsShared section d.list)
           (λ (d : SharedDeclaration). d.code == c.args.code) table declaration shared found;
       runs = grind (
         arith,
         here,
-        runs,
+        got c.args.runs.now place c.get-2.result,
+        c.get-2.ensures.lookup,
+        c.in_ok-runs.was,
         are,
         slice_get-map (λ (d : SharedDeclaration). runs_of format d.list.own) table place,
       );

@@ -9,16 +9,13 @@ there c = rw (← c.deref.ensures.value)
     c.get.ensures.lookup.1) ∙ ap (λ r. option_copied r) c.in-Some.is)
 
 pub returns-clause-some : goal.returns-clause-some
-returns-clause-some c is =
-    rw (← c.self.view_is) (index-some c.self.inside.section.now c.self.inside.tables.items
-    c.self.inside.permanent c.self.inside.budget c.args.number c.self.inside.numbers
-    c.args.unit.now c.self.invariant (c.in-Some.table.now, there c, c.is_of.ensures.0 is))
+returns-clause-some c is = rw (← c.self.view_is)
+    (index-some _ _ c.self.invariant (c.in-Some.table.now, there c, c.is_of.ensures.0 is))
 
 pub returns-clause-stays : goal.returns-clause-stays
-returns-clause-stays c is =
-    rw (← c.self.view_is) (index-stays c.self.inside.section.now c.self.inside.tables.items
-    c.self.inside.permanent c.self.inside.budget c.args.number c.self.inside.numbers
-    c.args.unit.now c.self.invariant (c.in-Some.table.now, there c, c.is_of.ensures.0 is))
+returns-clause-stays c is = rw (← c.self.view_is)
+    (index-stays c.args.unit.now c.args.number c.self.invariant
+    (c.in-Some.table.now, there c, c.is_of.ensures.0 is))
 
 pub returns-clause-none : goal.returns-clause-none
 returns-clause-none c is =
