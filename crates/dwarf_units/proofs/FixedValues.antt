@@ -2,7 +2,7 @@
 -- constant of its declaration. The value of an attribute of a fixed size is at its position.
 use Rattle.dwarf_units.proofs.Common
 use Common.{ne_eqb, same_Some, arith, ◌≡◌, ℕ, ℤ, List, true, false, refl, ap, sym, ◌∙◌, Bool, cond}
-use Common.{Option, Some, Result, Ok, Err, ◌==◌, None, ReadFault, Cause, Format, Form, Direct}
+use Common.{Option, Some, Result, Ok, Err, None, ReadFault, Cause, Format, Form, Direct}
 use Common.{ImplicitConst, Indirect, ValueLayout, ◌>>=◌, form_of, Content, Signed, content_at}
 use Common.{reading, ValueFault, Value, direct_at, value_at, is_negative, is_negative_count}
 use Common.{accepts, number_of, is_used, AttributeSpecification, Attribute, reading_value}
@@ -21,11 +21,6 @@ use Rattle.dwarf_units.specs.declared.used_position.UsedValue.TheVariants.{At}
 never-count : (name : ℕ) (c : Content) → is_negative c ≡ false
     → is_negative_count name c ≡ false
 never-count name c h = grind arith
-
-not-indirect : (form : ℕ) (found : Form) → form_of form ≡ Some found → (found ≡ Indirect → ⊥)
-    → (form == DW_FORM_INDIRECT) ≡ false
-not-indirect form found is apart = ne_eqb form DW_FORM_INDIRECT
-    (λ e. apart (same_Some found Indirect (sym is ∙ ap form_of e)))
 
 -- ---- the attribute
 
@@ -134,7 +129,10 @@ module _ (format : Format) (s : AttributeSpecification) (bytes : List ℕ) where
       → form_of s.form ≡ Some found → (found ≡ Indirect → ⊥) → attribute_at format s bytes at
       ≡ (reading_value (value_at s.form format s.constant bytes at)
       >>= checked s (is_negative_count s.name))
-  attribute-direct found at fine is apart = rw (not-indirect s.form found is apart, fine) refl
+  attribute-direct found at fine is apart =
+      let other : s.form ≡ DW_FORM_INDIRECT → ⊥ =
+      λ same. apart (same_Some found Indirect (sym is ∙ ap form_of same)) in
+      rw (ne_eqb s.form DW_FORM_INDIRECT other, fine) refl
 
   -- If the form has a layout and the value is no negative count, the layout is read.
   in-layout : (layout : ValueLayout) (at : ℕ) → accepts s.name s.form ≡ true

@@ -3,7 +3,6 @@
 pub mod Common
 pub mod UnitLaws
 pub mod TableLaws
-pub mod StoredLaws
 pub mod EntryMoves
 pub mod EntryAdvances
 pub mod NodeLaws
@@ -19,7 +18,6 @@ pub mod SlotLaws
 unfoldable pub use Common.*
 pub use UnitLaws.*
 pub use TableLaws.*
-pub use StoredLaws.*
 pub use EntryMoves.*
 pub use EntryAdvances.*
 pub use NodeLaws.*

@@ -120,38 +120,38 @@ put-slot has values value slot other own number within place free same = grind (
   get_or-set_other values slot other value (record { form = 0; number = 0 }),
 )
 
--- The slot is empty, so the attribute is stored.
-pub put-is : (u : Used) (has : List Bool) (values : List AttributeValue) (name : UsedName)
-    (value : AttributeValue) (slot : ℕ) → in_slots has values ≡ u → slot ≡ slot_of name
-    → slot < length has → slot < length values → get_or has slot false ≡ false
-    → in_slots (set has slot true) (set values slot value)
-    ≡ with_used u (named_attribute name value ∷ [])
-put-is u has values name value slot is at within place free = rw (← is)
-    (same-used _ _ (λ x. rw (
-      by-named (λ n. in_slot (set has slot true) (set values slot value) (slot_of n)) x,
-      with-named (in_slots has values) (named_attribute name value ∷ []) x,
-      by-named (λ n. in_slot has values (slot_of n)) x,
-    )
-    (put-slot has values value slot (slot_of x) (name_of name) (name_of x) within place free
-    (rw (← at) at (same-slot name x)))))
-
 taken-slot : (has : List Bool) (values : List AttributeValue) (value : AttributeValue)
     (slot other own number : ℕ) → get_or has slot false ≡ true → (slot == other) ≡ (own == number)
     → in_slot has values other ≡ option_or (in_slot has values other)
     (value_of (record { name = own; value = value } ∷ []) number)
 taken-slot has values value slot other own number taken same = grind arith
 
+slot-named : (has : List Bool) (values : List AttributeValue) (name : UsedName)
+    → value_named name (in_slots has values) ≡ in_slot has values (slot_of name)
+slot-named has values = by-named (λ name. in_slot has values (slot_of name))
+
+-- The slot is empty, so the attribute is stored.
+pub put-is : (has : List Bool) (values : List AttributeValue) (name : UsedName)
+    (value : AttributeValue) (slot : ℕ) → slot ≡ slot_of name → slot < length has
+    → slot < length values → get_or has slot false ≡ false
+    → in_slots (set has slot true) (set values slot value)
+    ≡ with_used (in_slots has values) (named_attribute name value ∷ [])
+put-is has values name value slot at within place free = same-used _ _ (λ x. rw (
+  slot-named (set has slot true) (set values slot value) x,
+  with-named (in_slots has values) (named_attribute name value ∷ []) x,
+  slot-named has values x,
+)
+    (put-slot has values value slot (slot_of x) (name_of name) (name_of x) within place free
+    (rw (← at) at (same-slot name x))))
+
 -- The slot is occupied, so the attribute is ignored.
-pub stored-is : (u : Used) (has : List Bool) (values : List AttributeValue) (name : UsedName)
-    (value : AttributeValue) (slot : ℕ) → in_slots has values ≡ u → slot ≡ slot_of name
-    → get_or has slot false ≡ true → u ≡ with_used u (named_attribute name value ∷ [])
-stored-is u has values name value slot is at taken = rw (← is)
-    (same-used _ _ (λ x. rw (
-      with-named (in_slots has values) (named_attribute name value ∷ []) x,
-      by-named (λ n. in_slot has values (slot_of n)) x,
-    )
+pub stored-is : (has : List Bool) (values : List AttributeValue) (name : UsedName)
+    (value : AttributeValue) (slot : ℕ) → slot ≡ slot_of name → get_or has slot false ≡ true
+    → in_slots has values ≡ with_used (in_slots has values) (named_attribute name value ∷ [])
+stored-is has values name value slot at taken = same-used _ _ (λ x. rw
+    (with-named (in_slots has values) (named_attribute name value ∷ []) x, slot-named has values x)
     (taken-slot has values value slot (slot_of x) (name_of name) (name_of x) taken
-    (rw (← at) at (same-slot name x)))))
+    (rw (← at) at (same-slot name x))))
 
 -- ---- the attributes of an entry at their positions
 

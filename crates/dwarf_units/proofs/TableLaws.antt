@@ -1,10 +1,10 @@
 -- The tables of the units, and declarations that share attributes.
 use Rattle.dwarf_units.proofs.Common
-use Common.{◌≡◌, ℕ, ◌+◌, ◌-◌, ◌<◌, ◌≤◌, List, [], ◌∷◌, ◌++◌, length, take, drop, get_or, refl, sym}
-use Common.{◌∙◌, arith, Some, Result, Ok, slice_get, sum_by, All, slice_get_within}
+use Common.{◌≡◌, ℕ, ◌+◌, ◌-◌, ◌<◌, ◌≤◌, List, [], ◌∷◌, ◌++◌, length, take, drop, get_or, refl}
+use Common.{arith, Some, Result, Ok, slice_get, sum_by, All, slice_get_within}
 use Common.{get_or_from_slice_get, sum_by_push, drop_more, in_section, Declaration, UnitHeader}
-use Common.{Table, IsParsedFrom, declarations_limit, suc, append-nil, Bool, find, take-append_seam}
-use Common.{AreShared, IsShared, SharedDeclaration, full_declarations}
+use Common.{Table, IsParsedFrom, declarations_limit, suc, append-nil, take-append_seam, AreShared}
+use Common.{IsShared, SharedDeclaration, full_declarations}
 use Rattle.std.proofs.{lemmas.List.take_all, lemmas.List.Sums.sum_by-cons}
 use Rattle.abbreviation_memo.specs.declared.shared.TheConstants.{UNSHARED}
 use Rattle.abbreviation_memo.specs.Declarations.{SharedAttributes, all_of, full_declaration}
@@ -44,15 +44,11 @@ checked-next section units index left after d table so_far within found counted 
     let unit = get_or units index d in
     let budget : declarations_limit - sum_by length so_far.made ≡ left =
     omega (arith, so_far.counted) in
-    let here : table_for section so_far.made unit ≡ Ok table = rw budget
-    (in_section-ok sections.DebugAbbrev (declarations_of left section unit.abbreviations) table
-    found) in
+    let next = each-next (table_for section) so_far.made unit (drop (index + 1) units) table in
     record {
       made = so_far.made ++ table ∷ [];
       counted = omega (arith, so_far.counted, counted, sum_by_push length so_far.made table);
-      read = sym (each-next (table_for section) so_far.made unit (drop (index + 1) units) table
-          here)
-          ∙ rw (← drop_more units index d within) so_far.read;
+      read = grind (arith, budget, next, found, drop_more units index d within, so_far.read);
     }
 
 -- A table that was parsed is parsed to the same result with any budget that is large enough.
@@ -100,15 +96,11 @@ parsed-at section budget table offset in_same same read few = grind (
   table-whole budget section offset table.declarations few,
 )
 
--- A cached table is parsed from the section.
-pub cached-parsed : (section : List ℕ) (tables : List Table) (number : ℕ) (table : Table)
-    → All (IsParsedFrom section) tables → slice_get tables number ≡ Some table
-    → IsParsedFrom section table
-cached-parsed section tables number table all at = grind (
-  arith,
-  get_or_from_slice_get tables number table table at,
-  all number table (slice_get_within tables number table at),
-)
+-- A property of every element is a property of the element at an index.
+pub all-at : {X : Type 0} (P : X → Type 0) (xs : List X) (i : ℕ) (x : X) → All P xs
+    → slice_get xs i ≡ Some x → P x
+all-at P xs i x all at = rw (get_or_from_slice_get xs i x x at)
+    at (all i x (slice_get_within xs i x at))
 
 -- A parsed table is parsed again with any budget that is large enough.
 pub parsed-again : (section : List ℕ) (table : Table) (offset left : ℕ)
@@ -133,14 +125,6 @@ parsed-too-long section table offset left read parsed same is_read few past = gr
 )
 
 -- ---- declarations that share attributes
-
--- A property of every element is a property of the element that is found.
-pub all-found : {D : Type 0} (P : D → Type 0) (p : D → Bool) (xs : List D) (x : D) → All P xs
-    → find p xs ≡ Some x → P x
-all-found P p [] x all is = cc
-all-found P p (y ∷ ys) x all is =
-    let rest = all-found P p ys x (λ k d lt. all (suc k) d (omega (arith, lt))) in
-    grind (arith, rest, all 0 y (omega arith))
 
 -- The unshared attributes of a declaration are the first ones of all.
 own-first : (section : List ℕ) (list : SharedAttributes) → IsShared section list

@@ -1,6 +1,6 @@
 use Rattle.dwarf_units.proofs
 use proofs.{◌≡◌, arith, sym, ◌∙◌, Some, None, find, slice_get, ◌==◌, IsShared, SharedDeclaration}
-use proofs.{full_declarations, option_map, refl, List, ℕ, got, runs_of, all-found, find-map}
+use proofs.{full_declarations, option_map, refl, List, ℕ, got, runs_of, all-at, find-map}
 use Rattle.std.proofs.lemmas.Option.{slice_get-map}
 use Rattle.abbreviation_memo.specs.Declarations.{full_declaration}
 use Rattle.dwarf_forms.proofs.Codes.{find-place}
@@ -36,8 +36,8 @@ returns-clause-some c = λ section format shared are.
     (sym c.in_ok-place.ensures) ∙ here in
     record {
       declared = rw (found-full section c.args.code table, found) refl;
-      shared = all-found (λ (d : SharedDeclaration). IsShared section d.list)
-          (λ (d : SharedDeclaration). d.code == c.args.code) table declaration shared found;
+      shared = all-at (λ (d : SharedDeclaration). IsShared section d.list) table place declaration
+          shared here;
       runs = grind (
         arith,
         here,
