@@ -54,8 +54,5 @@ node_at_depth-moves format table depth rooted unit at x h =
 pub node_at-advances : (format : Format) (table : List Declaration) (unit : List ℕ)
     → Advances (length unit) (node_at format table unit)
 node_at-advances format table unit before at x after h =
-    grind (
-      arith,
-      node_at_depth-moves format table (depth_after before) (list_any is_root before)
-          unit at,
-    )
+    let rooted = list_any is_root before in
+    grind (arith, node_at_depth-moves format table (depth_after before) rooted unit at)

@@ -8,15 +8,8 @@ loop-specification-preserved-in-Some c =
     let loop = c.loop-specification in
     let left = λ (d : AttributeSpecification). drop_more c.args.declared.now
     loop.specification-index d c.loop-specification-test.true in
-    grind (
-      arith,
-      left,
-      c.end_of.ensures,
-      c.in-Some.is,
-      c.of.ensures,
-      c.in_ok-push_position.ensures,
-      loop.invariant,
-    )
+    let pushed = c.in_ok-push_position.ensures in
+    grind (arith, left, c.end_of.ensures, c.in-Some.is, c.of.ensures, pushed, loop.invariant)
 
 pub loop-specification-preserved : goal.loop-specification-preserved
 unfolding runs_from

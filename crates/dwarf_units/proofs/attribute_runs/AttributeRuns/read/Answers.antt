@@ -6,12 +6,5 @@ loop-run-preserved c =
     let loop = c.loop-run in
     let left = drop_more c.deref-run-items.result.now loop.run-index c.run-item.result
     (omega arith) in
-    grind (
-      arith,
-      left,
-      used-both loop.found,
-      c.run-item.is,
-      c.in_ok-read.ensures,
-      loop.invariant.bytes,
-      loop.invariant.stored,
-    )
+    let both = used-both loop.found in
+    grind (arith, left, both, c.run-item.is, c.in_ok-read.ensures, loop.invariant)

@@ -7,21 +7,10 @@ returns c =
     let inside = c.self.inside in
     let list = inside.declaration.now.list in
     let position = c.args.cursor.now in
-    let none : rest_attributes inside.lists.now list.rest ≡ [] = grind (
-      arith,
-      c.list.ensures,
-      c.rest.ensures,
-      c.if-is_some.false,
-      c.is_some.ensures,
-    ) in
+    let none : rest_attributes inside.lists.now list.rest ≡ [] =
+    grind (arith, c.list.ensures, c.rest.ensures, c.if-is_some.false, c.is_some.ensures) in
     let read = runs-read true inside.format position.bytes list.own position.place
     (omega (arith, c.place.ensures.place, c.place.ensures.within)) in
-    grind (
-      arith,
-      none,
-      append-nil list.own,
-      read,
-      c.self.invariant.0,
-      c.fixed_size_values.ensures,
-      c.self.view_is,
-    )
+    let runs = c.self.invariant.0 in
+    let values = c.fixed_size_values.ensures in
+    grind (arith, none, append-nil list.own, read, runs, values, c.self.view_is)

@@ -15,15 +15,8 @@ returns-in_err-read_one c =
     let p = err_from_is_err_and c.from_residual-in_err-read_one.result
     c.from_residual-in_err-read_one.ensures.1 in
     let loop = c.loop-link in
-    grind (
-      arith,
-      p,
-      first-read c.args.keep c.args.format c.in-Some.attribute,
-      c.in-Some.is,
-      loop.invariant.stored,
-      loop.invariant.bytes,
-      c.in_err-read_one.ensures,
-    )
+    let first = first-read c.args.keep c.args.format c.in-Some.attribute in
+    grind (arith, p, first, c.in-Some.is, loop.invariant, c.in_err-read_one.ensures)
 
 next-link : (c : goal.In_ok-link-2) → IsLink c.args.self.now c.loop-link.link.rest
     c.in_ok-link-2.link
@@ -51,18 +44,12 @@ loop-link-preserved c =
             c.read_one.new.cursor.place within,
         first-read c.args.keep c.args.format c.in-Some.attribute,
         c.in-Some.is,
-        loop.invariant.stored,
-        loop.invariant.bytes,
+        loop.invariant,
         c.in_ok-read_one.ensures,
       );
     }
 
 pub returns : goal.returns
 unfolding attributes_at
-returns c = grind (
-  arith,
-  with-none c.loop-link.found,
-  c.in_default.is,
-  c.loop-link.invariant.stored,
-  c.loop-link.invariant.bytes,
-)
+returns c =
+    grind (arith, with-none c.loop-link.found, c.in_default.is, c.loop-link.invariant)

@@ -12,16 +12,11 @@ pub returns-clause-some : goal.returns-clause-some
 returns-clause-some c =
     let some = c.in_ok-number.ensures.some in
     let again = parsed-again c.self.inside.store.section some.table c.args.unit.now.abbreviations
-    c.args.left some.parsed some.at.0 in (
+    c.args.left some.parsed some.at.0 in
+    let found = c.table.ensures.found in
+    let few = c.if-len-left.false in (
       c.table.result.now.declarations,
-      rw (← c.self.view_is) (grind (
-        arith,
-        again,
-        some.found,
-        c.table.ensures.found,
-        c.len-len.ensures,
-        c.if-len-left.false,
-      )),
+      rw (← c.self.view_is) (grind (arith, again, some.found, found, c.len-len.ensures, few)),
       sym c.len-len.ensures,
-      c.if-len-left.false,
+      few,
     )

@@ -19,15 +19,9 @@ returns-in_err-validate_unit-clause-err c =
     (get_or units loop.unit-index d) (drop (loop.unit-index + 1) units) in
     let budget : loop.left ≡ declarations_limit - sum_by length so_far.made =
     omega (arith, so_far.counted) in
-    rw (p.1, p.2) (grind (
-      arith,
-      left,
-      faults,
-      budget,
-      so_far.read,
-      loop.invariant.section,
-      c.in_err-validate_unit.ensures.err,
-    ))
+    let same = loop.invariant.section in
+    let refused = c.in_err-validate_unit.ensures.err in
+    rw (p.1, p.2) (grind (arith, left, faults, budget, so_far.read, same, refused))
 
 pub loop-unit-preserved : goal.loop-unit-preserved
 loop-unit-preserved c =
