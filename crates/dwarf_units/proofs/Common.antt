@@ -6,7 +6,7 @@ pub use Rattle.dwarf_bytes.proofs.{Items.Turns.{None-from-no-Some, SoFar}, Numbe
 pub use Rattle.dwarf_bytes.proofs.Numbers.Advance.{after-bind}
 pub use Rattle.dwarf_bytes.specs.{Bind.◌>>=◌, Contents.{Content, Signed}, Forms.form_of}
 pub use Rattle.dwarf_bytes.specs.{Items.{Advances, Item, Lists, reading}, Numbers.uleb_at}
-pub use Rattle.dwarf_bytes.specs.{Refusals.in_section}
+pub use Rattle.dwarf_bytes.specs.Refusals.{in_section}
 pub use Rattle.dwarf_bytes.specs.declared.fault.Cause.{Cause}
 pub use Rattle.dwarf_bytes.specs.{declared.fault.ReadFault.ReadFault, declared.form.Form.Form}
 pub use Rattle.dwarf_bytes.specs.declared.form.Form.TheVariants.{Direct, ImplicitConst, Indirect}
@@ -28,8 +28,8 @@ pub use Rattle.dwarf_units.specs.Private.FixedSizes.{layout_len, number_in, used
 pub use Rattle.dwarf_units.specs.{Private.Links.IsLink, Private.Names.{name_of, named_attribute}}
 pub use Rattle.dwarf_units.specs.{Private.Names.used_name, Private.NodeShapes.{AreShapes, shape_at}}
 pub use Rattle.dwarf_units.specs.{Private.Numbers.number_at, Private.Runs.{Run, Stretch}}
-pub use Rattle.dwarf_units.specs.Private.Runs.{all_at, last_at, own_runs, run_at, run_before, stretch_at}
-pub use Rattle.dwarf_units.specs.Private.Runs.{runs_at, runs_of, then_read}
+pub use Rattle.dwarf_units.specs.Private.Runs.{all_at, last_at, own_runs, run_at, run_before}
+pub use Rattle.dwarf_units.specs.Private.Runs.{runs_at, runs_of, stretch_at, then_read}
 pub use Rattle.dwarf_units.specs.Private.Slots.{index_in, slot_of}
 pub use Rattle.dwarf_units.specs.Private.StoredAttributes.{stored_attributes, stored_attributes_at}
 pub use Rattle.dwarf_units.specs.Private.Tables.{AreCached, CachedTables, IsCachedOrTooLarge}

@@ -1,22 +1,20 @@
--- The used attributes of an entry: their names, and adding attributes one by one.
+-- The used attributes of an entry: their names, adding attributes one by one, and their positions.
 use Rattle.dwarf_units.proofs.Common
 use Common.{arith, ◌≡◌, ℕ, List, [], ◌∷◌, Bool, true, false, refl, ◌++◌, ◌<◌, length, get_or, Some}
 use Common.{None, ◌==◌, Option, UsedName, is_used, name_of, used_name, Attribute, AttributeValue}
 use Common.{value_of, Used, used_among, value_named, with_used, slot_of, named_attribute, filter}
 use Common.{sym, find, option_map, map, ◌∙◌, slice_get, Format, UsedPosition, attribute_in}
 use Common.{attributes_in, index_in}
-use Rattle.std.proofs.lemmas.List.Folds.{find_at}
 use Rattle.std.specs.List.{list_all}
 use Rattle.std.proofs.{lemmas.Bool.eqb-true, Math.ListN.set, lemmas.List.get_or-set_same}
-use Rattle.std.proofs.lemmas.List.{get_or-set_other}
-use Rattle.dwarf_units.specs.{Private.Used.used_by, Private.Slots.in_slot}
-use Rattle.dwarf_units.specs.Private.Slots.{in_slots}
+use Rattle.std.proofs.lemmas.List.{get_or-set_other, Folds.find_at}
+use Rattle.dwarf_units.specs.{Private.Used.used_by, Private.Slots.{in_slot, in_slots}}
 use Rattle.dwarf_units.specs.{Private.Names.used_names, Attributes.used_attributes}
 use Rattle.std.specs.{Prelude.is_some, Option.option_or}
 
 -- ---- names, their codes and their slots
 
--- The element that is found has the property of all, and the one that is sought.
+-- An element that is found has the property that is sought, and the property of all elements.
 found-holds : {X : Type 0} (p q : X → Bool) (xs : List X) (x : X) → list_all q xs ≡ true
     → find p xs ≡ Some x → (p x ≡ true) × (q x ≡ true)
 found-holds p q [] x all is = cc

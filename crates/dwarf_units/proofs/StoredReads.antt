@@ -76,7 +76,7 @@ first-read keep format s others bytes place u =
 
 -- ---- one attribute
 
--- The attribute is stored if it is read.
+-- One attribute is read, and is stored if it is used.
 pub one-read : (keep : Bool) (format : Format) (s : AttributeSpecification) (bytes : List ℕ)
     (at : ℕ) (r : Result (Attribute × ℕ) Cause) → attribute_at format s bytes at ≡ r
     → stored_attributes_at keep format (s ∷ []) bytes at
