@@ -1,38 +1,34 @@
 -- Declarations and tables are read if and only if they are encoded and valid.
-use Rattle.std.proofs.Common.{◌≡◌, ℕ, suc, ◌-◌, ◌≤◌, List, [], ◌∷◌, ◌++◌, length, refl, arith}
-use Rattle.std.proofs.Common.{append_assoc, Ok, ◌==◌, if◌then◌else◌}
+use Rattle.std.proofs.Common.{◌≡◌, ℕ, ◌≤◌, List, [], ◌∷◌, ◌++◌, length, length-append, refl, arith}
+use Rattle.std.proofs.Common.{Ok, ◌==◌, if◌then◌else◌, ◌↔◌, ◌+◌, ◌<◌}
+use Rattle.std.proofs.Common.{false}
+use Rattle.std.specs.List.{list_any}
 use Rattle.std.proofs.lemmas.List.{length-map}
 use Rattle.dwarf_bytes.specs.Numbers.{IsEncodedAt, IsUleb, uleb_at}
 use Rattle.dwarf_bytes.specs.Items.{Item, reading}
-use Rattle.dwarf_bytes.proofs.Items.ItemLaws.{Lists-within, items_from-Lists}
 use Rattle.dwarf_forms.specs.declared.declaration.Head.{Head}
-use Rattle.dwarf_forms.specs.Declarations.{Declaration, EncodesEach, EncodesAttribute}
-use Rattle.dwarf_forms.specs.Declarations.{EndsAttributes, EncodesDeclaration, EncodesTable}
+use Rattle.dwarf_forms.specs.Declarations.{Declaration, EncodesDeclaration, EncodesTable}
 use Rattle.dwarf_forms.specs.Declarations.{IsValid, AreValid}
 use Rattle.dwarf_forms.specs.Tables.{attributes_at, codes_of, head_at, declaration_at, table_at}
-use Rattle.dwarf_forms.proofs.AttributeEncodings.{uleb-read, uleb-reads, attributes-encoded}
-use Rattle.dwarf_forms.proofs.AttributeEncodings.{attributes-read, EncodesFlag, flag-encoded}
-use Rattle.dwarf_forms.proofs.AttributeEncodings.{flag-reads}
+use Rattle.dwarf_forms.proofs.AttributeEncodings.{uleb-read, uleb-reads, attributes-decoded}
+use Rattle.dwarf_forms.proofs.AttributeEncodings.{byte-encoded, byte-reads}
 use Rattle.dwarf_forms.proofs.Elements.{any-map}
-use Rattle.dwarf_forms.proofs.Encodings.{Both, both, again, joined, parted}
-use Rattle.dwarf_forms.proofs.ListEncodings.{Ends, AreEncoded, IsDecoded, IsNew, FitsBudget}
-use Rattle.dwarf_forms.proofs.ListEncodings.{encoded-list, valid-list, read-list, all-new, new-each}
-use Rattle.dwarf_forms.proofs.ListEncodings.{all-fit, each-fits}
-use Rattle.dwarf_forms.proofs.Moves.{declaration_at-advances, HeadAt, head-fits, head-found}
-use Rattle.dwarf_forms.proofs.Moves.{head-again}
+use Rattle.dwarf_forms.proofs.Encodings.{stands, encoded, again, joined, parted, IsDecoded, list-decoded}
+use Rattle.dwarf_forms.proofs.ListEncodings.{AreDistinct, distinct-none, distinct-push, last-new}
+use Rattle.dwarf_forms.proofs.ListEncodings.{distinct-front}
+use Rattle.dwarf_forms.proofs.Moves.{declaration_at-advances, head-fits, head-found, head-again}
 
 -- ---- declarations
 
 abbrev code_of : Declaration → ℕ
 code_of d = d.code
 
--- the conditions on a declaration that depend on the ones before it
-abbrev DeclarationFits : ℕ → List Declaration → Declaration → Type 0
-DeclarationFits budget before declaration = FitsBudget budget before declaration
-    × IsNew IsValid code_of before declaration
-
 abbrev head_of : Declaration → Head
 head_of d = record { code = d.code; tag = d.tag; children = d.children }
+
+-- the declarations are valid, their codes are distinct, and there are at most `budget` of them
+abbrev FitsBudget : ℕ → List Declaration → Type 0
+FitsBudget budget table = AreDistinct IsValid code_of table × (length table ≤ budget)
 
 -- the reads of the head and of the attributes
 declaration-found : (budget : ℕ) (section : List ℕ) (before : List Declaration) (at : ℕ)
@@ -41,149 +37,135 @@ declaration-found : (budget : ℕ) (section : List ℕ) (before : List Declarati
     × (attributes_at section mid ≡ Ok (x.attributes, next))
 declaration-found budget section before at x next h = grind arith
 
--- an encoding of a declaration consists of those of its fields, ..
-declaration-joined : (section : List ℕ) (at : ℕ) (x : Declaration) (mid next : ℕ)
-    → HeadAt section at (head_of x) mid
-    → AreEncoded EncodesAttribute EndsAttributes section mid x.attributes next
-    → IsEncodedAt EncodesDeclaration section at x next
-declaration-joined section at x mid next head attributes =
-    again (joined (joined (joined (uleb-read head.2) (uleb-read head.3))
-    (flag-encoded section head.1 x.children mid head.4)) (joined attributes.1 attributes.2))
-    (λ bytes e. let front = e.front_is in
-    let names = front.front_is in record {
-      code = names.front;
-      tag = names.rest;
-      attributes = e.rest_is.front;
-      end = e.rest_is.rest;
-      whole = rw (e.whole, front.whole, names.whole, front.rest_is, e.rest_is.whole)
-          (append_assoc (names.front ++ names.rest) _ _);
-      code_is = names.front_is;
-      tag_is = names.rest_is;
-      attributes_are = e.rest_is.front_is;
-      ends = e.rest_is.rest_is;
-    })
-
--- .. and conversely
-declaration-parted : (section : List ℕ) (at : ℕ) (x : Declaration) (next : ℕ)
-    → IsEncodedAt EncodesDeclaration section at x next
-    → (mid : ℕ) × HeadAt section at (head_of x) mid
-    × AreEncoded EncodesAttribute EndsAttributes section mid x.attributes next
-declaration-parted section at x next s =
-    let parts = parted {A = Both (Both IsUleb IsUleb) EncodesFlag}
-    {B = Both (EncodesEach EncodesAttribute) (Ends EndsAttributes)}
-    {p = (((x.code, x.tag), x.children), (x.attributes, tt))} (again s (λ bytes e.
-    let flag : List ℕ = (if x.children then 1 else 0) ∷ [] in
-    rw (e.whole, ← append_assoc (e.code ++ e.tag) flag (e.attributes ++ e.end))
-    (both ((e.code ++ e.tag) ++ flag) (e.attributes ++ e.end) (both (e.code ++ e.tag) flag
-    (both e.code e.tag e.code_is e.tag_is) refl)
-    (both e.attributes e.end e.attributes_are e.ends)))) in
-    let front = parted parts.1 in
-    let names = parted front.1 in (
-      parts.0,
-      (
-        names.0,
-        front.0,
-        uleb-reads names.1,
-        uleb-reads names.2,
-        flag-reads section front.0 x.children parts.0 front.2,
-      ),
-      parted parts.2,
-    )
-
--- a declaration that is read is encoded and valid, ..
-pub declaration-encoded : (budget : ℕ) (section : List ℕ) (before : List Declaration) (at : ℕ)
+-- a declaration is read only if the table has room for it
+pub declaration-fits : (budget : ℕ) (section : List ℕ) (before : List Declaration) (at : ℕ)
     (x : Declaration) (next : ℕ) → declaration_at budget section before at ≡ Ok (Item x next)
-    → IsEncodedAt EncodesDeclaration section at x next × DeclarationFits budget before x
-declaration-encoded budget section before at x next h =
+    → length before < budget
+declaration-fits budget section before at x next h =
+    grind (arith, h, length-map before code_of)
+
+-- a declaration is read after others if and only if it is encoded, and valid after them
+declaration-encoded : (budget : ℕ) (section : List ℕ) (before : List Declaration) (at : ℕ)
+    (x : Declaration) (next : ℕ) → FitsBudget budget before
+    → declaration_at budget section before at ≡ Ok (Item x next)
+    → IsEncodedAt EncodesDeclaration section at x next × FitsBudget budget (before ++ x ∷ [])
+declaration-encoded budget section before at x next good h =
     let parts = declaration-found budget section before at x next h in
     let codes = codes_of before in
     let fits = head-fits budget section codes at (head_of x) parts.0 parts.1 in
     let head = head-found budget section codes at (head_of x) parts.0 parts.1 in
-    let attributes = attributes-encoded section parts.0 x.attributes next parts.2 in
+    let code = uleb-read head.2 in
+    let tag = uleb-read head.3 in
+    let all = (attributes-decoded section parts.0 x.attributes next).0 parts.2 in
+    let attributes = all.0.1 in
+    let end = all.0.2 in
     let valid : IsValid x = record {
       code = fits.some;
-      named = λ k d within. (attributes.1.0 k d within).0;
-      forms = λ k d within. (attributes.1.0 k d within).1;
-      once = attributes.1.1;
-    } in (
-      declaration-joined section at x parts.0 next head attributes.0,
+      named = λ k d within. (all.1.0 k d within).0;
+      forms = λ k d within. (all.1.0 k d within).1;
+      once = all.1.1;
+    } in
+    let new : list_any (λ d. d.code == x.code) before ≡ false =
+    rw (← any-map code_of (λ (other : ℕ). other == x.code) before) fits.new in (
+      encoded (record {
+        code = code.front;
+        tag = tag.front;
+        attributes = attributes.front;
+        end = end.front;
+        whole = refl;
+        code_is = code.encoded;
+        tag_is = tag.encoded;
+        attributes_are = attributes.encoded;
+        ends = end.encoded;
+      }) (joined (joined (stands code) (stands tag))
+          (joined (byte-encoded section head.1 (if x.children then 1 else 0) parts.0 head.4)
+          (joined (stands attributes) (stands end)))),
       (
-        omega (arith, fits.left, length-map before code_of),
-        (valid, rw (← any-map code_of (λ (other : ℕ). other == x.code) before) fits.new),
+        distinct-push IsValid code_of before x good.0 (valid, new),
+        omega (arith, fits.left, length-map before code_of, length-append before (x ∷ [])),
       ),
     )
 
--- .. and conversely
 declaration-reads : (budget : ℕ) (section : List ℕ) (before : List Declaration) (at : ℕ)
     (x : Declaration) (next : ℕ) → IsEncodedAt EncodesDeclaration section at x next
-    → DeclarationFits budget before x → declaration_at budget section before at ≡ Ok (Item x next)
-declaration-reads budget section before at x next s fits =
-    let parts = declaration-parted section at x next s in
-    let valid = fits.1.0 in
-    let head = head-again budget section (codes_of before) at (head_of x) parts.0 (record {
+    → FitsBudget budget (before ++ x ∷ [])
+    → declaration_at budget section before at ≡ Ok (Item x next)
+declaration-reads budget section before at x next s good =
+    let e = s.encoded in
+    let flag : ℕ = if x.children then 1 else 0 in
+    let parts = parted (e.code ++ e.tag) (flag ∷ (e.attributes ++ e.end)) e.whole (stands s) in
+    let numbers = parted e.code e.tag refl parts.0 in
+    let flagged = parted (flag ∷ []) (e.attributes ++ e.end) refl parts.1 in
+    let lists = parted e.attributes e.end refl flagged.1 in
+    let new = last-new IsValid code_of before x good.0 in
+    let valid = new.0 in
+    let mid = at + length (e.code ++ e.tag) + 1 in
+    let head = head-again budget section (codes_of before) at (head_of x) mid (record {
       some = valid.code;
-      left = omega (arith, fits.0, length-map before code_of);
-      new = rw (any-map code_of (λ (other : ℕ). other == x.code) before) fits.1.1;
-    }) parts.1 in
-    let attributes = attributes-read section parts.0 x.attributes next (
-      parts.2,
+      left = omega (arith, good.1, length-map before code_of, length-append before (x ∷ []));
+      new = rw (any-map code_of (λ (other : ℕ). other == x.code) before) new.1;
+    }) (
+      _,
+      _,
+      uleb-reads (encoded e.code_is numbers.0),
+      uleb-reads (encoded e.tag_is numbers.1),
+      byte-reads section (at + length (e.code ++ e.tag)) flag mid flagged.0,
+    ) in
+    let attributes = (attributes-decoded section mid x.attributes next).1 (
+      (_, encoded e.attributes_are lists.0, encoded e.ends lists.1),
       (λ k d within. (valid.named k d within, valid.forms k d within), valid.once),
     ) in
     rw (head, attributes) refl
 
 declaration-decoded : (budget : ℕ) (section : List ℕ)
-    → IsDecoded EncodesDeclaration (λ b. IsUleb b 0) (DeclarationFits budget) section
+    → IsDecoded EncodesDeclaration (λ b. IsUleb b 0) (FitsBudget budget) section
     (declaration_at budget section)
 declaration-decoded budget section = record {
-  item = λ before at x next. (
-    declaration-encoded budget section before at x next,
+  item = λ before at x next good. (
+    declaration-encoded budget section before at x next good,
     λ s. declaration-reads budget section before at x next s.0 s.1,
   );
   end = λ before at next. (
     λ h. let zero : reading (uleb_at section at) ≡ Ok (0, next) = grind (arith, h) in
-        again (uleb-read zero) (λ front is. is),
-    λ s. rw (uleb-reads {value = 0} (again s (λ front is. is))) refl,
+        let s = uleb-read zero in
+        again s s.encoded,
+    λ s. rw (uleb-reads {value = 0} (again s s.encoded)) refl,
   );
+  none = (distinct-none IsValid code_of, omega arith);
+  prefix = λ xs ys good. (
+    distinct-front IsValid code_of xs ys good.0,
+    omega (arith, good.1, length-append xs ys),
+  );
+  advances = declaration_at-advances budget section;
 }
 
 -- ---- tables
 
 -- A table is read if and only if an encoding of it is at the offset, it is valid, and it has at
 -- most `budget` declarations.
-pub table-encoded : (budget : ℕ) (section : List ℕ) (at : ℕ) (table : List Declaration) (next : ℕ)
-    → table_at budget section at ≡ Ok (table, next) → IsEncodedAt EncodesTable section at table next
-    × AreValid table × (length table ≤ budget)
+pub table-decoded : (budget : ℕ) (section : List ℕ) (at : ℕ) (table : List Declaration) (next : ℕ)
+    → (table_at budget section at ≡ Ok (table, next))
+    ↔ (IsEncodedAt EncodesTable section at table next × AreValid table × (length table ≤ budget))
 unfolding table_at
-table-encoded budget section at table next h =
-    let listed = Lists-within (suc (length section - at)) (declaration_at budget section) [] at
-    table next h in
-    let decoded = declaration-decoded budget section in
-    let encoded = encoded-list decoded [] at table next listed in
-    let valid = valid-list decoded [] at table next listed in
-    let new = all-new IsValid code_of table (λ i d within.
-    (valid i d within).1) in (
-      again (joined encoded.1 encoded.2) (λ front e. record {
-        declarations = e.front;
-        end = e.rest;
-        whole = e.whole;
-        declarations_are = e.front_is;
-        ends = e.rest_is;
-      }),
-      record { each = new.0; once = new.1 },
-      all-fit budget table (λ i d within. (valid i d within).0),
+table-decoded budget section at table next =
+    let decoded = list-decoded (declaration-decoded budget section) at table next in (
+      λ h. let d = decoded.0 h in
+          let declarations = d.0.1 in
+          let end = d.0.2 in (
+            encoded (record {
+              declarations = declarations.front;
+              end = end.front;
+              whole = refl;
+              declarations_are = declarations.encoded;
+              ends = end.encoded;
+            }) (joined (stands declarations) (stands end)),
+            record { each = d.1.0.0; once = d.1.0.1 },
+            d.1.1,
+          ),
+      λ s. let e = s.0.encoded in
+          let parts = parted e.declarations e.end e.whole (stands s.0) in
+          decoded.1 (
+            (_, encoded e.declarations_are parts.0, encoded e.ends parts.1),
+            ((s.1.each, s.1.once), s.2),
+          ),
     )
-
-pub table_read : (budget : ℕ) (section : List ℕ) (at : ℕ) (table : List Declaration) (next : ℕ)
-    → IsEncodedAt EncodesTable section at table next → AreValid table → length table ≤ budget
-    → table_at budget section at ≡ Ok (table, next)
-unfolding table_at
-table_read budget section at table next s good few =
-    let fit = each-fits budget table few in
-    let new = new-each IsValid code_of table good.each good.once in
-    let parts = parted {A = EncodesEach EncodesDeclaration} {B = Ends (λ b. IsUleb b 0)}
-    {p = (table, tt)} (again s (λ front e.
-    rw e.whole (both e.declarations e.end e.declarations_are e.ends))) in
-    items_from-Lists (length section) (declaration_at budget section)
-    (declaration_at-advances budget section) [] at table next
-    (read-list (declaration-decoded budget section) [] at table next parts (λ i d within.
-    (fit i d within, new i d within)))

@@ -1,82 +1,66 @@
--- Encodings at offsets: an encoding of two parts, and each of its parts.
-use Rattle.std.proofs.Common.{◌≡◌, ℕ, ◌+◌, List, [], ◌++◌, length, drop, refl, ap, ◌∙◌, arith}
-use Rattle.std.proofs.Common.{append_assoc, length-append, Result, Ok}
+-- Encodings at offsets: bytes in sequence, and the encoding of consecutive items, in both
+-- directions, for any step.
+use Rattle.std.proofs.Common.{◌≡◌, ℕ, ◌+◌, List, [], ◌∷◌, ◌++◌, length, drop, refl, ap, ◌∙◌, arith}
+use Rattle.std.proofs.Common.{append_assoc, append-nil, length-append, Result, Ok, ◌↔◌, suc, ◌-◌}
 use Rattle.std.proofs.lemmas.List.{take_at}
+use Rattle.dwarf_bytes.specs.declared.fault.Cause.{Cause}
 use Rattle.dwarf_bytes.specs.Numbers.{IsEncodedAt}
-use Rattle.dwarf_bytes.proofs.Contents.ContentLaws.{bytes-after, standing-as}
+use Rattle.dwarf_bytes.specs.Items.{Next, Item, End, Lists, Advances, items_from}
+use Rattle.dwarf_bytes.proofs.Items.ItemLaws.{Lists-within, items_from-Lists}
+use Rattle.dwarf_bytes.proofs.Contents.ContentLaws.{bytes-after}
+use Rattle.dwarf_forms.specs.Declarations.{EncodesEach}
 
--- an encoding of the first of two values, followed by one of the second
-pub record Both {X Y : Type 0} (A : List ℕ → X → Type 0) (B : List ℕ → Y → Type 0)
-    (bytes : List ℕ) (values : X × Y) : Type 0 where
-  pub front : List ℕ
+-- the bytes at the offset start with `front`, and `next` is the offset after it
+pub record StandsAt (bytes : List ℕ) (at : ℕ) (front : List ℕ) (next : ℕ) : Type 0 where
   pub rest : List ℕ
-  pub whole : bytes ≡ front ++ rest
-  pub front_is : A front values.0
-  pub rest_is : B rest values.1
+  pub parts : drop at bytes ≡ front ++ rest
+  pub next_is : next ≡ at + length front
 
--- no bytes
-pub nothing : {X : Type 0} {A : List ℕ → X → Type 0} {x : X} (bytes : List ℕ) (at : ℕ) → A [] x
-    → IsEncodedAt A bytes at x at
-nothing bytes at is = record {
-  front = [];
-  rest = drop at bytes;
+pub stands : {X : Type 0} {A : List ℕ → X → Type 0} {bytes : List ℕ} {at next : ℕ} {x : X}
+    (s : IsEncodedAt A bytes at x next) → StandsAt bytes at s.front next
+stands s = record { rest = s.rest; parts = s.parts; next_is = s.next_is }
+
+pub encoded : {X : Type 0} {A : List ℕ → X → Type 0} {bytes front : List ℕ} {at next : ℕ} {x : X}
+    → A front x → StandsAt bytes at front next → IsEncodedAt A bytes at x next
+encoded {front = front} is s = record {
+  front = front;
+  rest = s.rest;
   encoded = is;
-  parts = refl;
-  next_is = omega arith;
+  parts = s.parts;
+  next_is = s.next_is;
 }
 
-module _ {X Y : Type 0} {A : List ℕ → X → Type 0} {B : List ℕ → Y → Type 0} where
-  -- the bytes of two encodings
-  pub both : {values : X × Y} (front rest : List ℕ) → A front values.0 → B rest values.1
-      → Both A B (front ++ rest) values
-  both front rest front_is rest_is = record {
-    front = front;
-    rest = rest;
-    whole = refl;
-    front_is = front_is;
-    rest_is = rest_is;
-  }
+-- the same bytes, as an encoding of another kind
+pub again : {X Y : Type 0} {A : List ℕ → X → Type 0} {B : List ℕ → Y → Type 0} {bytes : List ℕ}
+    {at next : ℕ} {x : X} {y : Y} (s : IsEncodedAt A bytes at x next) → B s.front y
+    → IsEncodedAt B bytes at y next
+again s is = encoded is (stands s)
 
-  -- the same bytes, as an encoding of another kind
-  pub again : {bytes : List ℕ} {at next : ℕ} {x : X} {y : Y} → IsEncodedAt A bytes at x next
-      → ((front : List ℕ) → A front x → B front y) → IsEncodedAt B bytes at y next
-  again {bytes} {at} {next} {x} {y} s convert =
-      standing-as A B bytes at x y next convert s
+module _ {bytes : List ℕ} {at : ℕ} where
+  pub nothing : StandsAt bytes at [] at
+  nothing = record { rest = drop at bytes; parts = refl; next_is = omega arith }
 
-  -- two consecutive encodings
-  pub joined : {bytes : List ℕ} {at mid next : ℕ} {x : X} {y : Y} → IsEncodedAt A bytes at x mid
-      → IsEncodedAt B bytes mid y next → IsEncodedAt (Both A B) bytes at (x, y) next
-  joined {bytes} {at} s t =
-      let after = bytes-after bytes at s.front s.rest s.parts in record {
-        front = s.front ++ t.front;
+  -- consecutive bytes, ..
+  pub joined : {a b : List ℕ} {mid next : ℕ} → StandsAt bytes at a mid → StandsAt bytes mid b next
+      → StandsAt bytes at (a ++ b) next
+  joined {a} {b} s t =
+      let after = bytes-after bytes at a s.rest s.parts in record {
         rest = t.rest;
-        encoded = both s.front t.front s.encoded t.encoded;
-        parts = rw (s.parts, append_assoc s.front t.front t.rest, ← after, ← s.next_is, t.parts)
-            refl;
-        next_is = omega (arith, s.next_is, t.next_is, length-append s.front t.front);
+        parts = rw (s.parts, append_assoc a b t.rest, ← after, ← s.next_is, t.parts) refl;
+        next_is = omega (arith, s.next_is, t.next_is, length-append a b);
       }
 
-  -- the parts of an encoding of two values
-  pub parted : {bytes : List ℕ} {at next : ℕ} {p : X × Y} → IsEncodedAt (Both A B) bytes at p next
-      → (mid : ℕ) × IsEncodedAt A bytes at p.0 mid × IsEncodedAt B bytes mid p.1 next
-  parted {bytes} {at} s =
-      let e = s.encoded in
-      let parts = s.parts ∙ ap (λ (b : List ℕ). b ++ s.rest) e.whole
-      ∙ append_assoc e.front e.rest s.rest in (
-        at + length e.front,
+  -- .. and the two parts of bytes
+  pub parted : {whole : List ℕ} {next : ℕ} (a b : List ℕ) → whole ≡ a ++ b
+      → StandsAt bytes at whole next
+      → StandsAt bytes at a (at + length a) × StandsAt bytes (at + length a) b next
+  parted a b is s =
+      let parts = rw (is, append_assoc a b s.rest) at s.parts in (
+        record { rest = b ++ s.rest; parts = parts; next_is = refl },
         record {
-          front = e.front;
-          rest = e.rest ++ s.rest;
-          encoded = e.front_is;
-          parts = parts;
-          next_is = refl;
-        },
-        record {
-          front = e.rest;
           rest = s.rest;
-          encoded = e.rest_is;
-          parts = bytes-after bytes at e.front (e.rest ++ s.rest) parts;
-          next_is = omega (arith, s.next_is, ap length e.whole, length-append e.front e.rest);
+          parts = bytes-after bytes at a (b ++ s.rest) parts;
+          next_is = omega (arith, s.next_is, ap length is, length-append a b);
         },
       )
 
@@ -87,9 +71,88 @@ pub one-encoding : {X E : Type 0} (Encodes : List ℕ → X → Type 0)
     → read bytes 0 ≡ Ok (x, next)) → (a b x y : List ℕ) (s t : X) → Encodes a s → Encodes b t
     → a ++ x ≡ b ++ y → (a ≡ b) × (s ≡ t)
 one-encoding {X = X} Encodes read reads a b x y s t is js e =
-    let first = reads (a ++ x) s (length a)
-    (record { front = a; rest = x; encoded = is; parts = refl; next_is = omega arith }) in
-    let second = reads (b ++ y) t (length b)
-    (record { front = b; rest = y; encoded = js; parts = refl; next_is = omega arith }) in
+    let first = reads (a ++ x) s (length a) (encoded is (starts a x)) in
+    let second = reads (b ++ y) t (length b) (encoded js (starts b y)) in
     let both : (s ≡ t) × (length a ≡ length b) = grind (arith, first, second, e) in
     (rw (← take_at a x (length a) refl, ← take_at b y (length b) refl, e, both.1) refl, both.0)
+  where
+    starts : (front rest : List ℕ) → StandsAt (front ++ rest) 0 front (length front)
+    starts front rest = record { rest = rest; parts = refl; next_is = omega arith }
+
+-- ---- consecutive items
+
+-- an encoding of the end, which has no value, is at the offset
+abbrev pub EndsAt : (List ℕ → Type 0) → List ℕ → ℕ → ℕ → Type 0
+EndsAt ends bytes at next = IsEncodedAt (λ front (u : Unit {0}). ends front) bytes at tt next
+
+-- A step that is applied to a valid list returns an item if and only if an encoding of it is at the
+-- offset and the list with it is valid. It returns the end if and only if an encoding of the end is
+-- there.
+pub record IsDecoded {X : Type 0} (encodes : List ℕ → X → Type 0) (ends : List ℕ → Type 0)
+    (valid : List X → Type 0) (bytes : List ℕ) (step : List X → ℕ → Result (Next X) Cause) : Type
+    0 where
+  pub item : (before : List X) (at : ℕ) (x : X) (next : ℕ) → valid before
+      → (step before at ≡ Ok (Item x next))
+      ↔ (IsEncodedAt encodes bytes at x next × valid (before ++ x ∷ []))
+  pub end : (before : List X) (at next : ℕ) → (step before at ≡ Ok (End next))
+      ↔ EndsAt ends bytes at next
+  pub none : valid []
+  pub prefix : (xs ys : List X) → valid (xs ++ ys) → valid xs
+  pub advances : Advances (length bytes) step
+
+-- the encoded elements, followed by the encoded end
+abbrev pub AreEncoded : {X : Type 0} → (List ℕ → X → Type 0) → (List ℕ → Type 0) → List ℕ → ℕ
+    → List X → ℕ → Type 0
+AreEncoded encodes ends bytes at xs next = (mid : ℕ)
+    × IsEncodedAt (EncodesEach encodes) bytes at xs mid × EndsAt ends bytes mid next
+
+module _ {X : Type 0} {encodes : List ℕ → X → Type 0} {ends : List ℕ → Type 0}
+    {valid : List X → Type 0} {bytes : List ℕ} {step : List X → ℕ → Result (Next X) Cause}
+    (decoded : IsDecoded encodes ends valid bytes step) where
+  -- items that are listed are encoded and valid, ..
+  listed-encoded : (before : List X) (at : ℕ) (xs : List X) (next : ℕ) → valid before
+      → Lists step before at xs next
+      → AreEncoded encodes ends bytes at xs next × valid (before ++ xs)
+  listed-encoded before at [] next good h =
+      ((at, encoded refl nothing, (decoded.end before at next).0 h), rw append-nil good)
+  listed-encoded before at (x ∷ xs) next good h =
+      let here = (decoded.item before at x h.0 good).0 h.1 in
+      let others = listed-encoded (before ++ x ∷ []) h.0 xs next here.1 h.2 in
+      let rest = others.0.1 in (
+        (
+          others.0.0,
+          encoded (here.0.front, rest.front, refl, here.0.encoded, rest.encoded)
+              (joined (stands here.0) (stands rest)),
+          others.0.2,
+        ),
+        rw append_assoc at others.1,
+      )
+
+  -- .. and conversely
+  encoded-listed : (before : List X) (at : ℕ) (xs : List X) (next : ℕ)
+      → AreEncoded encodes ends bytes at xs next → valid (before ++ xs)
+      → Lists step before at xs next
+  encoded-listed before at [] next s good =
+      let same : at ≡ s.0 = omega (arith, s.1.next_is, ap length s.1.encoded) in
+      (decoded.end before at next).1 (rw same s.2)
+  encoded-listed before at (x ∷ xs) next s good =
+      let e = s.1.encoded in
+      let parts = parted e.0 e.1 e.2 (stands s.1) in
+      let all : valid ((before ++ x ∷ []) ++ xs) = rw append_assoc good in
+      let mid = at + length e.0 in (
+        mid,
+        (decoded.item before at x mid (decoded.prefix before (x ∷ xs) good)).1
+            (encoded e.3 parts.0, decoded.prefix (before ++ x ∷ []) xs all),
+        encoded-listed (before ++ x ∷ []) mid xs next (s.0, encoded e.4 parts.1, s.2) all,
+      )
+
+  -- a list is read if and only if it is encoded and valid
+  pub list-decoded : (at : ℕ) (xs : List X) (next : ℕ)
+      → (items_from (length bytes) step [] at ≡ Ok (xs, next))
+      ↔ (AreEncoded encodes ends bytes at xs next × valid xs)
+  list-decoded at xs next = (
+    λ h. listed-encoded [] at xs next decoded.none
+        (Lists-within (suc (length bytes - at)) step [] at xs next h),
+    λ s. items_from-Lists (length bytes) step decoded.advances [] at xs next
+        (encoded-listed [] at xs next s.0 s.1),
+  )

@@ -144,15 +144,15 @@ head-again budget section codes at head next fits s = grind arith
 
 -- ---- the attributes of a declaration
 
-untold-ok : {X : Type 0} (r : Result X At) (x : X) → without_offset r ≡ Ok x → r ≡ Ok x
-untold-ok r x h = grind arith
+pub with-offset : {X : Type 0} (r : Result X At) (x : X) → without_offset r ≡ Ok x → r ≡ Ok x
+with-offset r x h = grind arith
 
 pub attributes_at-lists : (section : List ℕ) (at : ℕ) (read : List AttributeSpecification × ℕ)
     → attributes_at section at ≡ Ok read → Lists (attribute_at section) [] at read.0 read.1
 unfolding attributes_at
 attributes_at-lists section at read h =
     Lists-within (suc (length section - at)) (attribute_at section) [] at read.0 read.1
-    (untold-ok (items_from (length section) (attribute_at section) [] at) read h)
+    (with-offset (items_from (length section) (attribute_at section) [] at) read h)
 
 pub attributes_at-moves : (section : List ℕ) (at : ℕ) (read : List AttributeSpecification × ℕ)
     → attributes_at section at ≡ Ok read → MovesOn section at read.1

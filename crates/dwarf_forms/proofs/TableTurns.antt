@@ -14,7 +14,7 @@ use Rattle.dwarf_bytes.proofs.Items.Turns.{so-far-none, so-far-fault}
 use Rattle.dwarf_forms.specs.Declarations.{Declaration}
 use Rattle.dwarf_forms.specs.Tables.{declaration_at, table_at, declarations_of}
 use Rattle.dwarf_forms.specs.Steps.{ExtendsTable}
-use Rattle.dwarf_forms.proofs.EncodedTables.{declaration-encoded}
+use Rattle.dwarf_forms.proofs.EncodedTables.{declaration-fits}
 use Rattle.dwarf_forms.proofs.Loops.{ItemsSoFar, one-more, all-read, first-fault}
 use Rattle.dwarf_forms.proofs.Moves.{declaration_at-advances}
 
@@ -33,8 +33,7 @@ module _ {budget first : ℕ} {bytes : List ℕ} {before : List Declaration} {ol
       × (new.place ≤ length bytes)
   turn-item after new false step is = cc
   turn-item after new true step is =
-      let fits = (declaration-encoded budget old.bytes before old.place step.0 new.place step.1).1.0
-      in
+      let fits = declaration-fits budget old.bytes before old.place step.0 new.place step.1 in
       let turn = one-more (declaration_at-advances budget bytes) so_far.read new step.0 step.1
       step.3 in (
         record {

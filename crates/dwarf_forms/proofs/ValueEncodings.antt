@@ -1,6 +1,6 @@
 -- Values are read if and only if they are encoded, in both directions.
 use Rattle.std.proofs.Common.{◌≡◌, ℕ, ℤ, List, [], length, refl, sym, ap, subst, arith, Option}
-use Rattle.std.proofs.Common.{Some, None, Result, Ok, Err}
+use Rattle.std.proofs.Common.{◌+◌, Some, None, Result, Ok, Err}
 use Rattle.dwarf_bytes.specs.declared.format.Format.{Format}
 use Rattle.dwarf_bytes.specs.declared.form.Form.{Form as Shape}
 use Rattle.dwarf_bytes.specs.declared.form.Form.TheVariants.{Direct, ImplicitConst, Indirect}
@@ -16,7 +16,7 @@ use Rattle.dwarf_forms.specs.declared.values.ValueFault.{ValueFault}
 use Rattle.dwarf_forms.specs.declared.values.ValueFault.TheVariants.{Form}
 use Rattle.dwarf_forms.specs.Values.{Value, SpellsDirectly, SpellsIndirectly, reading_value}
 use Rattle.dwarf_forms.specs.Values.{direct_at}
-use Rattle.dwarf_forms.proofs.Encodings.{both, nothing, again, joined, parted}
+use Rattle.dwarf_forms.proofs.Encodings.{stands, encoded, again, nothing, joined, parted}
 
 -- the layout of the form, and the read of the content
 direct-parts : (f : Option Shape) (form : ℕ) (format : Format) (bytes : List ℕ) (at : ℕ)
@@ -36,8 +36,8 @@ direct-encoded : (form : ℕ) (format : Format) (bytes : List ℕ) (at : ℕ) (v
 unfolding direct_at
 direct-encoded form format bytes at value next h =
     let p = direct-parts (form_of form) form format bytes at value next h in
-    again (content-encoded p.0 format bytes at value.content next p.2)
-    (λ front is. (p.0, p.1, is, p.3))
+    let s = content-encoded p.0 format bytes at value.content next p.2 in
+    again s (p.0, p.1, s.encoded, p.3)
 
 direct-reads : (form : ℕ) (format : Format) (bytes : List ℕ) (at : ℕ) (value : Value) (next : ℕ)
     → IsEncodedAt (SpellsDirectly form format) bytes at value next → direct_at form format bytes at
@@ -45,13 +45,7 @@ direct-reads : (form : ℕ) (format : Format) (bytes : List ℕ) (at : ℕ) (val
 unfolding direct_at
 direct-reads form format bytes at value next s =
     let content = content-again s.encoded.0 format bytes at value.content next
-    (record {
-      front = s.front;
-      rest = s.rest;
-      encoded = s.encoded.2;
-      parts = s.parts;
-      next_is = s.next_is;
-    }) in
+    (again s s.encoded.2) in
     rw (s.encoded.1, direct_at, content, ← s.encoded.3) refl
 
 abbrev pub Spells_by : Option Shape → ℕ → Format → Option ℤ → List ℕ → Value → Type 0
@@ -89,19 +83,20 @@ value-encoded (Some ImplicitConst) form format None bytes at value next h = cc
 value-encoded (Some ImplicitConst) form format (Some c) bytes at value next h =
     let same : (value ≡ record { form = form; content = Signed c }) × (at ≡ next) =
     grind (arith, h) in
-    rw (← same.1) (nothing bytes at (c, refl, refl, same.0))
+    rw (← same.1) (encoded (c, refl, refl, same.0) nothing)
 value-encoded (Some Indirect) form format constant bytes at value next h =
     let p : (inner : ℕ) × (mid : ℕ) × (uleb_at bytes at ≡ Ok (inner, mid))
     × (direct_at inner format bytes mid ≡ Ok (value, next)) = grind (arith, h) in
-    again (joined (uleb-encoded bytes at p.0 p.1 p.2)
-    (direct-encoded p.0 format bytes p.1 value next p.3)) (λ front both. record {
-      front = both.front;
-      rest = both.rest;
-      whole = both.whole;
-      form_is = rw both.rest_is.3 both.front_is;
-      value_is = subst (λ (f : ℕ). SpellsDirectly f format both.rest value) (sym both.rest_is.3)
-          both.rest_is;
-    })
+    let inner = uleb-encoded bytes at p.0 p.1 p.2 in
+    let direct = direct-encoded p.0 format bytes p.1 value next p.3 in
+    encoded (record {
+      front = inner.front;
+      rest = direct.front;
+      whole = refl;
+      form_is = rw direct.encoded.3 inner.encoded;
+      value_is = subst (λ (f : ℕ). SpellsDirectly f format direct.front value)
+          (sym direct.encoded.3) direct.encoded;
+    }) (joined (stands inner) (stands direct))
 
 -- what is encoded is read
 pub value-reads : (f : Option Shape) (form : ℕ) (format : Format) (constant : Option ℤ)
@@ -115,9 +110,10 @@ value-reads (Some ImplicitConst) form format constant bytes at value next s =
     let place : at ≡ next = omega (arith, s.next_is, ap length s.encoded.2) in
     rw (s.encoded.1, s.encoded.3, place) refl
 value-reads (Some Indirect) form format constant bytes at value next s =
-    let p = parted {A = IsUleb} {B = SpellsDirectly value.form format} {p = (value.form, value)}
-    (again s (λ front e. rw e.whole (both e.front e.rest e.form_is e.value_is))) in
+    let e = s.encoded in
+    let parts = parted e.front e.rest e.whole (stands s) in
+    let mid = at + length e.front in
     rw (
-      uleb-again bytes at value.form p.0 p.1,
-      direct-reads value.form format bytes p.0 value next p.2,
+      uleb-again bytes at value.form mid (encoded e.form_is parts.0),
+      direct-reads value.form format bytes mid value next (encoded e.value_is parts.1),
     ) refl
