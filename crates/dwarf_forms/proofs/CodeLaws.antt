@@ -7,7 +7,7 @@ use Rattle.std.specs.Ordering.{nat_cmp}
 use Rattle.std.specs.BTreeMap.{BTreeMap, get, is_at}
 use Rattle.std.proofs.lemmas.Grind.{common_steps}
 use Rattle.std.proofs.lemmas.Option.{get_or_from_slice_get, slice_get_within, slice_get-get_or}
-use Rattle.std.proofs.lemmas.List.Quantifiers.{all_pairs_push}
+use Rattle.std.proofs.lemmas.List.Quantifiers.{all_pairs_push, position-Some}
 use Rattle.std.proofs.lemmas.List.Folds.{list_any_at, list_any_none}
 use Rattle.std.proofs.lemmas.List.Sums.{position_or_len_is}
 use Rattle.dwarf_forms.specs.Private.Codes.{AreCodes, is_code_at}
@@ -28,15 +28,11 @@ lacks xs code none i d at is = grind (
 
 -- ---- the position of a code
 
-before-any : {X : Type 0} (p : X → Bool) (xs : List X) → nat_lt (position_or_len p xs) (length xs)
-    ≡ list_any p xs
-before-any p [] = refl
-before-any p (x ∷ xs) = let rest = before-any p xs in grind (arith, common_steps)
-
 -- a search finds an index if and only if some element satisfies the predicate
 pub is_some-position : {X : Type 0} (p : X → Bool) (xs : List X)
     → is_some (position p xs) ≡ list_any p xs
-is_some-position p xs = let found = before-any p xs in grind arith
+is_some-position p [] = refl
+is_some-position p (x ∷ xs) = let rest = is_some-position p xs in grind (arith, common_steps)
 
 -- a code that is at an index
 place-is : (xs : List ℕ) (i code : ℕ) → AllPairs (λ a b. a ≢ b) xs → slice_get xs i ≡ Some code
@@ -46,23 +42,15 @@ place-is xs i code once at =
     let here = get_or_from_slice_get xs i code code at in
     let first : position_or_len (is_code code) xs ≡ i =
     position_or_len_is (is_code code) xs i code (omega arith)
-    (λ k lt. unlike (get_or xs k code) code (λ same. once k i code lt within (cc)))
-    (λ _. eq-eqb (get_or xs i code) code here) in
+    (λ k lt. grind (arith, once k i code lt within, here)) (λ _. grind (arith, here)) in
     grind arith
 
--- a code that is neither at the index before it nor in the map
-place-nowhere : (xs : List ℕ) (moved : BTreeMap ℕ ℕ) (code : ℕ) → AreCodes xs moved
-    → is_code_at xs (code - 1) code ≡ false → get nat_cmp moved code ≡ None
-    → position (is_code code) xs ≡ None
-place-nowhere xs moved code are own none =
-    let lacking : list_any (is_code code) xs ≡ false = list_any_none (is_code code) xs
-    (λ i d lt. unlike (get_or xs i d) code (apart i (get_or xs i d) (slice_get-get_or xs i d lt)))
-    in grind (arith, is_some-position (is_code code) xs)
-  where
-    apart : (i d : ℕ) → slice_get xs i ≡ Some d → d ≢ code
-    apart i d at is =
-        let same : d ≡ i + 1 → code - 1 ≡ i = λ place. omega (arith, place, is) in
-        grind (arith, are.found i d at)
+-- the code that a search finds is at the index
+code-there : (xs : List ℕ) (i code : ℕ) → position (is_code code) xs ≡ Some i
+    → slice_get xs i ≡ Some code
+code-there xs i code is =
+    let found = position-Some (is_code code) xs i 0 is in
+    grind (arith, found.0, found.1, slice_get-get_or xs i 0)
 
 -- A code is at the index before it, or has its index in the map.
 pub code-position : (xs : List ℕ) (moved : BTreeMap ℕ ℕ) (code : ℕ) → AreCodes xs moved
@@ -71,49 +59,40 @@ pub code-position : (xs : List ℕ) (moved : BTreeMap ℕ ℕ) (code : ℕ) → 
 code-position xs moved code are =
     let there : (i : ℕ) → slice_get xs i ≡ Some code → position (is_code code) xs ≡ Some i =
     λ i. place-is xs i code are.once in
+    let first : ℕ = position_or_len (is_code code) xs in
     grind (
       arith,
       there (code - 1),
       λ (i : ℕ) (at : get nat_cmp moved code ≡ Some i). there i (are.placed code i at),
-      place-nowhere xs moved code are,
+      are.found first code,
+      code-there xs first code,
     )
 
 -- ---- one more code
 
--- the map gives another code this index
-abbrev pub PutsPlace : BTreeMap ℕ ℕ → BTreeMap ℕ ℕ → ℕ → ℕ → Type 0
-PutsPlace moved next code place = (q : ℕ)
-    → get nat_cmp next q ≡ cond (is_at (nat_cmp code) q) (Some place) (get nat_cmp moved q)
-
 -- the code is at the index before it, or it is put into the map
 pub code-push : (xs now : List ℕ) (moved next : BTreeMap ℕ ℕ) (y place : ℕ)
     → list_any (is_code y) xs ≡ false → now ≡ xs ++ y ∷ [] → place ≡ length xs
-    → ((y ≡ place + 1) × (next ≡ moved)) ⊎ PutsPlace moved next y place
+    → ((q : ℕ) → ((y ≡ place + 1) × (get nat_cmp next q ≡ get nat_cmp moved q))
+    ⊎ (get nat_cmp next q ≡ cond (is_at (nat_cmp y) q) (Some place) (get nat_cmp moved q)))
     → AreCodes xs moved → AreCodes now next
 code-push xs now moved next y place none more last puts are = rw more (record {
   once = all_pairs_push (λ a b. a ≢ b) xs y are.once
       (λ k d within. lacks xs y none k (get_or xs k d) (slice_get-get_or xs k d within));
-  found = λ i d at. by_item puts i d (at-last xs y d i at);
-  placed = by_code puts;
+  found = λ i d at. grind (
+    arith,
+    common_steps,
+    at-last xs y d i at,
+    are.found i d,
+    lacks xs y none i d,
+    puts d,
+  );
+  placed = λ q i at. grind (
+    arith,
+    common_steps,
+    puts q,
+    are.placed q i,
+    at-end xs y i,
+    at-front xs (y ∷ []) i q,
+  );
 })
-  where
-    by_item : ((y ≡ place + 1) × (next ≡ moved)) ⊎ PutsPlace moved next y place → (i d : ℕ)
-        → (slice_get xs i ≡ Some d) ⊎ ((i ≡ length xs) × (y ≡ d))
-        → (d ≡ i + 1) ⊎ (get nat_cmp next d ≡ Some i)
-    by_item (inl same) i d (inl at) = grind (arith, are.found i d at)
-    by_item (inl same) i d (inr is) = inl (omega (arith, same.0, is.0, is.1, last))
-    by_item (inr put) i d (inl at) =
-        grind (arith, common_steps, are.found i d at, lacks xs y none i d at, put d)
-    by_item (inr put) i d (inr is) = grind (arith, common_steps, put d)
-
-    by_code : ((y ≡ place + 1) × (next ≡ moved)) ⊎ PutsPlace moved next y place → (q i : ℕ)
-        → get nat_cmp next q ≡ Some i → slice_get (xs ++ y ∷ []) i ≡ Some q
-    by_code (inl same) q i at = at-front xs (y ∷ []) i q (are.placed q i (cc))
-    by_code (inr put) q i at = grind (
-      arith,
-      common_steps,
-      put q,
-      are.placed q i,
-      at-end xs y i,
-      at-front xs (y ∷ []) i q,
-    )

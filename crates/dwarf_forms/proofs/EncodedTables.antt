@@ -1,48 +1,27 @@
 -- Declarations and tables are read if and only if they are encoded and valid.
 use Rattle.std.proofs.Common.{◌≡◌, ℕ, ◌≤◌, List, [], ◌∷◌, ◌++◌, length, length-append, refl, arith}
 use Rattle.std.proofs.Common.{Ok, ◌==◌, if◌then◌else◌, ◌↔◌, ◌+◌, ◌<◌}
-use Rattle.std.proofs.Common.{false}
-use Rattle.std.specs.List.{list_any}
-use Rattle.std.proofs.lemmas.List.{length-map}
 use Rattle.dwarf_bytes.specs.Numbers.{IsEncodedAt, IsUleb, uleb_at}
 use Rattle.dwarf_bytes.specs.Items.{Item, reading}
-use Rattle.dwarf_forms.specs.declared.declaration.Head.{Head}
 use Rattle.dwarf_forms.specs.Declarations.{Declaration, EncodesDeclaration, EncodesTable}
 use Rattle.dwarf_forms.specs.Declarations.{IsValid, AreValid}
-use Rattle.dwarf_forms.specs.Tables.{attributes_at, codes_of, head_at, declaration_at, table_at}
+use Rattle.dwarf_forms.specs.Tables.{declaration_at, table_at}
 use Rattle.dwarf_forms.proofs.AttributeEncodings.{uleb-read, uleb-reads, attributes-decoded}
 use Rattle.dwarf_forms.proofs.AttributeEncodings.{byte-encoded, byte-reads}
-use Rattle.dwarf_forms.proofs.Elements.{any-map}
 use Rattle.dwarf_forms.proofs.Encodings.{stands, encoded, again, joined, parted, IsDecoded, list-decoded}
 use Rattle.dwarf_forms.proofs.ListEncodings.{AreDistinct, distinct-none, distinct-push, last-new}
 use Rattle.dwarf_forms.proofs.ListEncodings.{distinct-front}
-use Rattle.dwarf_forms.proofs.Moves.{declaration_at-advances, head-fits, head-found, head-again}
+use Rattle.dwarf_forms.proofs.Moves.{declaration_at-advances, declaration-fits}
+use Rattle.dwarf_forms.proofs.Moves.{declaration-found, declaration-again}
 
 -- ---- declarations
 
 abbrev code_of : Declaration → ℕ
 code_of d = d.code
 
-abbrev head_of : Declaration → Head
-head_of d = record { code = d.code; tag = d.tag; children = d.children }
-
 -- the declarations are valid, their codes are distinct, and there are at most `budget` of them
 abbrev FitsBudget : ℕ → List Declaration → Type 0
 FitsBudget budget table = AreDistinct IsValid code_of table × (length table ≤ budget)
-
--- the reads of the head and of the attributes
-declaration-found : (budget : ℕ) (section : List ℕ) (before : List Declaration) (at : ℕ)
-    (x : Declaration) (next : ℕ) → declaration_at budget section before at ≡ Ok (Item x next)
-    → (mid : ℕ) × (head_at budget section (codes_of before) at ≡ Ok (Item (head_of x) mid))
-    × (attributes_at section mid ≡ Ok (x.attributes, next))
-declaration-found budget section before at x next h = grind arith
-
--- a declaration is read only if the table has room for it
-pub declaration-fits : (budget : ℕ) (section : List ℕ) (before : List Declaration) (at : ℕ)
-    (x : Declaration) (next : ℕ) → declaration_at budget section before at ≡ Ok (Item x next)
-    → length before < budget
-declaration-fits budget section before at x next h =
-    grind (arith, h, length-map before code_of)
 
 -- a declaration is read after others if and only if it is encoded, and valid after them
 declaration-encoded : (budget : ℕ) (section : List ℕ) (before : List Declaration) (at : ℕ)
@@ -50,13 +29,12 @@ declaration-encoded : (budget : ℕ) (section : List ℕ) (before : List Declara
     → declaration_at budget section before at ≡ Ok (Item x next)
     → IsEncodedAt EncodesDeclaration section at x next × FitsBudget budget (before ++ x ∷ [])
 declaration-encoded budget section before at x next good h =
-    let parts = declaration-found budget section before at x next h in
-    let codes = codes_of before in
-    let fits = head-fits budget section codes at (head_of x) parts.0 parts.1 in
-    let head = head-found budget section codes at (head_of x) parts.0 parts.1 in
-    let code = uleb-read head.2 in
-    let tag = uleb-read head.3 in
-    let all = (attributes-decoded section parts.0 x.attributes next).0 parts.2 in
+    let fits = declaration-fits budget section before at x next h in
+    let f = declaration-found budget section before at x next h in
+    let code = uleb-read f.3 in
+    let tag = uleb-read f.4 in
+    let children = byte-encoded section f.1 (if x.children then 1 else 0) f.2 f.5 in
+    let all = (attributes-decoded section f.2 x.attributes next).0 f.6 in
     let attributes = all.0.1 in
     let end = all.0.2 in
     let valid : IsValid x = record {
@@ -64,9 +42,7 @@ declaration-encoded budget section before at x next good h =
       named = λ k d within. (all.1.0 k d within).0;
       forms = λ k d within. (all.1.0 k d within).1;
       once = all.1.1;
-    } in
-    let new : list_any (λ d. d.code == x.code) before ≡ false =
-    rw (← any-map code_of (λ (other : ℕ). other == x.code) before) fits.new in (
+    } in (
       encoded (record {
         code = code.front;
         tag = tag.front;
@@ -78,11 +54,10 @@ declaration-encoded budget section before at x next good h =
         attributes_are = attributes.encoded;
         ends = end.encoded;
       }) (joined (joined (stands code) (stands tag))
-          (joined (byte-encoded section head.1 (if x.children then 1 else 0) parts.0 head.4)
-          (joined (stands attributes) (stands end)))),
+          (joined children (joined (stands attributes) (stands end)))),
       (
-        distinct-push IsValid code_of before x good.0 (valid, new),
-        omega (arith, fits.left, length-map before code_of, length-append before (x ∷ [])),
+        distinct-push IsValid code_of before x good.0 (valid, fits.new),
+        omega (arith, fits.left, length-append before (x ∷ [])),
       ),
     )
 
@@ -99,23 +74,23 @@ declaration-reads budget section before at x next s good =
     let lists = parted e.attributes e.end refl flagged.1 in
     let new = last-new IsValid code_of before x good.0 in
     let valid = new.0 in
-    let mid = at + length (e.code ++ e.tag) + 1 in
-    let head = head-again budget section (codes_of before) at (head_of x) mid (record {
+    let attributes = (attributes-decoded section _ x.attributes next).1 (
+      (_, encoded e.attributes_are lists.0, encoded e.ends lists.1),
+      (λ k d within. (valid.named k d within, valid.forms k d within), valid.once),
+    ) in
+    declaration-again budget section before at x next (record {
       some = valid.code;
-      left = omega (arith, good.1, length-map before code_of, length-append before (x ∷ []));
-      new = rw (any-map code_of (λ (other : ℕ). other == x.code) before) new.1;
+      left = omega (arith, good.1, length-append before (x ∷ []));
+      new = new.1;
     }) (
+      _,
       _,
       _,
       uleb-reads (encoded e.code_is numbers.0),
       uleb-reads (encoded e.tag_is numbers.1),
-      byte-reads section (at + length (e.code ++ e.tag)) flag mid flagged.0,
-    ) in
-    let attributes = (attributes-decoded section mid x.attributes next).1 (
-      (_, encoded e.attributes_are lists.0, encoded e.ends lists.1),
-      (λ k d within. (valid.named k d within, valid.forms k d within), valid.once),
-    ) in
-    rw (head, attributes) refl
+      byte-reads section _ flag _ flagged.0,
+      attributes,
+    )
 
 declaration-decoded : (budget : ℕ) (section : List ℕ)
     → IsDecoded EncodesDeclaration (λ b. IsUleb b 0) (FitsBudget budget) section

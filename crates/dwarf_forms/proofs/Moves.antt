@@ -3,6 +3,7 @@ use Rattle.std.proofs.Common.{◌≡◌, ◌≢◌, ℕ, suc, ◌-◌, ◌≤◌
 use Rattle.std.proofs.Common.{refl, Option, IsSome, is_none, Result, Ok, Err, ◌==◌, ◌&&◌, ◌||◌, ◌<◌}
 use Rattle.std.proofs.Common.{if◌then◌else◌}
 use Rattle.std.specs.List.{list_any}
+use Rattle.std.proofs.lemmas.List.{length-map}
 use Rattle.dwarf_bytes.specs.declared.fault.Cause.TheVariants as causes
 use Rattle.dwarf_bytes.specs.Numbers.{uleb_at, u8_at}
 use Rattle.dwarf_bytes.specs.Forms.{form_of}
@@ -13,9 +14,10 @@ use Rattle.dwarf_bytes.proofs.Items.Turns.{Ends, Lists-moves}
 use Rattle.dwarf_bytes.proofs.Numbers.Advance.{after-bind, after-test, chosen, MovesOn}
 use Rattle.dwarf_bytes.proofs.Numbers.Moves.{same-ok, uleb-moves, sleb-moves, u8-moves}
 use Rattle.dwarf_forms.specs.declared.attribute.AttributeSpecification.{AttributeSpecification}
-use Rattle.dwarf_forms.specs.declared.declaration.Head.{Head}
-use Rattle.dwarf_forms.specs.Tables.{constant_at, attribute_at, attributes_at, head_at}
+use Rattle.dwarf_forms.specs.Declarations.{Declaration}
+use Rattle.dwarf_forms.specs.Tables.{constant_at, attribute_at, attributes_at}
 use Rattle.dwarf_forms.specs.Tables.{declaration_at}
+use Rattle.dwarf_forms.proofs.Elements.{any-map}
 use Rattle.dwarf_forms.proofs.ListEncodings.{IsNew}
 
 -- the conditions on an attribute that do not depend on the ones before it
@@ -111,37 +113,6 @@ attribute_at-ends section before at after h =
     let form = uleb-moves section f.0 (0, after) f.2 in
     (omega arith, form.1)
 
--- ---- the head of a declaration
-
--- the conditions on a head that depend on the declarations before it
-pub record HeadFits (budget : ℕ) (codes : List ℕ) (code : ℕ) : Type 0 where
-  pub some : code ≢ 0
-  pub left : length codes < budget
-  pub new : list_any (λ other. other == code) codes ≡ false
-
--- the fields of a head are read one after the other
-abbrev pub HeadAt : List ℕ → ℕ → Head → ℕ → Type 0
-HeadAt section at head next = (mid : ℕ) × (last : ℕ)
-    × (reading (uleb_at section at) ≡ Ok (head.code, mid))
-    × (reading (uleb_at section mid) ≡ Ok (head.tag, last))
-    × (reading (u8_at section last) ≡ Ok (if head.children then 1 else 0, next))
-
--- a head that is read has these parts, ..
-pub head-fits : (budget : ℕ) (section : List ℕ) (codes : List ℕ) (at : ℕ) (head : Head) (next : ℕ)
-    → head_at budget section codes at ≡ Ok (Item head next) → HeadFits budget codes head.code
-head-fits budget section codes at head next h =
-    record { some = grind arith; left = grind arith; new = grind arith }
-
-pub head-found : (budget : ℕ) (section : List ℕ) (codes : List ℕ) (at : ℕ) (head : Head) (next : ℕ)
-    → head_at budget section codes at ≡ Ok (Item head next) → HeadAt section at head next
-head-found budget section codes at head next h = grind arith
-
--- .. and a head with these parts is read
-pub head-again : (budget : ℕ) (section : List ℕ) (codes : List ℕ) (at : ℕ) (head : Head) (next : ℕ)
-    → HeadFits budget codes head.code → HeadAt section at head next
-    → head_at budget section codes at ≡ Ok (Item head next)
-head-again budget section codes at head next fits s = grind arith
-
 -- ---- the attributes of a declaration
 
 pub with-offset : {X : Type 0} (r : Result X At) (x : X) → without_offset r ≡ Ok x → r ≡ Ok x
@@ -160,14 +131,52 @@ attributes_at-moves section at read h =
     Lists-moves (length section) (attribute_at section) (attribute_at-advances section)
     (attribute_at-ends section) [] at read.0 read.1 (attributes_at-lists section at read h)
 
-pub declaration_at-advances : (budget : ℕ) (section : List ℕ)
-    → Advances (length section) (declaration_at budget section)
-declaration_at-advances budget section before at x after h =
-    grind (arith, uleb-moves section, u8-moves section, attributes_at-moves section)
-
 -- the attributes that are read, from the list that is read
 pub attributes-ok : (section : List ℕ) (at : ℕ) (read : List AttributeSpecification × ℕ)
     → items_from (length section) (attribute_at section) [] at ≡ Ok read
     → attributes_at section at ≡ Ok read
 unfolding attributes_at
 attributes-ok section at read h = rw h refl
+
+-- ---- declarations
+
+-- the fields of a declaration are read one after the other
+abbrev pub DeclarationAt : List ℕ → ℕ → Declaration → ℕ → Type 0
+DeclarationAt section at x next = (mid : ℕ) × (last : ℕ) × (list : ℕ)
+    × (reading (uleb_at section at) ≡ Ok (x.code, mid))
+    × (reading (uleb_at section mid) ≡ Ok (x.tag, last))
+    × (reading (u8_at section last) ≡ Ok (if x.children then 1 else 0, list))
+    × (attributes_at section list ≡ Ok (x.attributes, next))
+
+-- the conditions on a declaration that depend on the ones before it
+pub record FitsAfter (budget : ℕ) (before : List Declaration) (code : ℕ) : Type 0 where
+  pub some : code ≢ 0
+  pub left : length before < budget
+  pub new : list_any (λ other. other.code == code) before ≡ false
+
+-- what a declaration is read from, ..
+pub declaration-found : (budget : ℕ) (section : List ℕ) (before : List Declaration) (at : ℕ)
+    (x : Declaration) (next : ℕ) → declaration_at budget section before at ≡ Ok (Item x next)
+    → DeclarationAt section at x next
+declaration-found budget section before at x next h = grind arith
+
+pub declaration-fits : (budget : ℕ) (section : List ℕ) (before : List Declaration) (at : ℕ)
+    (x : Declaration) (next : ℕ) → declaration_at budget section before at ≡ Ok (Item x next)
+    → FitsAfter budget before x.code
+declaration-fits budget section before at x next h =
+    let same = any-map (λ (d : Declaration). d.code) (λ (code : ℕ). code == x.code) before in
+    let len = length-map before (λ d. d.code) in
+    record { some = grind arith; left = grind (arith, len); new = grind (arith, same) }
+
+-- .. and the read of it
+pub declaration-again : (budget : ℕ) (section : List ℕ) (before : List Declaration) (at : ℕ)
+    (x : Declaration) (next : ℕ) → FitsAfter budget before x.code
+    → DeclarationAt section at x next → declaration_at budget section before at ≡ Ok (Item x next)
+declaration-again budget section before at x next fits s =
+    let same = any-map (λ (d : Declaration). d.code) (λ (code : ℕ). code == x.code) before in
+    grind (arith, same, length-map before (λ d. d.code))
+
+pub declaration_at-advances : (budget : ℕ) (section : List ℕ)
+    → Advances (length section) (declaration_at budget section)
+declaration_at-advances budget section before at x after h =
+    grind (arith, uleb-moves section, u8-moves section, attributes_at-moves section)

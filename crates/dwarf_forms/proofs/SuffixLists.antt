@@ -4,13 +4,14 @@ use Rattle.std.proofs.Common.{append_assoc, append-nil, arith, Result, Ok, Err, 
 use Rattle.std.proofs.Common.{if◌then◌else◌}
 use Rattle.std.specs.List.{list_any}
 use Rattle.std.proofs.lemmas.List.Folds.{list_any-append}
+use Rattle.dwarf_bytes.specs.declared.fault.Cause.{Cause}
 use Rattle.dwarf_bytes.specs.declared.fault.Cause.TheVariants as causes
-use Rattle.dwarf_bytes.specs.Items.{At, Item, End, Lists, without_offset, items_from}
-use Rattle.dwarf_bytes.proofs.Items.ItemLaws.{put_front, first_step, items_from-step}
+use Rattle.dwarf_bytes.specs.Items.{At, Next, Item, End, Lists, without_offset, items_from}
+use Rattle.dwarf_bytes.proofs.Items.ItemLaws.{first_step, items_from-step}
 use Rattle.dwarf_bytes.proofs.Items.Turns.{SoFar}
 use Rattle.dwarf_forms.specs.declared.attribute.AttributeSpecification.{AttributeSpecification}
 use Rattle.dwarf_forms.specs.Tables.{attribute_at, attributes_at, shares_name}
-use Rattle.dwarf_forms.proofs.Moves.{Found, found, found-again, found-twice, attribute_at-advances}
+use Rattle.dwarf_forms.proofs.Moves.{found, found-again, found-twice, attribute_at-advances}
 use Rattle.dwarf_forms.proofs.Moves.{attributes_at-lists, attributes-ok}
 
 abbrev pub named : ℕ → AttributeSpecification → Bool
@@ -42,54 +43,40 @@ shares-none (a ∷ own) = shares-none own
 
 -- ---- lists
 
+-- one more attribute is refused if an attribute before the list has its name
+one-more : (b c : Bool) (x : AttributeSpecification) (xs : List AttributeSpecification)
+    (mid next : ℕ) (read : Result (Next AttributeSpecification) Cause)
+    (items : List AttributeSpecification → ℕ → Result (List AttributeSpecification × ℕ) At)
+    (before : List AttributeSpecification) (at : ℕ) → (b ≡ true → read ≡ Err causes.AttrTwice)
+    → (b ≡ false → read ≡ Ok (Item x mid)) → without_offset (items (before ++ x ∷ []) mid)
+    ≡ (if c then Err causes.AttrTwice else Ok (xs, next))
+    → without_offset (first_step items before at read)
+    ≡ (if b || c then Err causes.AttrTwice else Ok (x ∷ xs, next))
+one-more b c x xs mid next read items before at twice once rest = grind (arith, twice, once, rest)
+
 -- the result of reading a list after more attributes
 lists-again : (section : List ℕ) (own before : List AttributeSpecification) (at : ℕ)
     (xs : List AttributeSpecification) (next : ℕ) → Lists (attribute_at section) before at xs next
     → without_offset (items_from (length section) (attribute_at section) (own ++ before) at)
     ≡ (if shares_name own xs then Err causes.AttrTwice else Ok (xs, next))
-lists-again section own before at [] next listed =
-    rw (
-      items_from-step (length section) (attribute_at section) (attribute_at-advances section)
-          (own ++ before) at,
-      end-again section before (own ++ before) at next listed,
-      shares-none own,
-    ) refl
+lists-again section own before at [] next listed = rw (
+  items_from-step _ _ (attribute_at-advances section) (own ++ before) at,
+  end-again section before (own ++ before) at next listed,
+  shares-none own,
+) refl
 lists-again section own before at (x ∷ xs) next listed =
+    let all = list_any-append (named x.name) own before in
+    let f = found section before at (Item x listed.0) listed.1 in
+    let rest = lists-again section own (before ++ x ∷ []) listed.0 xs next listed.2 in
     rw (
-      items_from-step (length section) (attribute_at section) (attribute_at-advances section)
-          (own ++ before) at,
+      items_from-step _ _ (attribute_at-advances section) (own ++ before) at,
       shares-cons own xs x,
-    ) (by_name (lists-again section own (before ++ x ∷ []) listed.0 xs next listed.2)
-    (list_any (named x.name) own) refl)
-  where
-    f : Found section before at (Item x listed.0)
-    f = found section before at (Item x listed.0) listed.1
-
-    items : List AttributeSpecification → ℕ → Result (List AttributeSpecification × ℕ) At
-    items = items_from (length section) (attribute_at section)
-
-    resolved : (b : Bool) (r : Result (List AttributeSpecification × ℕ) At) → without_offset r
-        ≡ (if b then Err causes.AttrTwice else Ok (xs, next)) → without_offset (put_front x r)
-        ≡ (if b then Err causes.AttrTwice else Ok (x ∷ xs, next))
-    resolved b r h = grind arith
-
-    by_name : without_offset (items (own ++ (before ++ x ∷ [])) listed.0)
-        ≡ (if shares_name own xs then Err causes.AttrTwice else Ok (xs, next)) → (b : Bool)
-        → list_any (named x.name) own ≡ b → without_offset
-        (first_step items (own ++ before) at (attribute_at section (own ++ before) at))
-        ≡ (if b || shares_name own xs then Err causes.AttrTwice else Ok (x ∷ xs, next))
-    by_name rest true is = rw (found-twice section before (own ++ before) at x listed.0 f
-        (list_any-append (named x.name) own before ∙ rw is refl)) refl
-    by_name rest false is = rw (
-      found-again section (own ++ before) at (Item x listed.0) (
-        f.0,
-        (
-          f.1.0,
-          list_any-append (named x.name) own before ∙ rw (is, f.1.1) refl,
-        ),
-      ),
-      append_assoc own before (x ∷ []),
-    ) (resolved (shares_name own xs) _ rest)
+    ) (one-more (list_any (named x.name) own) (shares_name own xs) x xs listed.0 next
+    (attribute_at section (own ++ before) at)
+    (items_from (length section) (attribute_at section)) (own ++ before) at
+    (λ is. found-twice section before (own ++ before) at x listed.0 f (all ∙ rw is refl))
+    (λ is. found-again section (own ++ before) at (Item x listed.0)
+    (f.0, (f.1.0, all ∙ rw (is, f.1.1) refl))) (rw (append_assoc own before (x ∷ [])) rest))
 
 -- the result of reading a list after other attributes
 pub attributes_append : (section : List ℕ) (own : List AttributeSpecification) (at : ℕ)

@@ -14,9 +14,8 @@ use Rattle.dwarf_bytes.proofs.Items.Turns.{so-far-none, so-far-fault}
 use Rattle.dwarf_forms.specs.Declarations.{Declaration}
 use Rattle.dwarf_forms.specs.Tables.{declaration_at, table_at, declarations_of}
 use Rattle.dwarf_forms.specs.Steps.{ExtendsTable}
-use Rattle.dwarf_forms.proofs.EncodedTables.{declaration-fits}
 use Rattle.dwarf_forms.proofs.Loops.{ItemsSoFar, one-more, all-read, first-fault}
-use Rattle.dwarf_forms.proofs.Moves.{declaration_at-advances}
+use Rattle.dwarf_forms.proofs.Moves.{declaration_at-advances, declaration-fits}
 
 -- The declarations that were read of the table at `first`, at most `budget`.
 pub record TableSoFar (budget first : ℕ) (bytes : List ℕ) (table : List Declaration)
@@ -37,7 +36,7 @@ module _ {budget first : ℕ} {bytes : List ℕ} {before : List Declaration} {ol
       let turn = one-more (declaration_at-advances budget bytes) so_far.read new step.0 step.1
       step.3 in (
         record {
-          few = omega (arith, fits, ap length step.2, length-append before (step.0 ∷ []));
+          few = omega (arith, fits.left, ap length step.2, length-append before (step.0 ∷ []));
           read = rw step.2 turn.0;
         },
         turn.1,
