@@ -12,7 +12,7 @@ use Rattle.dwarf_bytes.proofs.Numbers.LebEncodings.{sleb-again}
 use Rattle.dwarf_forms.specs.declared.attribute.AttributeSpecification.{AttributeSpecification}
 use Rattle.dwarf_forms.specs.Declarations.{EncodesConstant, EncodesAttribute, EndsAttributes}
 use Rattle.dwarf_forms.specs.Tables.{constant_at, attribute_at, attributes_at}
-use Rattle.dwarf_forms.proofs.Encodings.{StandsAt, stands, encoded, again, nothing, joined, parted}
+use Rattle.dwarf_forms.proofs.Encodings.{StandsAt, stands, encoded, again, both, nothing, joined, parted}
 use Rattle.dwarf_forms.proofs.Encodings.{IsDecoded, AreEncoded, list-decoded}
 use Rattle.dwarf_forms.proofs.ListEncodings.{AreDistinct, distinct-none, distinct-push, last-new}
 use Rattle.dwarf_forms.proofs.ListEncodings.{distinct-front}
@@ -113,13 +113,13 @@ attribute-decoded section = record {
     λ h. let f = found section before at (End next) h in
         let name = uleb-read f.1 in
         let form = uleb-read f.2 in
-        encoded (record {
+        both name form (record {
           name = name.front;
           form = form.front;
           whole = refl;
           name_is = name.encoded;
           form_is = form.encoded;
-        }) (joined (stands name) (stands form)),
+        }),
     λ s. let e = s.encoded in
         let parts = parted e.name e.form e.whole (stands s) in
         found-again section before at (End next)

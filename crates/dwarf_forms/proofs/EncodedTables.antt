@@ -8,7 +8,7 @@ use Rattle.dwarf_forms.specs.Declarations.{IsValid, AreValid}
 use Rattle.dwarf_forms.specs.Tables.{declaration_at, table_at}
 use Rattle.dwarf_forms.proofs.AttributeEncodings.{uleb-read, uleb-reads, attributes-decoded}
 use Rattle.dwarf_forms.proofs.AttributeEncodings.{byte-encoded, byte-reads}
-use Rattle.dwarf_forms.proofs.Encodings.{stands, encoded, again, joined, parted, IsDecoded, list-decoded}
+use Rattle.dwarf_forms.proofs.Encodings.{stands, encoded, again, both, joined, parted, IsDecoded, list-decoded}
 use Rattle.dwarf_forms.proofs.ListEncodings.{AreDistinct, distinct-none, distinct-push, last-new}
 use Rattle.dwarf_forms.proofs.ListEncodings.{distinct-front}
 use Rattle.dwarf_forms.proofs.Moves.{declaration_at-advances, declaration-fits}
@@ -127,13 +127,13 @@ table-decoded budget section at table next =
       λ h. let d = decoded.0 h in
           let declarations = d.0.1 in
           let end = d.0.2 in (
-            encoded (record {
+            both declarations end (record {
               declarations = declarations.front;
               end = end.front;
               whole = refl;
               declarations_are = declarations.encoded;
               ends = end.encoded;
-            }) (joined (stands declarations) (stands end)),
+            }),
             record { each = d.1.0.0; once = d.1.0.1 },
             d.1.1,
           ),

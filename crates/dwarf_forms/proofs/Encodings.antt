@@ -64,6 +64,13 @@ module _ {bytes : List ℕ} {at : ℕ} where
         },
       )
 
+-- consecutive encodings
+pub both : {X Y Z : Type 0} {A : List ℕ → X → Type 0} {B : List ℕ → Y → Type 0}
+    {C : List ℕ → Z → Type 0} {bytes : List ℕ} {at mid next : ℕ} {x : X} {y : Y} {z : Z}
+    (s : IsEncodedAt A bytes at x mid) (t : IsEncodedAt B bytes mid y next)
+    → C (s.front ++ t.front) z → IsEncodedAt C bytes at z next
+both s t is = encoded is (joined (stands s) (stands t))
+
 -- two encodings at the start of the same bytes are equal if each of them is read
 pub one-encoding : {X E : Type 0} (Encodes : List ℕ → X → Type 0)
     (read : List ℕ → ℕ → Result (X × ℕ) E)
@@ -121,8 +128,7 @@ module _ {X : Type 0} {encodes : List ℕ → X → Type 0} {ends : List ℕ →
       let rest = others.0.1 in (
         (
           others.0.0,
-          encoded (here.0.front, rest.front, refl, here.0.encoded, rest.encoded)
-              (joined (stands here.0) (stands rest)),
+          both here.0 rest (here.0.front, rest.front, refl, here.0.encoded, rest.encoded),
           others.0.2,
         ),
         rw append_assoc at others.1,
