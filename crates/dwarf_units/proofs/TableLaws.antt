@@ -13,7 +13,7 @@ use Rattle.dwarf_bytes.specs.{declared.fault.Section.Section, Items.{At, each_fr
 use Rattle.dwarf_bytes.proofs.Items.EachLaws.{made_front, each-next}
 use Rattle.dwarf_bytes.proofs.Items.EachPlaces.{each-place}
 use Rattle.dwarf_forms.specs.Tables.{table_at, declarations_of}
-use Rattle.dwarf_forms.proofs.EncodedTables.{table-encoded, table_read}
+use Rattle.dwarf_forms.proofs.EncodedTables.{table-decoded}
 use Rattle.dwarf_units.specs.Units.{tables_of}
 use Rattle.dwarf_bytes.specs.declared.fault.Section.TheVariants as sections
 
@@ -58,8 +58,8 @@ pub table-again : (budget other : ℕ) (section : List ℕ) (offset : ℕ) (tabl
 unfolding table_at
 table-again budget other section offset table read few = grind (
   arith,
-  λ (x : List Declaration × ℕ). table-encoded budget section offset x.0 x.1,
-  table_read other section offset,
+  λ (x : List Declaration × ℕ). (table-decoded budget section offset x.0 x.1).0,
+  λ (x : List Declaration × ℕ). (table-decoded other section offset x.0 x.1).1,
 )
 
 -- A table that was parsed is parsed to the same result with the whole budget.
@@ -68,7 +68,7 @@ pub table-whole : (budget : ℕ) (section : List ℕ) (offset : ℕ) (table : Li
     → (declarations_of declarations_limit section offset ≡ Ok table) × (length table ≤ budget)
 table-whole budget section offset table few read = grind (
   arith,
-  λ (x : List Declaration × ℕ). table-encoded budget section offset x.0 x.1,
+  λ (x : List Declaration × ℕ). (table-decoded budget section offset x.0 x.1).0,
   table-again budget declarations_limit section offset table read,
 )
 
