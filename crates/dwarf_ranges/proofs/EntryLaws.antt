@@ -46,10 +46,8 @@ range_of-holds first second base start value range h i d within = grind arith
 
 operand-moves : (sections : Sections) (bases : Bases) (operand : Operand) (lists : List ℕ) (at : ℕ)
     (x : ℕ × ℕ) → operand_at sections bases operand lists at ≡ Ok x → MovesOn lists at x.1
-operand-moves sections bases Index lists at x h = grind (arith, uleb-moves lists at)
-operand-moves sections bases Address lists at x h =
-    grind (arith, fixed_at-moves 8 lists at)
-operand-moves sections bases Number lists at x h = uleb-moves lists at x h
+operand-moves sections bases operand lists at x h =
+    grind (arith, uleb-moves lists at, fixed_at-moves 8 lists at)
 
 abbrev pub EntryHolds : RangeListEntry → Type 0
 EntryHolds entry = AllHold (ranges_in entry) × (length (ranges_in entry) ≤ 1)
@@ -59,24 +57,10 @@ entry_at-facts : (sections : Sections) (bases : Bases) (base : Option ℕ) (oper
     → entry_at sections bases base operands lists at ≡ Ok x
     → MovesOn lists at x.1 × EntryHolds x.0
 unfolding entry_at
-entry_at-facts sections bases base operands lists at x h = by_second operands.second h
-  where
-    by_second : (second : Option Operand)
-        → (operand_at sections bases operands.first lists at
-        >>= λ first. elim second as (λ _. Result (RangeListEntry × ℕ) Cause) [
-          | None ↦ Ok (Base first.0, first.1)
-          | Some operand ↦ (operand_at sections bases operand lists first.1
-              >>= λ second. range_of operands.first operand base first.0 second.0
-              >>= λ range. Ok (Covers range, second.1))
-        ]) ≡ Ok x → MovesOn lists at x.1 × EntryHolds x.0
-    by_second second h = (
-      grind (
-        arith,
-        operand-moves sections bases operands.first lists at,
-        λ (o : Operand) (k : ℕ). operand-moves sections bases o lists k,
-      ),
-      ((λ i d within. grind (arith, range_of-holds operands.first)), grind arith),
-    )
+entry_at-facts sections bases base operands lists at x h = (
+  grind (arith, λ (o : Operand) (k : ℕ). operand-moves sections bases o lists k),
+  ((λ i d within. grind (arith, range_of-holds operands.first)), grind arith),
+)
 
 pub list_entry-facts : (budget : ℕ) (sections : Sections) (bases : Bases) (count : ℕ)
     (base : Option ℕ) (lists : List ℕ) (at : ℕ) (x : RangeListEntry) (after : ℕ)
@@ -96,12 +80,11 @@ list_entry-facts budget sections bases count base lists at x after h =
         ]) ≡ Ok (Item x after) → MovesOn lists at after × EntryHolds x × (count < budget)
     by_operands code moved None h = cc
     by_operands code moved (Some operands) h =
-        let few = refuse_if-ok (nat_le budget count) causes.TooMany _ (Item x after) h in
-        let entry = bind_ok (entry_at sections bases base operands lists code.1) _ (Item x after)
-        few.1 in
+        let entry : (e : RangeListEntry × ℕ)
+        × (entry_at sections bases base operands lists code.1 ≡ Ok e) × (e.0 ≡ x) × (e.1 ≡ after)
+        × (count < budget) = grind arith in
         let facts = entry_at-facts sections bases base operands lists code.1 entry.0 entry.1 in
-        let same = same-item entry.0.0 x entry.0.1 after entry.2 in
-        (omega arith, rw (← same.0) facts.1, leb-false budget count few.0)
+        (omega arith, rw (← entry.2) facts.1, entry.4)
 
 pub list_entry_at-advances : (budget : ℕ) (sections : Sections) (bases : Bases) (lists : List ℕ)
     → Advances (length lists) (list_entry_at budget sections bases lists)

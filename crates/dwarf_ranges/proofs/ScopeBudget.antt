@@ -91,17 +91,12 @@ by-fits : (budget : ℕ) (sections : Sections) (bases : Bases)
     (low high ranges : Option AttributeValue)
     (covering : Covering) → covers_by budget sections bases low high ranges ≡ Ok covering
     → Fits budget covering
-by-fits budget sections bases None None (Some ranges) covering h =
-    let place = bind_ok (list_place sections bases ranges) _ covering h in
-    list-fits budget sections bases place.0 covering place.2
-by-fits budget sections bases None (Some high) (Some ranges) covering h = cc
-by-fits budget sections bases (Some low) None (Some ranges) covering h = cc
-by-fits budget sections bases (Some low) (Some high) (Some ranges) covering h = cc
-by-fits budget sections bases None (Some high) None covering h = cc
-by-fits budget sections bases (Some low) (Some high) None covering h =
-    pair-fits budget sections bases low high covering h
-by-fits budget sections bases None None None covering h = none-fits budget covering h
-by-fits budget sections bases (Some low) None None covering h = none-fits budget covering h
+by-fits budget sections bases low high ranges covering h = grind (
+  arith,
+  λ (place : ℕ). list-fits budget sections bases place covering,
+  λ (l h : AttributeValue). pair-fits budget sections bases l h covering,
+  none-fits budget covering,
+)
 
 pub covers-fits : (budget : ℕ) (sections : Sections) (bases : Bases) (die : Die)
     (covering : Covering)
