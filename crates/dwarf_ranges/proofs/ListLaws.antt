@@ -1,6 +1,6 @@
 -- The loop over a range list.
 use Rattle.std.proofs.Common.{◌≡◌, ℕ, ◌+◌, ◌<◌, List, [], ◌∷◌, ◌++◌, length, refl, ap, sym, ◌∙◌}
-use Rattle.std.proofs.Common.{arith, append_assoc, length-append, append-nil, subst₂, subst, Option}
+use Rattle.std.proofs.Common.{arith, append_assoc, length-append, append-nil, Option}
 use Rattle.std.proofs.Common.{Result, Ok, Err, flat_map}
 use Rattle.std.proofs.lemmas.List.Concat.{flat_map-append}
 use Rattle.dwarf_bytes.specs.declared.fault.Cause.{Cause}
@@ -8,8 +8,8 @@ use Rattle.dwarf_bytes.specs.declared.fault.Cause.TheVariants as causes
 use Rattle.dwarf_bytes.specs.Position.{Position}
 use Rattle.dwarf_bytes.specs.Items.{Next, Item, End, Advances}
 use Rattle.dwarf_bytes.proofs.Numbers.Advance.{MovesOn}
-use Rattle.dwarf_bytes.proofs.Items.Turns.{SoFar, so-far-none, so-far-item, so-far-end}
-use Rattle.dwarf_bytes.proofs.Items.Turns.{so-far-fault}
+use Rattle.dwarf_bytes.proofs.Items.ItemLaws.{items_from-step}
+use Rattle.dwarf_bytes.proofs.Items.Turns.{SoFar, so-far-item, so-far-end, so-far-fault}
 use Rattle.dwarf_ranges.specs.declared.range.Range.{Range}
 use Rattle.dwarf_ranges.specs.declared.bases.Bases.{Bases}
 use Rattle.dwarf_ranges.specs.declared.range_entries.RangeListEntry.{RangeListEntry}
@@ -44,10 +44,7 @@ module _ {budget : ℕ} {sections : Sections} {bases : Bases} {first : ℕ} {kno
   here : (read : Result (Next RangeListEntry) Cause)
       → list_entry_of budget sections bases count base at.bytes at.place ≡ read
       → list_entry_at budget sections bases sections.debug_rnglists so_far.before at.place ≡ read
-  here read is = subst₂ (λ (k : ℕ) (b : Option ℕ). list_entry_of budget sections bases k b
-      sections.debug_rnglists at.place ≡ read) so_far.counted so_far.base_is (subst
-      (λ (bytes : List ℕ). list_entry_of budget sections bases count base bytes at.place ≡ read)
-      so_far.bytes_are is)
+  here read is = cc (is, so_far.counted, so_far.base_is, so_far.bytes_are)
 
   advances : Advances (length sections.debug_rnglists)
       (list_entry_at budget sections bases sections.debug_rnglists)
@@ -103,7 +100,7 @@ pub list_outside : (budget : ℕ) (sections : Sections) (bases : Bases) (place :
 unfolding list_at
 list_outside budget sections bases place h =
     let lists = sections.debug_rnglists in
-    let step = list_entry_at budget sections bases lists in
-    let here : step [] place ≡ Err causes.Short = rw (fixed-outside 1 lists place h) refl in
-    rw (so-far-fault (length lists) step (list_entry_at-advances budget sections bases lists) place
-    [] place causes.Short (so-far-none (length lists) step place) here) refl
+    let here : list_entry_at budget sections bases lists [] place ≡ Err causes.Short =
+    rw (fixed-outside 1 lists place h) refl in
+    rw (items_from-step _ _ (list_entry_at-advances budget sections bases lists) [] place, here)
+    refl

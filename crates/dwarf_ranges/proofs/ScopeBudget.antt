@@ -69,23 +69,14 @@ list-fits budget sections bases place covering h =
 pair-fits : (budget : ℕ) (sections : Sections) (bases : Bases) (low high : AttributeValue)
     (covering : Covering) → pair_at budget sections bases low high ≡ Ok covering
     → Fits budget covering
-pair-fits budget sections bases low high covering h =
-    let some = refuse_if-ok (budget == 0) causes.TooMany _ covering h in
-    let range = bind_ok (pair_range sections bases low high) _ covering some.1 in
-    let start = bind_ok (address_of sections bases.addr low) _ range.0 range.1 in
-    let end = bind_ok (high_of sections bases start.0 high) _ range.0 start.2 in
-    let same = same-ok (record { ranges = option_to_list range.0; items = 1 }) covering range.2 in
-    record {
-      hold = rw (← same) (live-holds (start.0, end.0) range.0 end.2);
-      counted = grind arith;
-      within = grind arith;
-    }
+pair-fits budget sections bases low high covering h = record {
+  hold = λ i d within. grind (arith, live-holds);
+  counted = grind arith;
+  within = grind arith;
+}
 
-none-fits : (budget : ℕ) (covering : Covering)
-    → (let f : Covering → Result Covering Cause = λ z. Ok z in f (record { ranges = []; items = 0 })
-    ≡ f covering) → Fits budget covering
-none-fits budget covering h =
-    record { hold = λ i d within. grind arith; counted = grind arith; within = grind arith }
+none-fits : (budget : ℕ) → Fits budget (record { ranges = []; items = 0 })
+none-fits budget = record { hold = none-holds; counted = omega arith; within = omega arith }
 
 by-fits : (budget : ℕ) (sections : Sections) (bases : Bases)
     (low high ranges : Option AttributeValue)
@@ -95,7 +86,7 @@ by-fits budget sections bases low high ranges covering h = grind (
   arith,
   λ (place : ℕ). list-fits budget sections bases place covering,
   λ (l h : AttributeValue). pair-fits budget sections bases l h covering,
-  none-fits budget covering,
+  none-fits budget,
 )
 
 pub covers-fits : (budget : ℕ) (sections : Sections) (bases : Bases) (die : Die)
