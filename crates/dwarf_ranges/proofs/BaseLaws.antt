@@ -21,23 +21,15 @@ fixed-outside n bytes at h =
     let past : nat_lt (length bytes) (at + n) ≡ true =
     lt-ltb (length bytes) (at + n) (omega arith) in rw past refl
 
-item-outside : (kind : TableKind) (format : Format) (bytes : List ℕ) (at : ℕ) → length bytes < at
-    → item_in kind format bytes at ≡ Err Short
-item-outside kind format bytes at h =
-    let four = fixed-outside 4 bytes at h in
-    let eight = fixed-outside 8 bytes at h in
-    grind arith
-
 pub item_at-outside : (kind : TableKind) (section : List ℕ) (found : Option Table) (table : Table)
     (index place : ℕ) → found ≡ Some table → index < table.head.items
     → place ≡ table.base + item_len kind table.format * index → length section < place
     → Err causes.Short ≡ item_at kind section found index
-item_at-outside kind section found table index place is within at past = rw (
-  is,
-  lt-leb table.head.items index within,
-  ← at,
-  item-outside kind table.format section place past,
-) refl
+item_at-outside kind section found table index place is within at past = grind (
+  arith,
+  fixed-outside 4 section place past,
+  fixed-outside 8 section place past,
+)
 
 -- ---- the current base
 

@@ -48,9 +48,6 @@ lists-hold budget sections bases lists before at (entry ∷ entries) after h le 
       omega (arith, size, rest.2),
     )
 
-without_offset-ok : {X : Type 0} (r : Result X At) (x : X) → without_offset r ≡ Ok x → r ≡ Ok x
-without_offset-ok r x h = grind arith
-
 list-fits : (budget : ℕ) (sections : Sections) (bases : Bases) (place : ℕ) (covering : Covering)
     → list_at budget sections bases place ≡ Ok covering → Fits budget covering
 unfolding list_at
@@ -59,8 +56,8 @@ list-fits budget sections bases place covering h =
     let step : List RangeListEntry → ℕ → Result (Next RangeListEntry) Cause =
     list_entry_at budget sections bases lists in
     let all = bind_ok (without_offset (items_from (length lists) step [] place)) _ covering h in
-    let listed = Lists-within _ step [] place all.0.0 all.0.1
-    (without_offset-ok (items_from (length lists) step [] place) all.0 all.1) in
+    let read : items_from (length lists) step [] place ≡ Ok all.0 = grind (arith, all.1) in
+    let listed = Lists-within _ step [] place all.0.0 all.0.1 read in
     let hold = lists-hold budget sections bases lists [] place all.0.0 all.0.1 listed (omega arith)
     in
     rw (← same-ok (record { ranges = flat_map ranges_in all.0.0; items = length all.0.0 }) covering
