@@ -1,13 +1,12 @@
 -- Table items beyond the end of the section, and the current base of a range list.
 use Rattle.std.proofs.Common.{◌≡◌, ℕ, ◌+◌, ◌*◌, ◌<◌, List, true, length, refl, arith, [], ◌∷◌, ◌++◌}
 use Rattle.std.proofs.Common.{map, Option, Some, Err, nat_lt}
-use Rattle.std.proofs.lemmas.Bool.{lt-ltb, lt-leb}
+use Rattle.std.proofs.lemmas.Bool.{lt-ltb}
 use Rattle.dwarf_bytes.specs.declared.fault.ReadFault.TheVariants.{Short}
-use Rattle.dwarf_bytes.specs.declared.format.Format.{Format}
 use Rattle.dwarf_bytes.specs.declared.tables.TableKind.{TableKind}
 use Rattle.dwarf_bytes.specs.Numbers.{block_at, fixed_at}
 use Rattle.dwarf_ranges.specs.declared.bases.Table.{Table}
-use Rattle.dwarf_ranges.specs.Bases.{item_len, item_in, item_at}
+use Rattle.dwarf_ranges.specs.Bases.{item_len, item_at}
 use Rattle.dwarf_ranges.specs.declared.range.Range.{Range}
 use Rattle.dwarf_ranges.specs.declared.range_entries.RangeListEntry.{RangeListEntry}
 use Rattle.dwarf_ranges.specs.declared.range_entries.RangeListEntry.TheVariants.{Base, Covers}

@@ -1,22 +1,19 @@
 -- The entries of range lists: each takes at least one byte, and its range, if any, is nonempty.
 use Rattle.std.proofs.Common.{◌≡◌, ℕ, ◌<◌, ◌≤◌, List, length, arith, Option, Some, None, Result, Ok}
 use Rattle.std.proofs.Common.{All, nat_le, option_to_list}
-use Rattle.std.proofs.lemmas.Bool.{leb-false}
 use Rattle.std.proofs.lemmas.List.Elements.{All-nil}
 use Rattle.dwarf_bytes.specs.declared.fault.Cause.{Cause}
 use Rattle.dwarf_bytes.specs.declared.fault.Cause.TheVariants as causes
 use Rattle.dwarf_bytes.specs.Bind.{◌>>=◌}
 use Rattle.dwarf_bytes.specs.Items.{Next, Item, End, Advances, reading, refuse_if}
 use Rattle.dwarf_bytes.specs.Numbers.{u8_at}
-use Rattle.dwarf_bytes.proofs.Numbers.Advance.{MovesOn, bind_ok, refuse_if-ok}
-use Rattle.dwarf_bytes.proofs.Numbers.Moves.{same-item, uleb-moves, u8-moves, fixed_at-moves}
+use Rattle.dwarf_bytes.proofs.Numbers.Advance.{MovesOn, bind_ok}
+use Rattle.dwarf_bytes.proofs.Numbers.Moves.{uleb-moves, u8-moves, fixed_at-moves}
 use Rattle.dwarf_ranges.specs.declared.range.Range.{Range}
 use Rattle.dwarf_ranges.specs.declared.bases.Bases.{Bases}
 use Rattle.dwarf_ranges.specs.declared.range_entries.Operand.{Operand}
-use Rattle.dwarf_ranges.specs.declared.range_entries.Operand.TheVariants.{Index, Address, Number}
 use Rattle.dwarf_ranges.specs.declared.range_entries.Operands.{Operands}
 use Rattle.dwarf_ranges.specs.declared.range_entries.RangeListEntry.{RangeListEntry}
-use Rattle.dwarf_ranges.specs.declared.range_entries.RangeListEntry.TheVariants.{Base, Covers}
 use Rattle.dwarf_walk.specs.Sections.{Sections}
 use Rattle.dwarf_ranges.specs.Ranges.{live_range, ranges_in, base_after, operand_at, range_of}
 use Rattle.dwarf_ranges.specs.Ranges.{operands_of, entry_at, list_entry_of, list_entry_at}

@@ -1,14 +1,13 @@
 -- The ranges of an entry are nonempty, and the number of items that they are read from is within
 -- the budget.
 use Rattle.std.proofs.Common.{◌≡◌, ℕ, ◌+◌, ◌≤◌, List, [], ◌∷◌, ◌++◌, length, arith, length-append}
-use Rattle.std.proofs.Common.{Option, Some, None, Result, Ok, ◌==◌, option_to_list, flat_map}
+use Rattle.std.proofs.Common.{Option, Result, Ok, flat_map}
 use Rattle.std.proofs.lemmas.List.Elements.{All-append}
 use Rattle.dwarf_bytes.specs.declared.constants.TheConstants.{DW_AT_HIGH_PC, DW_AT_LOW_PC}
 use Rattle.dwarf_bytes.specs.declared.constants.TheConstants.{DW_AT_RANGES}
 use Rattle.dwarf_bytes.specs.declared.fault.Cause.{Cause}
-use Rattle.dwarf_bytes.specs.declared.fault.Cause.TheVariants as causes
-use Rattle.dwarf_bytes.specs.Items.{At, Next, Lists, without_offset, items_from}
-use Rattle.dwarf_bytes.proofs.Numbers.Advance.{bind_ok, refuse_if-ok}
+use Rattle.dwarf_bytes.specs.Items.{Next, Lists, without_offset, items_from}
+use Rattle.dwarf_bytes.proofs.Numbers.Advance.{bind_ok}
 use Rattle.dwarf_bytes.proofs.Items.ItemLaws.{Lists-within}
 use Rattle.dwarf_bytes.proofs.Numbers.Moves.{same-ok}
 use Rattle.dwarf_ranges.specs.declared.range.Range.{Range}
@@ -17,9 +16,8 @@ use Rattle.dwarf_ranges.specs.declared.range_entries.RangeListEntry.{RangeListEn
 use Rattle.dwarf_units.specs.declared.attributes.AttributeValue.{AttributeValue}
 use Rattle.dwarf_units.specs.Entries.{Die, attribute}
 use Rattle.dwarf_walk.specs.Sections.{Sections}
-use Rattle.dwarf_ranges.specs.Bases.{address_of}
-use Rattle.dwarf_ranges.specs.Ranges.{Covering, ranges_in, base_after, list_entry_at, list_place}
-use Rattle.dwarf_ranges.specs.Ranges.{list_at, high_of, pair_range, pair_at, covers_by, covers_of}
+use Rattle.dwarf_ranges.specs.Ranges.{Covering, ranges_in, base_after, list_entry_at}
+use Rattle.dwarf_ranges.specs.Ranges.{list_at, pair_at, covers_by, covers_of}
 use Rattle.dwarf_ranges.specs.Ranges.{IsValidRange, AddsRanges}
 use Rattle.dwarf_ranges.proofs.EntryLaws.{AllHold, none-holds, live-holds, list_entry-facts}
 
