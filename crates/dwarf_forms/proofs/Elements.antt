@@ -1,10 +1,11 @@
 -- Elements of a list while elements are appended.
 use Rattle.std.proofs.Common.{◌≡◌, ◌⊎◌, inl, inr, ℕ, zero, suc, List, [], ◌∷◌, ◌++◌, length, refl}
 use Rattle.std.proofs.Common.{sym, length-append, arith, Some, slice_get, Result, Ok, Err, IfOk}
-use Rattle.std.proofs.Common.{Bool, ◌+◌, cond, ap, map, not, position, ◌||◌}
-use Rattle.std.proofs.lemmas.List.{get_or_push, length-map}
+use Rattle.std.proofs.Common.{Bool, ap, map, position, ◌||◌}
+use Rattle.std.proofs.lemmas.List.{get_or_push}
 use Rattle.std.proofs.lemmas.Option.{same_Some, slice_get_read}
-use Rattle.std.specs.List.{list_any, position_or_len}
+use Rattle.std.proofs.lemmas.Grind.{common_steps}
+use Rattle.std.specs.List.{list_any}
 
 pub at-last : {X : Type 0} (xs : List X) (y z : X) (i : ℕ) → slice_get (xs ++ y ∷ []) i ≡ Some z
     → (slice_get xs i ≡ Some z) ⊎ ((i ≡ length xs) × (y ≡ z))
@@ -37,11 +38,7 @@ pub any-map : {X Y : Type 0} (f : X → Y) (p : Y → Bool) (xs : List X)
 any-map f p [] = refl
 any-map f p (x ∷ xs) = ap (λ (b : Bool). p (f x) || b) (any-map f p xs)
 
-place-map : {X Y : Type 0} (f : X → Y) (p : Y → Bool) (xs : List X) → position_or_len p (map f xs)
-    ≡ position_or_len (λ x. p (f x)) xs
-place-map f p [] = refl
-place-map f p (x ∷ xs) = ap (λ (n : ℕ). cond (not (p (f x))) (1 + n) 0) (place-map f p xs)
-
 pub position-map : {X Y : Type 0} (f : X → Y) (p : Y → Bool) (xs : List X)
     → position p (map f xs) ≡ position (λ x. p (f x)) xs
-position-map f p xs = rw (place-map f p xs, length-map xs f) refl
+position-map f p [] = refl
+position-map f p (x ∷ xs) = let rest = position-map f p xs in grind (arith, common_steps)

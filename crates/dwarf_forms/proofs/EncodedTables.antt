@@ -1,6 +1,6 @@
 -- Declarations and tables are read if and only if they are encoded and valid.
 use Rattle.std.proofs.Common.{◌≡◌, ℕ, ◌≤◌, List, [], ◌∷◌, ◌++◌, length, length-append, refl, arith}
-use Rattle.std.proofs.Common.{Ok, ◌==◌, if◌then◌else◌, ◌↔◌, ◌+◌, ◌<◌}
+use Rattle.std.proofs.Common.{Ok, if◌then◌else◌, ◌↔◌}
 use Rattle.dwarf_bytes.specs.Numbers.{IsEncodedAt, IsUleb, uleb_at}
 use Rattle.dwarf_bytes.specs.Items.{Item, reading}
 use Rattle.dwarf_forms.specs.Declarations.{Declaration, EncodesDeclaration, EncodesTable}

@@ -1,6 +1,6 @@
 -- Encodings at offsets: bytes in sequence, and the encoding of consecutive items, in both
 -- directions, for any step.
-use Rattle.std.proofs.Common.{◌≡◌, ℕ, ◌+◌, List, [], ◌∷◌, ◌++◌, length, drop, refl, ap, ◌∙◌, arith}
+use Rattle.std.proofs.Common.{◌≡◌, ℕ, ◌+◌, List, [], ◌∷◌, ◌++◌, length, drop, refl, ap, arith}
 use Rattle.std.proofs.Common.{append_assoc, append-nil, length-append, Result, Ok, ◌↔◌, suc, ◌-◌}
 use Rattle.std.proofs.lemmas.List.{take_at}
 use Rattle.dwarf_bytes.specs.declared.fault.Cause.{Cause}

@@ -1,5 +1,5 @@
 -- Lists of valid elements with distinct keys.
-use Rattle.std.proofs.Common.{◌≡◌, ◌≢◌, ℕ, ◌<◌, List, [], ◌∷◌, ◌++◌, length, false, arith, get_or}
+use Rattle.std.proofs.Common.{◌≡◌, ◌≢◌, ℕ, ◌<◌, List, [], ◌∷◌, ◌++◌, length, false, arith}
 use Rattle.std.proofs.Common.{length-append, All, AllPairs, ◌==◌, refl}
 use Rattle.std.specs.List.{list_any}
 use Rattle.std.proofs.lemmas.List.{get_or_append_left, get_or_push}

@@ -108,10 +108,7 @@ attribute_at-advances section before at x after h =
 
 pub attribute_at-ends : (section : List ℕ) → Ends (length section) (attribute_at section)
 attribute_at-ends section before at after h =
-    let f = found section before at (End after) h in
-    let name = uleb-moves section at (0, f.0) f.1 in
-    let form = uleb-moves section f.0 (0, after) f.2 in
-    (omega arith, form.1)
+    let f = found section before at (End after) h in grind (arith, f.1, f.2, uleb-moves section)
 
 -- ---- the attributes of a declaration
 

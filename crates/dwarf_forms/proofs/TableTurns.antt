@@ -1,6 +1,6 @@
 -- The iterations of the loop over the declarations of a table.
-use Rattle.std.proofs.Common.{◌≡◌, ℕ, ◌<◌, ◌≤◌, ◌⊎◌, List, [], ◌∷◌, length, Bool, true, false, refl}
-use Rattle.std.proofs.Common.{ap, arith, length-append, Ok, Err}
+use Rattle.std.proofs.Common.{◌≡◌, ℕ, ◌<◌, ◌≤◌, ◌⊎◌, List, [], length, true, false, refl}
+use Rattle.std.proofs.Common.{arith, Ok, Err}
 use Rattle.std.proofs.lemmas.List.{drop_all}
 use Rattle.dwarf_bytes.specs.declared.fault.ReadFault.TheVariants.{Short}
 use Rattle.dwarf_bytes.specs.declared.fault.Section.TheVariants as sections
@@ -10,47 +10,34 @@ use Rattle.dwarf_bytes.specs.declared.fault.LoadFault.{LoadFault}
 use Rattle.dwarf_bytes.specs.Numbers.{uleb_at, leb_front}
 use Rattle.dwarf_bytes.specs.Position.{Position}
 use Rattle.dwarf_bytes.specs.Refusals.{Fails, memory_fault, at_item, in_section}
-use Rattle.dwarf_bytes.proofs.Items.Turns.{so-far-none, so-far-fault}
+use Rattle.dwarf_bytes.proofs.Items.ItemLaws.{items_from-step}
 use Rattle.dwarf_forms.specs.Declarations.{Declaration}
 use Rattle.dwarf_forms.specs.Tables.{declaration_at, table_at, declarations_of}
 use Rattle.dwarf_forms.specs.Steps.{ExtendsTable}
 use Rattle.dwarf_forms.proofs.Loops.{ItemsSoFar, one-more, all-read, first-fault}
-use Rattle.dwarf_forms.proofs.Moves.{declaration_at-advances, declaration-fits}
+use Rattle.dwarf_forms.proofs.EncodedTables.{table-decoded}
+use Rattle.dwarf_forms.proofs.Moves.{declaration_at-advances}
 
--- The declarations that were read of the table at `first`, at most `budget`.
-pub record TableSoFar (budget first : ℕ) (bytes : List ℕ) (table : List Declaration)
-    (cursor : Position) : Type 0 where
-  pub few : length table ≤ budget
-  pub read : ItemsSoFar (declaration_at budget) first bytes table cursor
-
-module _ {budget first : ℕ} {bytes : List ℕ} {before : List Declaration} {old : Position}
-    (so_far : TableSoFar budget first bytes before old) where
+module _ (budget : ℕ) {first : ℕ} {bytes : List ℕ} {before : List Declaration} {old : Position}
+    (so_far : ItemsSoFar (declaration_at budget) first bytes before old) where
   -- an iteration that reads a declaration
-  pub turn-item : (after : List Declaration) (new : Position) (found : Bool)
-      → ExtendsTable (Ok found) budget before after old new → found ≡ true
-      → TableSoFar budget first bytes after new × (old.place < new.place)
+  pub turn-item : (after : List Declaration) (new : Position)
+      → ExtendsTable (Ok true) budget before after old new
+      → ItemsSoFar (declaration_at budget) first bytes after new × (old.place < new.place)
       × (new.place ≤ length bytes)
-  turn-item after new false step is = cc
-  turn-item after new true step is =
-      let fits = declaration-fits budget old.bytes before old.place step.0 new.place step.1 in
-      let turn = one-more (declaration_at-advances budget bytes) so_far.read new step.0 step.1
-      step.3 in (
-        record {
-          few = omega (arith, fits.left, ap length step.2, length-append before (step.0 ∷ []));
-          read = rw step.2 turn.0;
-        },
-        turn.1,
-        turn.2,
-      )
+  turn-item after new step =
+      let turn = one-more (declaration_at-advances budget bytes) so_far new step.0 step.1 step.3 in
+      (rw step.2 turn.0, turn.1, turn.2)
 
   -- the end of the table
-  pub turn_end : (after : List Declaration) (new : Position) (found : Bool)
-      → ExtendsTable (Ok found) budget before after old new → found ≡ false
-      → in_section sections.DebugAbbrev (declarations_of budget bytes first) ≡ Ok after
+  pub turn_end : (after : List Declaration) (new : Position)
+      → ExtendsTable (Ok false) budget before after old new
+      → (in_section sections.DebugAbbrev (declarations_of budget bytes first) ≡ Ok after)
+      × (length after ≤ budget)
   unfolding table_at
-  turn_end after new true step is = cc
-  turn_end after new false step is =
-      rw (all-read (declaration_at-advances budget bytes) so_far.read new.place step.0, step.1) refl
+  turn_end after new step =
+      let all = all-read (declaration_at-advances budget bytes) so_far new.place step.0 in
+      rw step.1 (rw all refl, ((table-decoded budget bytes first before new.place).0 all).2)
 
   -- an invalid declaration
   pub turn-fault : (cause : Cause) (place : ℕ) (fault : LoadFault)
@@ -59,7 +46,7 @@ module _ {budget first : ℕ} {bytes : List ℕ} {before : List Declaration} {ol
       ⊎ (in_section sections.DebugAbbrev (declarations_of budget bytes first) ≡ Err fault)
   unfolding table_at
   turn-fault cause place fault fails at is =
-      let end = first-fault (declaration_at-advances budget bytes) so_far.read cause in
+      let end = first-fault (declaration_at-advances budget bytes) so_far cause in
       grind (arith, fails, at, is, end)
 
 -- ---- a table outside the section
@@ -74,6 +61,4 @@ unfolding table_at
 outside budget bytes offset h =
     let none : declaration_at budget bytes [] offset ≡ Err causes.Short =
     rw (uleb_at-outside bytes offset h) refl in
-    rw (so-far-fault (length bytes) (declaration_at budget bytes) (declaration_at-advances
-    budget bytes) offset [] offset causes.Short (so-far-none (length bytes)
-    (declaration_at budget bytes) offset) none) refl
+    rw (items_from-step _ _ (declaration_at-advances budget bytes) [] offset, none) refl
