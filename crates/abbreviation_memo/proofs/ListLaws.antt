@@ -10,12 +10,13 @@ use Rattle.dwarf_bytes.specs.Position.{Position}
 use Rattle.dwarf_bytes.specs.Refusals.{ReadsNext}
 use Rattle.dwarf_bytes.proofs.Items.ItemLaws.{first_step, put_front, items_from-step}
 use Rattle.dwarf_bytes.proofs.Items.ItemLaws.{items_from-Lists}
+use Rattle.dwarf_bytes.proofs.Items.Turns.{so-far-none, so-far-item}
 use Rattle.dwarf_bytes.proofs.Numbers.Moves.{same-item}
 use Rattle.dwarf_forms.specs.declared.attribute.AttributeSpecification.{AttributeSpecification}
 use Rattle.dwarf_forms.specs.Tables.{attribute_at, attributes_at}
 use Rattle.dwarf_forms.proofs.Moves.{attribute_at-advances, attribute_at-ends, attributes_at-lists}
 use Rattle.dwarf_forms.proofs.Moves.{attributes_at-moves, attributes-ok, found}
-use Rattle.dwarf_forms.proofs.SuffixLists.{attribute-again, end-again, named, attributes_append}
+use Rattle.dwarf_forms.proofs.SuffixLists.{attribute-again, end-again, named, list-continues}
 use Rattle.abbreviation_memo.specs.Lists.{IsListAt, first_of, list_at, list_from, listed}
 
 pub list-read : (section : List ℕ) (at : ℕ) (xs : List AttributeSpecification) (after : ℕ)
@@ -36,13 +37,9 @@ pub attribute-before : (section : List ℕ) (place at after : ℕ) (x : Attribut
     → list_any (λ other. other.name == x.name) rest ≡ false
     → attributes_at section place ≡ Ok (x ∷ rest, after)
 attribute-before section place at after x rest first read new =
-    rw (attributes-step section place, first) (put (items_from (length section)
-    (attribute_at section) (x ∷ []) at) (rw new at
-    (attributes_append section (x ∷ []) at rest after read)))
-  where
-    put : (r : Result (List AttributeSpecification × ℕ) At) → without_offset r ≡ Ok (rest, after)
-        → without_offset (put_front x r) ≡ Ok (x ∷ rest, after)
-    put r h = grind arith
+    let so_far = so-far-item _ _ (attribute_at-advances section) place [] place x at
+    (so-far-none _ _ place) first in
+    list-continues section place (x ∷ []) at rest after so_far read (rw new refl)
 
 pub list-ends : (section : List ℕ) (at after : ℕ) → attribute_at section [] at ≡ Ok (End after)
     → attributes_at section at ≡ Ok ([], after)

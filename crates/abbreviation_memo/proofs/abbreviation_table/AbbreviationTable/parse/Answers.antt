@@ -7,24 +7,19 @@ use Rattle.abbreviation_memo.proofs.abbreviation_table.AbbreviationTable.parse.G
 pub loop-table-smaller : goal.loop-table-smaller
 loop-table-smaller c =
     let inv = c.loop-table.invariant in
-    let turn = turn-item inv.so_far (full_declarations c.args.lists.now c.extend.new.self)
-    c.extend.new.cursor c.in_ok-extend.field-0 (rw inv.section at c.in_ok-extend.ensures.table)
-    c.if-branch.true in
-    rw (turn.0.read.bytes_are, inv.so_far.read.bytes_are) (omega (arith, turn.1, turn.2))
+    let turn = turn-item c.args.budget inv.so_far
+    (full_declarations c.args.lists.now c.extend.new.self) c.extend.new.cursor
+    (rw (c.if-branch.true, inv.section) at c.in_ok-extend.ensures.table) in
+    rw (turn.0.bytes_are, inv.so_far.bytes_are) (omega (arith, turn.1, turn.2))
 
 pub loop-table-preserved : goal.loop-table-preserved
 loop-table-preserved c =
     let inv = c.loop-table.invariant in
-    let turn = turn-item inv.so_far (full_declarations c.args.lists.now c.extend.new.self)
-    c.extend.new.cursor c.in_ok-extend.field-0 (rw inv.section at c.in_ok-extend.ensures.table)
-    c.if-branch.true in
+    let turn = turn-item c.args.budget inv.so_far
+    (full_declarations c.args.lists.now c.extend.new.self) c.extend.new.cursor
+    (rw (c.if-branch.true, inv.section) at c.in_ok-extend.ensures.table) in
     record {
       section = c.in_ok-extend.ensures.section ∙ inv.section;
-      few = omega (
-        arith,
-        turn.0.few,
-        length-map c.extend.new.self (full_declaration c.args.lists.now),
-      );
       so_far = turn.0;
       shared = rw inv.section at c.in_ok-extend.ensures.shared;
     }
@@ -32,5 +27,13 @@ loop-table-preserved c =
 pub returns-clause-table : goal.returns-clause-table
 returns-clause-table c =
     let inv = c.loop-table.invariant in
-    turn_end inv.so_far (full_declarations c.args.lists.now c.extend.new.self) c.extend.new.cursor
-    c.in_ok-extend.field-0 (rw inv.section at c.in_ok-extend.ensures.table) c.if-branch.false
+    (turn_end c.args.budget inv.so_far (full_declarations c.args.lists.now c.extend.new.self)
+    c.extend.new.cursor (rw (c.if-branch.false, inv.section) at c.in_ok-extend.ensures.table)).0
+
+pub returns-clause-few : goal.returns-clause-few
+returns-clause-few c =
+    let inv = c.loop-table.invariant in
+    let end = turn_end c.args.budget inv.so_far
+    (full_declarations c.args.lists.now c.extend.new.self) c.extend.new.cursor
+    (rw (c.if-branch.false, inv.section) at c.in_ok-extend.ensures.table) in
+    omega (arith, end.1, length-map c.extend.new.self (full_declaration c.args.lists.now))

@@ -1,14 +1,14 @@
-use Rattle.std.proofs.Common.{◌≡◌, ◌-◌, ◌≤◌, length}
-use Rattle.dwarf_forms.proofs.TableTurns.{TableSoFar}
+use Rattle.std.proofs.Common.{◌≡◌, ◌-◌, length}
+use Rattle.dwarf_forms.specs.Tables.{declaration_at}
+use Rattle.dwarf_forms.proofs.Loops.{ItemsSoFar}
 use Rattle.abbreviation_memo.specs.Declarations.{AreShared, full_declarations}
 use Rattle.abbreviation_memo.proofs.abbreviation_table.AbbreviationTable.parse.Given as goal
 
 abbrev pub invariant-loop-table : goal.invariant-loop-table
 invariant-loop-table l = record {
   section : l.lists ≡ l.fn.lists;
-  few : length l.table ≤ l.fn.budget;
-  so_far : TableSoFar l.fn.budget l.fn.offset l.fn.lists (full_declarations l.fn.lists l.table)
-      l.cursor;
+  so_far : ItemsSoFar (declaration_at l.fn.budget) l.fn.offset l.fn.lists
+      (full_declarations l.fn.lists l.table) l.cursor;
   shared : AreShared l.fn.lists l.table;
 }
 
