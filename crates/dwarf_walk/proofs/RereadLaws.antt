@@ -2,7 +2,7 @@
 use Rattle.std.proofs.Common.{◌≡◌, ℕ, ◌≤◌, List, length, true, refl}
 use Rattle.std.proofs.Common.{◌==◌, if◌then◌else◌}
 use Rattle.std.proofs.Common.{arith}
-use Rattle.std.specs.Prelude.{Option, Result, Ok}
+use Rattle.std.specs.Prelude.{Option, Result, Ok, Some}
 use Rattle.std.proofs.lemmas.Bool.{le-ltb}
 use Rattle.dwarf_bytes.specs.declared.fault.Cause.{Cause}
 use Rattle.dwarf_bytes.specs.declared.fault.Cause.TheVariants as causes
@@ -13,7 +13,10 @@ use Rattle.dwarf_forms.specs.Declarations.{Declaration}
 use Rattle.dwarf_units.specs.declared.attributes.Attribute.{Attribute}
 use Rattle.dwarf_units.specs.Entries.{entry_at}
 use Rattle.dwarf_units.specs.Private.StoredAttributes.{stored_attributes}
+use Rattle.dwarf_units.specs.declared.unit_headers.UnitHeader.{UnitHeader}
 use Rattle.dwarf_walk.specs.declared.long_entries.LongEntry.{LongEntry}
+use Rattle.dwarf_walk.specs.declared.unit_entries.NamedEntry.{NamedEntry}
+use Rattle.dwarf_walk.specs.Private.Long.{long_entry}
 use Rattle.dwarf_walk.specs.Private.Named.{used_at}
 
 -- ---- the used attributes
@@ -29,15 +32,11 @@ inside-is format table unit offset within = rw (le-ltb (length unit) offset with
 
 -- ---- the cached entries
 
--- The inserted entry.
-pub put-there : (at offset : ℕ) (new there elsewhere : Option LongEntry)
-    → new ≡ (if at == offset then there else elsewhere) → at ≡ offset → new ≡ there
-put-there at offset new there elsewhere put is = grind arith
-
--- All other entries are unchanged.
-pub put-elsewhere : (at offset : ℕ) (new there elsewhere : Option LongEntry)
-    → new ≡ (if at == offset then there else elsewhere) → (at ≡ offset → ⊥) → new ≡ elsewhere
-put-elsewhere at offset new there elsewhere put other = grind arith
+-- An entry that is cached as it was read is cached as any read of it.
+pub cached-again : (header : UnitHeader) (read entry : NamedEntry) (r : Result NamedEntry Cause)
+    (cached : Option LongEntry) → cached ≡ Some (long_entry header read) → r ≡ Ok read
+    → r ≡ Ok entry → cached ≡ Some (long_entry header entry)
+cached-again header read entry r cached is first second = grind arith
 
 -- ---- allocation failures
 

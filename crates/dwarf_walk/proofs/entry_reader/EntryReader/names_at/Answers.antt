@@ -1,9 +1,6 @@
-use Rattle.std.proofs.Common.{inl, ap, sym, ◌∙◌, refl}
-use Rattle.std.specs.Prelude.{Some}
-use Rattle.dwarf_bytes.proofs.Numbers.Moves.{same-ok}
-use Rattle.dwarf_walk.specs.declared.unit_entries.NamedEntry.{NamedEntry}
+use Rattle.std.proofs.Common.{inl, arith}
 use Rattle.dwarf_walk.specs.Private.Long.{long_entry}
-use Rattle.dwarf_walk.proofs.RereadLaws.{put-there}
+use Rattle.dwarf_walk.proofs.RereadLaws.{cached-again}
 use Rattle.dwarf_walk.proofs.entry_reader.EntryReader.names_at.Goals as goal
 
 pub returns-in-Some-clause-names_at : goal.returns-in-Some-clause-names_at
@@ -31,13 +28,9 @@ returns-in_ok-cache_names-clause-reader c s reader =
 
 pub returns-in-Some-clause-holds : goal.returns-in-Some-clause-holds
 returns-in-Some-clause-holds c s table reader is from below marked =
-    let header = c.args.header.now in
-    inl (λ other entry other_is names_at.
+    inl (λ other entry other_is names_at. cached-again c.args.header.now c.in-Some.entry entry _ _
     c.in-Some.ensures.some
-    ∙ ap (λ (e : NamedEntry). Some (long_entry header e))
-    (same-ok c.in-Some.entry entry (sym
-    (reader.long c.args.offset (long_entry header c.in-Some.entry) c.in-Some.ensures.some other
-    other_is) ∙ names_at)))
+    (reader.long c.args.offset _ c.in-Some.ensures.some other other_is) names_at)
 
 pub returns-in_ok-cache_unit-clause-holds : goal.returns-in_ok-cache_unit-clause-holds
 returns-in_ok-cache_unit-clause-holds c s table reader is from below marked =
@@ -47,9 +40,6 @@ returns-in_ok-cache_unit-clause-holds c s table reader is from below marked =
 
 pub returns-in_ok-cache_names-clause-holds : goal.returns-in_ok-cache_names-clause-holds
 returns-in_ok-cache_names-clause-holds c s table reader is from below marked =
-    inl (λ other entry other_is names_at.
-    put-there c.args.offset c.args.offset _ _ _ (c.in_ok-cache_names.ensures.cached c.args.offset)
-    refl
-    ∙ ap (λ (e : NamedEntry). Some (long_entry c.args.header.now e))
-    (same-ok c.in_ok-entry.entry entry
-    (sym (c.in_ok-entry.ensures.names_at s other reader other_is) ∙ names_at)))
+    inl (λ other entry other_is names_at. cached-again c.args.header.now c.in_ok-entry.entry entry
+    _ _ (grind (arith, c.in_ok-cache_names.ensures.cached c.args.offset))
+    (c.in_ok-entry.ensures.names_at s other reader other_is) names_at)
