@@ -87,16 +87,16 @@ starts-at section place (Some x) rest is read = by_list (list_at section place) 
     by_list [] list listed = cc
     by_list (y ∷ ys) list listed =
         let same = same-item x y rest listed.0 (sym read ∙ listed.1) in
-        let others : attributes_at section listed.0 ≡ Ok (ys, is.0) =
-        attributes-ok section listed.0 (ys, is.0)
+        let others : attributes_at section rest ≡ Ok (ys, is.0) =
+        attributes-ok section rest (ys, is.0)
         (items_from-Lists (length section) (attribute_at section) (attribute_at-advances section)
-        [] listed.0 ys is.0 (lists-alone section (y ∷ []) [] listed.0 ys is.0 listed.2)) in
-        let read_again = list-read section listed.0 ys is.0 others in
+        [] rest ys is.0 (lists-alone section (y ∷ []) [] rest ys is.0 (rw (← same.1) at listed.2)))
+        in
         record {
-          list = rw (list, same.0, same.1, read_again) refl;
+          list = rw (list, ← same.0, others) refl;
           after = (
             (attribute_at-advances section [] place x rest read).0,
-            (is.0, rw (same.1, read_again) others),
+            (is.0, rw others refl),
           );
         }
 

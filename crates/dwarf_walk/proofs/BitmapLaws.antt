@@ -14,9 +14,6 @@ use Rattle.dwarf_walk.specs.declared.entry_bitmap.EntryBitmap.{EntryBitmap}
 abbrev pub has : List ℕ → ℕ → Bool
 has words k = bit_at (get_or words (k / 64) 0) (k % 64) == 1
 
-or-none : (b : Bool) → b ≡ (b || false)
-or-none b = grind arith
-
 -- A bit that is set, or 0 that is added to its word.
 pub adds_bit : (words : List ℕ) (k v j : ℕ) (is_entry : Bool) → k / 64 < length words
     → v ≡ bit_or (get_or words (k / 64) 0) (from_bool is_entry * 2 ^ (k % 64) % 2 ^ 64)
@@ -39,7 +36,7 @@ adds_bit words k v j is_entry lt is =
 -- ---- setting bits
 
 pub adds-none : (bitmap : EntryBitmap) → AddsOffsets bitmap bitmap []
-adds-none bitmap at = or-none (has_entry bitmap at)
+adds-none bitmap at = grind arith
 
 pub adds-more : (old mid new : EntryBitmap) (xs ys : List ℕ) → AddsOffsets old mid xs
     → AddsOffsets mid new ys
