@@ -23,39 +23,29 @@ use Rattle.dwarf_bytes.proofs.Numbers.AtOffsets.{fixed-encoded, fixed-again}
 
 -- ---- numbers, constants and bytes
 
-pub uleb-read : {section : List ℕ} {at value next : ℕ} → reading (uleb_at section at)
-    ≡ Ok (value, next) → IsEncodedAt IsUleb section at value next
-uleb-read {section = section} {at = at} {value = value} {next = next} h =
-    uleb-encoded section at value next (reading-ok (uleb_at section at) (value, next) h)
+pub uleb-decoded : {section : List ℕ} {at value next : ℕ}
+    → (reading (uleb_at section at) ≡ Ok (value, next)) ↔ IsEncodedAt IsUleb section at value next
+uleb-decoded {section} {at} {value} {next} = (
+  λ h. uleb-encoded section at value next (reading-ok _ (value, next) h),
+  λ s. rw (uleb-again section at value next s) refl,
+)
 
-pub uleb-reads : {section : List ℕ} {at value next : ℕ} → IsEncodedAt IsUleb section at value next
-    → reading (uleb_at section at) ≡ Ok (value, next)
-uleb-reads {section = section} {at = at} {value = value} {next = next} s =
-    rw (uleb-again section at value next s) refl
-
-pub unlike : (a b : ℕ) → a ≢ b → (a == b) ≡ false
-unlike a b h = grind arith
-
-constant-encoded : (form : ℕ) (section : List ℕ) (at : ℕ) (constant : Option ℤ) (next : ℕ)
-    → constant_at form section at ≡ Ok (constant, next)
-    → IsEncodedAt (EncodesConstant form) section at constant next
-constant-encoded form section at None next h =
-    let parts : (form ≢ DW_FORM_IMPLICIT_CONST) × (at ≡ next) = grind (arith, h) in
-    rw (← parts.1) (encoded (parts.0, refl) nothing)
-constant-encoded form section at (Some c) next h =
-    let parts : (form ≡ DW_FORM_IMPLICIT_CONST) × (sleb_at section at ≡ Ok (c, next)) =
-    grind (arith, h) in
-    let s = sleb-encoded section at c next parts.1 in
-    again s (parts.0, s.encoded)
-
-constant-reads : (form : ℕ) (section : List ℕ) (at : ℕ) (constant : Option ℤ) (next : ℕ)
-    → IsEncodedAt (EncodesConstant form) section at constant next → constant_at form section at
-    ≡ Ok (constant, next)
-constant-reads form section at None next s = grind (arith, s.encoded, s.next_is)
-constant-reads form section at (Some c) next s = rw (
-  eq-eqb form DW_FORM_IMPLICIT_CONST s.encoded.0,
-  sleb-again section at c next (again s s.encoded.1),
-) refl
+constant-decoded : {form : ℕ} {section : List ℕ} {at : ℕ} (constant : Option ℤ) {next : ℕ}
+    → (constant_at form section at ≡ Ok (constant, next))
+    ↔ IsEncodedAt (EncodesConstant form) section at constant next
+constant-decoded {form} {section} {at} None {next} = (
+  λ h. let parts : (form ≢ DW_FORM_IMPLICIT_CONST) × (at ≡ next) = grind (arith, h) in
+      rw (← parts.1) (encoded (parts.0, refl) nothing),
+  λ s. grind (arith, s.encoded, s.next_is),
+)
+constant-decoded {form} {section} {at} (Some c) {next} = (
+  λ h. let parts : (form ≡ DW_FORM_IMPLICIT_CONST) × (sleb_at section at ≡ Ok (c, next)) =
+      grind (arith, h) in
+      let s = sleb-encoded section at c next parts.1 in
+      again s (parts.0, s.encoded),
+  λ s. let read = sleb-again section at c next (again s s.encoded.1) in
+      grind (arith, s.encoded.0, read),
+)
 
 one_byte : (block : List ℕ) (value : ℕ) → length block ≡ 1 → value ≡ little_endian block
     → block ≡ value ∷ []
@@ -63,18 +53,15 @@ one_byte [] value len is = absurd (omega arith)
 one_byte (b ∷ []) value len is = grind arith
 one_byte (b ∷ c ∷ bs) value len is = absurd (omega arith)
 
-pub byte-encoded : (section : List ℕ) (at byte next : ℕ)
-    → reading (u8_at section at) ≡ Ok (byte, next) → StandsAt section at (byte ∷ []) next
-byte-encoded section at byte next h =
-    let s = fixed-encoded 1 section at byte next (reading-ok (u8_at section at) (byte, next) h) in
-    rw (← one_byte s.front byte s.encoded.0 s.encoded.1) (stands s)
-
-pub byte-reads : (section : List ℕ) (at byte next : ℕ) → StandsAt section at (byte ∷ []) next
-    → reading (u8_at section at) ≡ Ok (byte, next)
-byte-reads section at byte next s =
-    let within = front-within section at (byte ∷ []) s.rest s.parts (omega arith) in
-    let value : byte ≡ little_endian (byte ∷ []) = omega arith in
-    rw (fixed-again 1 section at byte next within (encoded (refl, value) s)) refl
+pub byte-decoded : {section : List ℕ} {at byte next : ℕ}
+    → (reading (u8_at section at) ≡ Ok (byte, next)) ↔ StandsAt section at (byte ∷ []) next
+byte-decoded {section} {at} {byte} {next} = (
+  λ h. let s = fixed-encoded 1 section at byte next (reading-ok _ (byte, next) h) in
+      rw (← one_byte s.front byte s.encoded.0 s.encoded.1) (stands s),
+  λ s. let within = front-within section at (byte ∷ []) s.rest s.parts (omega arith) in
+      let value : byte ≡ little_endian (byte ∷ []) = omega arith in
+      rw (fixed-again 1 section at byte next within (encoded (refl, value) s)) refl,
+)
 
 -- ---- attributes
 
@@ -85,9 +72,9 @@ attribute-decoded : (section : List ℕ)
 attribute-decoded section = record {
   item = λ before at x next good. (
     λ h. let f = found section before at (Item x next) h in
-        let name = uleb-read f.0.2 in
-        let form = uleb-read f.0.3 in
-        let constant = constant-encoded x.form section f.0.1 x.constant next f.0.4 in (
+        let name = uleb-decoded.0 f.0.2 in
+        let form = uleb-decoded.0 f.0.3 in
+        let constant = (constant-decoded x.constant).0 f.0.4 in (
           encoded (record {
             name = name.front;
             form = form.front;
@@ -102,17 +89,16 @@ attribute-decoded section = record {
     λ s. let e = s.0.encoded in
         let parts = parted (e.name ++ e.form) e.constant e.whole (stands s.0) in
         let numbers = parted e.name e.form refl parts.0 in
-        let constant = constant-reads x.form section (at + length (e.name ++ e.form)) x.constant
-        next (encoded e.constant_is parts.1) in
-        let name = uleb-reads (encoded e.name_is numbers.0) in
-        let form = uleb-reads (encoded e.form_is numbers.1) in
+        let constant = (constant-decoded x.constant).1 (encoded e.constant_is parts.1) in
+        let name = uleb-decoded.1 (encoded e.name_is numbers.0) in
+        let form = uleb-decoded.1 (encoded e.form_is numbers.1) in
         found-again section before at (Item x next)
         ((_, _, name, form, constant), last-new IsUsable name_of before x s.1),
   );
   end = λ before at next. (
     λ h. let f = found section before at (End next) h in
-        let name = uleb-read f.1 in
-        let form = uleb-read f.2 in
+        let name = uleb-decoded.0 f.1 in
+        let form = uleb-decoded.0 f.2 in
         both name form (record {
           name = name.front;
           form = form.front;
@@ -123,7 +109,7 @@ attribute-decoded section = record {
     λ s. let e = s.encoded in
         let parts = parted e.name e.form e.whole (stands s) in
         found-again section before at (End next)
-        (_, uleb-reads (encoded e.name_is parts.0), uleb-reads (encoded e.form_is parts.1)),
+        (_, uleb-decoded.1 (encoded e.name_is parts.0), uleb-decoded.1 (encoded e.form_is parts.1)),
   );
   none = distinct-none IsUsable name_of;
   prefix = distinct-front IsUsable name_of;

@@ -6,8 +6,7 @@ use Rattle.dwarf_bytes.specs.Items.{Item, reading}
 use Rattle.dwarf_forms.specs.Declarations.{Declaration, EncodesDeclaration, EncodesTable}
 use Rattle.dwarf_forms.specs.Declarations.{IsValid, AreValid}
 use Rattle.dwarf_forms.specs.Tables.{declaration_at, table_at}
-use Rattle.dwarf_forms.proofs.AttributeEncodings.{uleb-read, uleb-reads, attributes-decoded}
-use Rattle.dwarf_forms.proofs.AttributeEncodings.{byte-encoded, byte-reads}
+use Rattle.dwarf_forms.proofs.AttributeEncodings.{uleb-decoded, attributes-decoded, byte-decoded}
 use Rattle.dwarf_forms.proofs.Encodings.{stands, encoded, again, both, joined, parted, IsDecoded, list-decoded}
 use Rattle.dwarf_forms.proofs.ListEncodings.{AreDistinct, distinct-none, distinct-push, last-new}
 use Rattle.dwarf_forms.proofs.ListEncodings.{distinct-front}
@@ -31,9 +30,9 @@ declaration-encoded : (budget : ℕ) (section : List ℕ) (before : List Declara
 declaration-encoded budget section before at x next good h =
     let fits = declaration-fits budget section before at x next h in
     let f = declaration-found budget section before at x next h in
-    let code = uleb-read f.3 in
-    let tag = uleb-read f.4 in
-    let children = byte-encoded section f.1 (if x.children then 1 else 0) f.2 f.5 in
+    let code = uleb-decoded.0 f.3 in
+    let tag = uleb-decoded.0 f.4 in
+    let children = byte-decoded.0 f.5 in
     let all = (attributes-decoded section f.2 x.attributes next).0 f.6 in
     let attributes = all.0.1 in
     let end = all.0.2 in
@@ -86,9 +85,9 @@ declaration-reads budget section before at x next s good =
       _,
       _,
       _,
-      uleb-reads (encoded e.code_is numbers.0),
-      uleb-reads (encoded e.tag_is numbers.1),
-      byte-reads section _ flag _ flagged.0,
+      uleb-decoded.1 (encoded e.code_is numbers.0),
+      uleb-decoded.1 (encoded e.tag_is numbers.1),
+      byte-decoded.1 flagged.0,
       attributes,
     )
 
@@ -102,9 +101,9 @@ declaration-decoded budget section = record {
   );
   end = λ before at next. (
     λ h. let zero : reading (uleb_at section at) ≡ Ok (0, next) = grind (arith, h) in
-        let s = uleb-read zero in
+        let s = uleb-decoded.0 zero in
         again s s.encoded,
-    λ s. rw (uleb-reads {value = 0} (again s s.encoded)) refl,
+    λ s. rw (uleb-decoded.1 (again s s.encoded)) refl,
   );
   none = (distinct-none IsValid code_of, omega arith);
   prefix = λ xs ys good. (

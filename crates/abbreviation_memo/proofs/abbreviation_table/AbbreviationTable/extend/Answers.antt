@@ -1,15 +1,12 @@
 use Rattle.std.proofs.Common.{◌≡◌, ℕ, List, [], ◌∷◌, map, refl, ap, ◌∙◌}
 use Rattle.std.proofs.lemmas.List.{map-append}
+use Rattle.std.proofs.lemmas.Simd.{map-map}
+use Rattle.dwarf_forms.specs.Declarations.{Declaration}
 use Rattle.std.proofs.lemmas.List.Elements.{All-push}
 use Rattle.dwarf_forms.specs.Tables.{codes_of}
 use Rattle.abbreviation_memo.specs.Declarations.{IsShared, SharedDeclaration, full_declaration}
 use Rattle.abbreviation_memo.specs.Declarations.{full_declarations}
 use Rattle.abbreviation_memo.proofs.abbreviation_table.AbbreviationTable.extend.Goals as goal
-
-codes-same : (section : List ℕ) (table : List SharedDeclaration)
-    → codes_of (full_declarations section table) ≡ map (λ declaration. declaration.code) table
-codes-same section [] = refl
-codes-same section (d ∷ ds) = ap (λ (cs : List ℕ). d.code ∷ cs) (codes-same section ds)
 
 pub returns-clause-table : goal.returns-clause-table
 returns-clause-table c =
@@ -17,7 +14,12 @@ returns-clause-table c =
     let head = rw c.in-Some.is at c.in_ok-head.ensures.reads in
     let read = rw head.1 at c.in_ok-list.ensures.reads in (
       full_declaration section c.new.result,
-      rw (codes-same section c.args.self.now, head.0, read, c.new.ensures) refl,
+      rw (
+        map-map (λ (d : Declaration). d.code) (full_declaration section) c.args.self.now,
+        head.0,
+        read,
+        c.new.ensures,
+      ) refl,
       rw c.in_ok-push.ensures.ok
           (map-append (full_declaration section) c.args.self.now (c.new.result ∷ [])),
       c.in_ok-list.ensures.bytes ∙ head.1,
