@@ -1,14 +1,14 @@
 -- Attribute lists by their first attributes and the rest.
 use Rattle.std.proofs.Common.{◌≡◌, ℕ, ◌<◌, ◌≤◌, List, [], ◌∷◌, ◌++◌, length, false, refl, ap, sym}
-use Rattle.std.proofs.Common.{Result, ◌∙◌, arith, append_assoc, Option, Some, None, IfSome, Ok, Err}
+use Rattle.std.proofs.Common.{◌∙◌, arith, append_assoc, Option, Some, None, IfSome, Ok, Err}
 use Rattle.std.proofs.Common.{◌==◌}
 use Rattle.std.specs.List.{list_any}
 use Rattle.std.proofs.lemmas.List.Folds.{list_any-append}
 use Rattle.dwarf_bytes.specs.declared.fault.Cause.{Cause}
-use Rattle.dwarf_bytes.specs.Items.{At, Item, End, Lists, items_from, without_offset}
+use Rattle.dwarf_bytes.specs.Items.{Item, End, Lists, items_from, without_offset}
 use Rattle.dwarf_bytes.specs.Position.{Position}
 use Rattle.dwarf_bytes.specs.Refusals.{ReadsNext}
-use Rattle.dwarf_bytes.proofs.Items.ItemLaws.{first_step, put_front, items_from-step}
+use Rattle.dwarf_bytes.proofs.Items.ItemLaws.{first_step, items_from-step}
 use Rattle.dwarf_bytes.proofs.Items.ItemLaws.{items_from-Lists}
 use Rattle.dwarf_bytes.proofs.Items.Turns.{so-far-none, so-far-item}
 use Rattle.dwarf_bytes.proofs.Numbers.Moves.{same-item}

@@ -1,8 +1,8 @@
 -- Attributes, and the attributes of a declaration, are read if and only if they are encoded and
 -- valid.
-use Rattle.std.proofs.Common.{◌≡◌, ◌≢◌, ℕ, ℤ, List, [], ◌++◌, length, refl, arith, eq-eqb, false}
-use Rattle.std.proofs.Common.{Option, Some, None, Ok, ◌==◌, ◌∷◌}
-use Rattle.std.proofs.Common.{◌+◌, ◌↔◌}
+use Rattle.std.proofs.Common.{◌≡◌, ◌≢◌, ℕ, ℤ, List, [], ◌++◌, length, refl, arith}
+use Rattle.std.proofs.Common.{Option, Some, None, Ok, ◌∷◌}
+use Rattle.std.proofs.Common.{◌↔◌}
 use Rattle.dwarf_bytes.specs.declared.constants.TheConstants.{DW_FORM_IMPLICIT_CONST}
 use Rattle.dwarf_bytes.specs.Numbers.{IsEncodedAt, IsUleb, uleb_at, sleb_at, u8_at, little_endian}
 use Rattle.dwarf_bytes.specs.Items.{Item, End, reading}

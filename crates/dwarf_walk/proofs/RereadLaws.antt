@@ -1,6 +1,5 @@
 -- Entries that are read at their offsets, and cached entries.
 use Rattle.std.proofs.Common.{◌≡◌, ℕ, ◌≤◌, List, length, true, refl}
-use Rattle.std.proofs.Common.{◌==◌, if◌then◌else◌}
 use Rattle.std.proofs.Common.{arith}
 use Rattle.std.specs.Prelude.{Option, Result, Ok, Some}
 use Rattle.std.proofs.lemmas.Bool.{le-ltb}

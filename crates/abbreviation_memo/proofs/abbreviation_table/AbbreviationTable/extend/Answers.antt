@@ -1,11 +1,9 @@
-use Rattle.std.proofs.Common.{◌≡◌, ℕ, List, [], ◌∷◌, map, refl, ap, ◌∙◌}
+use Rattle.std.proofs.Common.{[], ◌∷◌, refl, ◌∙◌}
 use Rattle.std.proofs.lemmas.List.{map-append}
 use Rattle.std.proofs.lemmas.Simd.{map-map}
 use Rattle.dwarf_forms.specs.Declarations.{Declaration}
 use Rattle.std.proofs.lemmas.List.Elements.{All-push}
-use Rattle.dwarf_forms.specs.Tables.{codes_of}
 use Rattle.abbreviation_memo.specs.Declarations.{IsShared, SharedDeclaration, full_declaration}
-use Rattle.abbreviation_memo.specs.Declarations.{full_declarations}
 use Rattle.abbreviation_memo.proofs.abbreviation_table.AbbreviationTable.extend.Goals as goal
 
 pub returns-clause-table : goal.returns-clause-table
