@@ -1,23 +1,18 @@
 -- Attribute lists by their first attributes and the rest.
-use Rattle.std.proofs.Common.{◌≡◌, ℕ, ◌<◌, ◌≤◌, List, [], ◌∷◌, ◌++◌, length, false, refl, ap, sym}
-use Rattle.std.proofs.Common.{◌∙◌, arith, append_assoc, Option, Some, None, IfSome, Ok, Err}
-use Rattle.std.proofs.Common.{◌==◌}
-use Rattle.std.specs.List.{list_any}
-use Rattle.std.proofs.lemmas.List.Folds.{list_any-append}
-use Rattle.dwarf_bytes.specs.declared.fault.Cause.{Cause}
-use Rattle.dwarf_bytes.specs.Items.{Item, End, Lists, items_from, without_offset}
-use Rattle.dwarf_bytes.specs.Position.{Position}
-use Rattle.dwarf_bytes.specs.Refusals.{ReadsNext}
-use Rattle.dwarf_bytes.proofs.Items.ItemLaws.{first_step, items_from-step}
-use Rattle.dwarf_bytes.proofs.Items.ItemLaws.{items_from-Lists}
-use Rattle.dwarf_bytes.proofs.Items.Turns.{so-far-none, so-far-item}
-use Rattle.dwarf_bytes.proofs.Numbers.Moves.{same-item}
-use Rattle.dwarf_forms.specs.declared.attribute.AttributeSpecification.{AttributeSpecification}
-use Rattle.dwarf_forms.specs.Tables.{attribute_at, attributes_at}
-use Rattle.dwarf_forms.proofs.Moves.{attribute_at-advances, attribute_at-ends, attributes_at-lists}
-use Rattle.dwarf_forms.proofs.Moves.{attributes_at-moves, attributes-ok, found}
-use Rattle.dwarf_forms.proofs.SuffixLists.{attribute-again, end-again, named, list-continues}
 use Rattle.abbreviation_memo.specs.Lists.{IsListAt, first_of, list_at, list_from, listed}
+use Rattle.dwarf_bytes.proofs.Items.ItemLaws.{first_step, items_from-Lists, items_from-step}
+use Rattle.dwarf_bytes.proofs.{Items.Turns.{so-far-item, so-far-none}, Numbers.Moves.same-item}
+use Rattle.dwarf_bytes.specs.Items.{End, Item, Lists, items_from, without_offset}
+use Rattle.dwarf_bytes.specs.{Position.Position, Refusals.ReadsNext, declared.fault.Cause.Cause}
+use Rattle.dwarf_forms.proofs.Moves.{attribute_at-advances, attribute_at-ends, attributes-ok}
+use Rattle.dwarf_forms.proofs.Moves.{attributes_at-lists, attributes_at-moves, found}
+use Rattle.dwarf_forms.proofs.SuffixLists.{attribute-again, end-again, list-continues, named}
+use Rattle.dwarf_forms.specs.Tables.{attribute_at, attributes_at}
+use Rattle.dwarf_forms.specs.declared.attribute.AttributeSpecification.{AttributeSpecification}
+use Rattle.std.proofs.Common.{Err, IfSome, List, None, Ok, Option, Some, [], ap, append_assoc}
+use Rattle.std.proofs.Common.{arith, false, length, refl, sym, ℕ, ◌++◌, ◌<◌, ◌==◌, ◌∙◌, ◌∷◌, ◌≡◌}
+use Rattle.std.proofs.{Common.◌≤◌, lemmas.List.Folds.list_any-append}
+use Rattle.std.specs.List.{list_any}
 
 pub list-read : (section : List ℕ) (at : ℕ) (xs : List AttributeSpecification) (after : ℕ)
     → attributes_at section at ≡ Ok (xs, after) → list_at section at ≡ xs

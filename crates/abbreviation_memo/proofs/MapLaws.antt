@@ -1,9 +1,7 @@
 -- A property of all entries of a map.
-use Rattle.std.proofs.Common.{◌≡◌, ℕ, [], cond, ap, sym, ◌∙◌, arith, Some}
-use Rattle.std.specs.Ordering.{nat_cmp}
-use Rattle.std.specs.BTreeMap.{BTreeMap, get, is_at}
-use Rattle.std.specs.Map.{lookup}
+use Rattle.std.proofs.Common.{Some, [], ap, arith, cond, sym, ℕ, ◌∙◌, ◌≡◌}
 use Rattle.std.proofs.lemmas.Grind.{common_steps}
+use Rattle.std.specs.{BTreeMap.{BTreeMap, get, is_at}, Map.lookup, Ordering.nat_cmp}
 
 abbrev pub AllEntries : {V : Type 0} → (ℕ → V → Type 0) → BTreeMap ℕ V → Type 0
 AllEntries P entries = (key : ℕ) (value : _) → get nat_cmp entries key ≡ Some value → P key value

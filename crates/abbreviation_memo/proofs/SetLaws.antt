@@ -1,15 +1,13 @@
 -- Sets of names while nodes are added.
-use Rattle.std.proofs.Common.{◌≡◌, ◌≢◌, ℕ, ◌/◌, ◌%◌, ◌<◌, List, [], ◌∷◌, ◌++◌, length, reverse}
-use Rattle.std.proofs.Common.{false, refl, ap, ◌∙◌, arith, length-append, ◌==◌, ◌||◌}
-use Rattle.std.specs.Int.Digits.{digits_of}
-use Rattle.std.proofs.Math.ListN.{get_or-append}
-use Rattle.std.proofs.Math.Seq.{get_or-append_seam}
-use Rattle.std.proofs.lemmas.Int.Digits.{digits_of_step}
-use Rattle.std.proofs.lemmas.List.{reverse-append, get_or_past}
-use Rattle.std.proofs.lemmas.Option.{slice_get_within}
-use Rattle.abbreviation_memo.specs.declared.name_sets.Branch.{Branch}
 use Rattle.abbreviation_memo.specs.Private.NameSets.{AreSets, IsWithin, SetsStay, branch_along}
 use Rattle.abbreviation_memo.specs.Private.NameSets.{branch_at, is_in, no_names, side}
+use Rattle.abbreviation_memo.specs.declared.name_sets.Branch.{Branch}
+use Rattle.std.proofs.Common.{List, [], ap, arith, false, length, length-append, refl, reverse, ℕ}
+use Rattle.std.proofs.Common.{◌%◌, ◌++◌, ◌/◌, ◌<◌, ◌==◌, ◌||◌, ◌∙◌, ◌∷◌, ◌≡◌, ◌≢◌}
+use Rattle.std.proofs.{Math.ListN.get_or-append, Math.Seq.get_or-append_seam}
+use Rattle.std.proofs.{lemmas.Int.Digits.digits_of_step, lemmas.List.{get_or_past, reverse-append}}
+use Rattle.std.proofs.lemmas.Option.{slice_get_within}
+use Rattle.std.specs.Int.Digits.{digits_of}
 
 -- ---- a name by its bits
 

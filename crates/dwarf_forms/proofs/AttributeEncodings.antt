@@ -1,25 +1,22 @@
 -- Attributes, and the attributes of a declaration, are read if and only if they are encoded and
 -- valid.
-use Rattle.std.proofs.Common.{◌≡◌, ◌≢◌, ℕ, ℤ, List, [], ◌++◌, length, refl, arith}
-use Rattle.std.proofs.Common.{Option, Some, None, Ok, ◌∷◌}
-use Rattle.std.proofs.Common.{◌↔◌}
+use Rattle.dwarf_bytes.proofs.{Contents.ContentEncodings.front-within, Numbers.Advance.reading-ok}
+use Rattle.dwarf_bytes.proofs.Numbers.AtOffsets.{fixed-again, fixed-encoded}
+use Rattle.dwarf_bytes.proofs.Numbers.LebEncodings.{sleb-again, sleb-encoded, uleb-again}
+use Rattle.dwarf_bytes.proofs.Numbers.LebEncodings.{uleb-encoded}
+use Rattle.dwarf_bytes.specs.{Items.{End, Item, reading}, Numbers.{IsEncodedAt, IsUleb}}
+use Rattle.dwarf_bytes.specs.Numbers.{little_endian, sleb_at, u8_at, uleb_at}
 use Rattle.dwarf_bytes.specs.declared.constants.TheConstants.{DW_FORM_IMPLICIT_CONST}
-use Rattle.dwarf_bytes.specs.Numbers.{IsEncodedAt, IsUleb, uleb_at, sleb_at, u8_at, little_endian}
-use Rattle.dwarf_bytes.specs.Items.{Item, End, reading}
-use Rattle.dwarf_bytes.proofs.Numbers.Advance.{reading-ok}
-use Rattle.dwarf_bytes.proofs.Numbers.LebEncodings.{uleb-encoded, uleb-again, sleb-encoded}
-use Rattle.dwarf_bytes.proofs.Numbers.LebEncodings.{sleb-again}
+use Rattle.dwarf_forms.specs.Declarations.{EncodesAttribute, EncodesConstant, EndsAttributes}
+use Rattle.dwarf_forms.specs.Tables.{attribute_at, attributes_at, constant_at}
 use Rattle.dwarf_forms.specs.declared.attribute.AttributeSpecification.{AttributeSpecification}
-use Rattle.dwarf_forms.specs.Declarations.{EncodesConstant, EncodesAttribute, EndsAttributes}
-use Rattle.dwarf_forms.specs.Tables.{constant_at, attribute_at, attributes_at}
-use Rattle.dwarf_forms.proofs.Encodings.{StandsAt, stands, encoded, again, both, nothing, joined, parted}
-use Rattle.dwarf_forms.proofs.Encodings.{IsDecoded, AreEncoded, list-decoded}
-use Rattle.dwarf_forms.proofs.ListEncodings.{AreDistinct, distinct-none, distinct-push, last-new}
-use Rattle.dwarf_forms.proofs.ListEncodings.{distinct-front}
-use Rattle.dwarf_forms.proofs.Moves.{IsUsable, name_of, found, found-again, attribute_at-advances}
+use Rattle.std.proofs.Common.{List, None, Ok, Option, Some, [], arith, length, refl, ℕ, ℤ, ◌++◌}
+use Rattle.std.proofs.Common.{◌↔◌, ◌∷◌, ◌≡◌, ◌≢◌}
+use Rattle.dwarf_forms.proofs.Encodings.{AreDistinct, AreEncoded, IsDecoded, StandsAt, again, both}
+use Rattle.dwarf_forms.proofs.Encodings.{distinct-front, distinct-none, distinct-push, encoded}
+use Rattle.dwarf_forms.proofs.Encodings.{joined, last-new, list-decoded, nothing, parted, stands}
+use Rattle.dwarf_forms.proofs.Moves.{IsUsable, attribute_at-advances, found, found-again, name_of}
 use Rattle.dwarf_forms.proofs.Moves.{with-offset}
-use Rattle.dwarf_bytes.proofs.Contents.ContentEncodings.{front-within}
-use Rattle.dwarf_bytes.proofs.Numbers.AtOffsets.{fixed-encoded, fixed-again}
 
 -- ---- numbers, constants and bytes
 

@@ -1,16 +1,13 @@
 -- The index of abbreviation codes.
-use Rattle.std.proofs.Common.{◌≡◌, ◌≢◌, ◌⊎◌, ℕ, ◌+◌, ◌-◌, List, [], ◌∷◌, ◌++◌, length}
-use Rattle.std.proofs.Common.{get_or, Bool, false, cond, refl, arith, Some, position}
-use Rattle.std.proofs.Common.{is_some, AllPairs, slice_get, ◌==◌, if◌then◌else◌}
-use Rattle.std.specs.List.{list_any, position_or_len}
-use Rattle.std.specs.Ordering.{nat_cmp}
-use Rattle.std.specs.BTreeMap.{BTreeMap, get, is_at}
-use Rattle.std.proofs.lemmas.Grind.{common_steps}
-use Rattle.std.proofs.lemmas.Option.{get_or_from_slice_get, slice_get_within, slice_get-get_or}
-use Rattle.std.proofs.lemmas.List.Quantifiers.{all_pairs_push, position-Some}
-use Rattle.std.proofs.lemmas.List.Folds.{list_any_at}
-use Rattle.std.proofs.lemmas.List.Sums.{position_or_len_is}
 use Rattle.dwarf_forms.specs.Private.Codes.{AreCodes, is_code_at}
+use Rattle.std.proofs.Common.{AllPairs, Bool, List, Some, [], arith, cond, false, get_or}
+use Rattle.std.proofs.Common.{if◌then◌else◌, is_some, length, position, refl, slice_get, ℕ, ◌++◌}
+use Rattle.std.proofs.{Common.{◌+◌, ◌-◌, ◌==◌, ◌∷◌, ◌≡◌, ◌≢◌, ◌⊎◌}, lemmas.Grind.common_steps}
+use Rattle.std.proofs.{lemmas.List.Folds.list_any_at, lemmas.List.Quantifiers.all_pairs_push}
+use Rattle.std.proofs.{lemmas.List.Quantifiers.position-Some, lemmas.List.Sums.position_or_len_is}
+use Rattle.std.proofs.lemmas.Option.{get_or_from_slice_get, slice_get-get_or, slice_get_within}
+use Rattle.std.specs.{BTreeMap.{BTreeMap, get, is_at}, List.{list_any, position_or_len}}
+use Rattle.std.specs.Ordering.{nat_cmp}
 use Rattle.dwarf_forms.proofs.Elements.{at-end, at-front, at-last}
 
 abbrev pub is_code : ℕ → ℕ → Bool

@@ -1,11 +1,8 @@
 -- Lookup by index in a list.
-use Rattle.std.proofs.Common.{◌≡◌, ℕ, List, length, get_or, arith, Option, find, position, nat_lt}
-use Rattle.std.proofs.Common.{is_some, slice_get, IfSome, Bool}
-use Rattle.std.specs.Borrow.{Bor}
-use Rattle.std.specs.Option.{option_copied, option_and_then}
-use Rattle.std.specs.List.{position_or_len}
-use Rattle.std.proofs.lemmas.Option.{slice_get_past, slice_get-get_or}
-use Rattle.std.proofs.lemmas.List.Folds.{find_at}
+use Rattle.std.proofs.Common.{Bool, IfSome, List, Option, arith, find, get_or, is_some, length}
+use Rattle.std.proofs.{Common.{nat_lt, position, slice_get, ℕ, ◌≡◌}, lemmas.List.Folds.find_at}
+use Rattle.std.proofs.lemmas.Option.{slice_get-get_or, slice_get_past}
+use Rattle.std.specs.{Borrow.Bor, List.position_or_len, Option.{option_and_then, option_copied}}
 
 -- the element that a search finds is the one at the index that it finds
 pub find-place : {X : Type 0} (p : X → Bool) (xs : List X) (place : Option ℕ)

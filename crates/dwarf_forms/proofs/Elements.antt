@@ -1,10 +1,8 @@
 -- Elements of a list while elements are appended.
-use Rattle.std.proofs.Common.{◌≡◌, ◌⊎◌, inl, inr, ℕ, zero, suc, List, [], ◌∷◌, ◌++◌, length, refl}
-use Rattle.std.proofs.Common.{sym, length-append, arith, Some, slice_get, Result, Ok, Err, IfOk}
-use Rattle.std.proofs.Common.{Bool, ap, map, position, ◌||◌}
-use Rattle.std.proofs.lemmas.List.{get_or_push}
-use Rattle.std.proofs.lemmas.Option.{same_Some, slice_get_read}
-use Rattle.std.proofs.lemmas.Grind.{common_steps}
+use Rattle.std.proofs.Common.{Bool, Err, IfOk, List, Ok, Result, Some, [], ap, arith, inl, inr}
+use Rattle.std.proofs.Common.{length, length-append, map, position, refl, slice_get, suc, sym, zero}
+use Rattle.std.proofs.{Common.{ℕ, ◌++◌, ◌||◌, ◌∷◌, ◌≡◌, ◌⊎◌}, lemmas.Grind.common_steps}
+use Rattle.std.proofs.{lemmas.List.get_or_push, lemmas.Option.{same_Some, slice_get_read}}
 use Rattle.std.specs.List.{list_any}
 
 pub at-last : {X : Type 0} (xs : List X) (y z : X) (i : ℕ) → slice_get (xs ++ y ∷ []) i ≡ Some z

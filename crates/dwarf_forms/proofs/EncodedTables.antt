@@ -1,17 +1,14 @@
 -- Declarations and tables are read if and only if they are encoded and valid.
-use Rattle.std.proofs.Common.{◌≡◌, ℕ, ◌≤◌, List, [], ◌∷◌, ◌++◌, length, length-append, refl, arith}
-use Rattle.std.proofs.Common.{Ok, if◌then◌else◌, ◌↔◌}
-use Rattle.dwarf_bytes.specs.Numbers.{IsEncodedAt, IsUleb, uleb_at}
-use Rattle.dwarf_bytes.specs.Items.{Item, reading}
-use Rattle.dwarf_forms.specs.Declarations.{Declaration, EncodesDeclaration, EncodesTable}
-use Rattle.dwarf_forms.specs.Declarations.{IsValid, AreValid}
-use Rattle.dwarf_forms.specs.Tables.{declaration_at, table_at}
-use Rattle.dwarf_forms.proofs.AttributeEncodings.{uleb-decoded, attributes-decoded, byte-decoded}
-use Rattle.dwarf_forms.proofs.Encodings.{stands, encoded, again, both, joined, parted, IsDecoded, list-decoded}
-use Rattle.dwarf_forms.proofs.ListEncodings.{AreDistinct, distinct-none, distinct-push, last-new}
-use Rattle.dwarf_forms.proofs.ListEncodings.{distinct-front}
-use Rattle.dwarf_forms.proofs.Moves.{declaration_at-advances, declaration-fits}
-use Rattle.dwarf_forms.proofs.Moves.{declaration-found, declaration-again}
+use Rattle.dwarf_bytes.specs.{Items.{Item, reading}, Numbers.{IsEncodedAt, IsUleb, uleb_at}}
+use Rattle.dwarf_forms.specs.Declarations.{AreValid, Declaration, EncodesDeclaration, EncodesTable}
+use Rattle.dwarf_forms.specs.{Declarations.IsValid, Tables.{declaration_at, table_at}}
+use Rattle.std.proofs.Common.{List, Ok, [], arith, if◌then◌else◌, length, length-append, refl, ℕ}
+use Rattle.std.proofs.Common.{◌++◌, ◌↔◌, ◌∷◌, ◌≡◌, ◌≤◌}
+use Rattle.dwarf_forms.proofs.AttributeEncodings.{attributes-decoded, byte-decoded, uleb-decoded}
+use Rattle.dwarf_forms.proofs.Encodings.{AreDistinct, IsDecoded, again, both, distinct-front}
+use Rattle.dwarf_forms.proofs.Encodings.{distinct-none, distinct-push, encoded, joined, last-new}
+use Rattle.dwarf_forms.proofs.{Encodings.{list-decoded, parted, stands}, Moves.declaration-again}
+use Rattle.dwarf_forms.proofs.Moves.{declaration-fits, declaration-found, declaration_at-advances}
 
 -- ---- declarations
 

@@ -1,14 +1,17 @@
--- Encodings at offsets: bytes in sequence, and the encoding of consecutive items, in both
--- directions, for any step.
-use Rattle.std.proofs.Common.{◌≡◌, ℕ, ◌+◌, List, [], ◌∷◌, ◌++◌, length, drop, refl, ap, arith}
-use Rattle.std.proofs.Common.{append_assoc, append-nil, length-append, Result, Ok, ◌↔◌, suc, ◌-◌}
-use Rattle.std.proofs.lemmas.List.{take_at}
-use Rattle.dwarf_bytes.specs.declared.fault.Cause.{Cause}
-use Rattle.dwarf_bytes.specs.Numbers.{IsEncodedAt}
-use Rattle.dwarf_bytes.specs.Items.{Next, Item, End, Lists, Advances, items_from}
-use Rattle.dwarf_bytes.proofs.Items.ItemLaws.{Lists-within, items_from-Lists}
-use Rattle.dwarf_bytes.proofs.Contents.ContentLaws.{bytes-after}
+-- Encodings at offsets: bytes in sequence, the encoding of consecutive items in both directions, for
+-- any step, and lists of valid items with distinct keys.
+use Rattle.dwarf_bytes.proofs.{Contents.ContentLaws.bytes-after, Items.ItemLaws.Lists-within}
+use Rattle.dwarf_bytes.proofs.Items.ItemLaws.{items_from-Lists}
+use Rattle.dwarf_bytes.specs.Items.{Advances, End, Item, Lists, Next, items_from}
+use Rattle.dwarf_bytes.specs.{Numbers.IsEncodedAt, declared.fault.Cause.Cause}
 use Rattle.dwarf_forms.specs.Declarations.{EncodesEach}
+use Rattle.std.proofs.Common.{All, AllPairs, List, Ok, Result, [], ap, append-nil, append_assoc}
+use Rattle.std.proofs.Common.{arith, drop, false, length, length-append, refl, suc, ℕ, ◌++◌, ◌+◌}
+use Rattle.std.proofs.{Common.{◌-◌, ◌<◌, ◌==◌, ◌↔◌, ◌∷◌, ◌≡◌, ◌≢◌}, lemmas.List.get_or_append_left}
+use Rattle.std.proofs.{lemmas.List.{get_or_push, take_at}, lemmas.List.Elements.All-push}
+use Rattle.std.proofs.lemmas.List.Folds.{list_any_at, list_any_none}
+use Rattle.std.proofs.lemmas.List.Quantifiers.{all_pairs_push}
+use Rattle.std.specs.List.{list_any}
 
 -- the bytes at the offset start with `front`, and `next` is the offset after it
 pub record StandsAt (bytes : List ℕ) (at : ℕ) (front : List ℕ) (next : ℕ) : Type 0 where
@@ -162,3 +165,46 @@ module _ {X : Type 0} {encodes : List ℕ → X → Type 0} {ends : List ℕ →
     λ s. items_from-Lists (length bytes) step decoded.advances [] at xs next
         (encoded-listed [] at xs next s.0 s.1),
   )
+
+-- ---- lists of valid elements with distinct keys
+
+-- each element satisfies P, and its key differs from the keys before it
+abbrev pub IsNew : {X : Type 0} → (X → Type 0) → (X → ℕ) → List X → X → Type 0
+IsNew P key before x = P x × (list_any (λ y. key y == key x) before ≡ false)
+
+-- each element satisfies P, and the keys are distinct
+abbrev pub AreDistinct : {X : Type 0} → (X → Type 0) → (X → ℕ) → List X → Type 0
+AreDistinct P key xs = All P xs × AllPairs (λ x y. key x ≢ key y) xs
+
+module _ {X : Type 0} (P : X → Type 0) (key : X → ℕ) where
+  pub distinct-none : AreDistinct P key []
+  distinct-none = (λ k d within. absurd (omega arith), λ i j d lt within. absurd (omega arith))
+
+  pub distinct-push : (xs : List X) (x : X) → AreDistinct P key xs → IsNew P key xs x
+      → AreDistinct P key (xs ++ x ∷ [])
+  distinct-push xs x all new = (
+    All-push P xs x all.0 new.0,
+    all_pairs_push (λ a b. key a ≢ key b) xs x all.1 (λ k d within same. grind (
+      arith,
+      new.1,
+      list_any_at (λ (y : X). key y == key x) xs k d within,
+    )),
+  )
+
+  pub distinct-front : (xs ys : List X) → AreDistinct P key (xs ++ ys) → AreDistinct P key xs
+  distinct-front xs ys all = (
+    λ k d within. rw (get_or_append_left xs ys d k within) at (all.0 k d (omega (arith, length-append xs ys))),
+    λ i j d lt within. rw (get_or_append_left xs ys d i (omega arith), get_or_append_left xs ys d j within) at (all.1 i j d lt (omega (arith, length-append xs ys))),
+  )
+
+  pub last-new : (xs : List X) (x : X) → AreDistinct P key (xs ++ x ∷ []) → IsNew P key xs x
+  last-new xs x all =
+      let within : length xs < length (xs ++ x ∷ []) = omega (arith, length-append xs (x ∷ [])) in (
+        rw (get_or_push xs x x (length xs) refl) at (all.0 (length xs) x within),
+        list_any_none (λ (y : X). key y == key x) xs (λ k d lt. grind (
+          arith,
+          all.1 k (length xs) d lt within,
+          get_or_append_left xs (x ∷ []) d k lt,
+          get_or_push xs x d (length xs) refl,
+        )),
+      )

@@ -4,7 +4,6 @@ pub mod Loops
 pub mod Moves
 pub mod TableTurns
 pub mod Encodings
-pub mod ListEncodings
 pub mod AttributeEncodings
 pub mod SuffixLists
 pub mod Elements

@@ -1,9 +1,8 @@
 -- A loop that reads items at a cursor.
-use Rattle.std.proofs.Common.{◌≡◌, ℕ, ◌<◌, ◌≤◌, List, [], ◌∷◌, ◌++◌, length, ◌∙◌, Result, Ok, Err}
+use Rattle.dwarf_bytes.proofs.Items.Turns.{SoFar, so-far-end, so-far-fault, so-far-item}
+use Rattle.dwarf_bytes.specs.{Items.{Advances, End, Item, Next, items_from}, Position.Position}
 use Rattle.dwarf_bytes.specs.declared.fault.Cause.{Cause}
-use Rattle.dwarf_bytes.specs.Items.{Next, Item, End, Advances, items_from}
-use Rattle.dwarf_bytes.specs.Position.{Position}
-use Rattle.dwarf_bytes.proofs.Items.Turns.{SoFar, so-far-item, so-far-end, so-far-fault}
+use Rattle.std.proofs.Common.{Err, List, Ok, Result, [], length, ℕ, ◌++◌, ◌<◌, ◌∙◌, ◌∷◌, ◌≡◌, ◌≤◌}
 
 -- The items that were read from offset `first` on, and the cursor after them.
 pub record ItemsSoFar {X : Type 0} (step : List ℕ → List X → ℕ → Result (Next X) Cause)

@@ -1,24 +1,18 @@
 -- The reads of the parts of a declaration, and the number of bytes that each of them consumes.
-use Rattle.std.proofs.Common.{◌≡◌, ◌≢◌, ℕ, suc, ◌-◌, ◌≤◌, ℤ, List, [], length, false, true, arith}
-use Rattle.std.proofs.Common.{refl, Option, IsSome, is_none, Result, Ok, Err, ◌==◌, ◌&&◌, ◌||◌, ◌<◌}
-use Rattle.std.proofs.Common.{if◌then◌else◌}
-use Rattle.std.specs.List.{list_any}
-use Rattle.std.proofs.lemmas.List.{length-map}
-use Rattle.dwarf_bytes.specs.declared.fault.Cause.TheVariants as causes
-use Rattle.dwarf_bytes.specs.Numbers.{uleb_at, u8_at}
-use Rattle.dwarf_bytes.specs.Forms.{form_of}
-use Rattle.dwarf_bytes.specs.Items.{At, Next, Item, End, Advances, Lists, reading, without_offset}
-use Rattle.dwarf_bytes.specs.Items.{items_from}
-use Rattle.dwarf_bytes.proofs.Items.ItemLaws.{Lists-within}
-use Rattle.dwarf_bytes.proofs.Items.Turns.{Ends, Lists-moves}
-use Rattle.dwarf_bytes.proofs.Numbers.Advance.{after-bind, after-test, chosen, MovesOn}
-use Rattle.dwarf_bytes.proofs.Numbers.Moves.{same-ok, uleb-moves, sleb-moves, u8-moves}
+use Rattle.dwarf_bytes.proofs.{Items.ItemLaws.Lists-within, Items.Turns.{Ends, Lists-moves}}
+use Rattle.dwarf_bytes.proofs.Numbers.Advance.{MovesOn, after-bind, after-test, chosen}
+use Rattle.dwarf_bytes.proofs.Numbers.Moves.{same-ok, sleb-moves, u8-moves, uleb-moves}
+use Rattle.dwarf_bytes.specs.{Forms.form_of, Items.{Advances, At, End, Item, Lists, Next}}
+use Rattle.dwarf_bytes.specs.{Items.{items_from, reading, without_offset}, Numbers.{u8_at, uleb_at}}
+use Rattle.dwarf_forms.specs.{Declarations.Declaration, Tables.{attribute_at, attributes_at}}
+use Rattle.dwarf_forms.specs.Tables.{constant_at, declaration_at}
 use Rattle.dwarf_forms.specs.declared.attribute.AttributeSpecification.{AttributeSpecification}
-use Rattle.dwarf_forms.specs.Declarations.{Declaration}
-use Rattle.dwarf_forms.specs.Tables.{constant_at, attribute_at, attributes_at}
-use Rattle.dwarf_forms.specs.Tables.{declaration_at}
-use Rattle.dwarf_forms.proofs.Elements.{any-map}
-use Rattle.dwarf_forms.proofs.ListEncodings.{IsNew}
+use Rattle.std.proofs.Common.{Err, IsSome, List, Ok, Option, Result, [], arith, false}
+use Rattle.std.proofs.Common.{if◌then◌else◌, is_none, length, refl, suc, true, ℕ, ℤ, ◌&&◌, ◌-◌, ◌<◌}
+use Rattle.std.proofs.{Common.{◌==◌, ◌||◌, ◌≡◌, ◌≢◌, ◌≤◌}, lemmas.List.length-map}
+use Rattle.std.specs.List.{list_any}
+use Rattle.dwarf_forms.proofs.{Elements.any-map, Encodings.IsNew}
+use Rattle.dwarf_bytes.specs.declared.fault.Cause.TheVariants as causes
 
 -- the conditions on an attribute that do not depend on the ones before it
 abbrev pub IsUsable : AttributeSpecification → Type 0

@@ -1,18 +1,16 @@
 -- Attribute lists with a memoized rest.
-use Rattle.std.proofs.Common.{◌≡◌, ℕ, List, [], ◌∷◌, ◌++◌, length, Bool, true, false, refl, ◌∙◌}
-use Rattle.std.proofs.Common.{append_assoc, append-nil, arith, Result, Ok, Err, ◌==◌, ◌||◌}
-use Rattle.std.proofs.Common.{if◌then◌else◌}
-use Rattle.std.specs.List.{list_any}
-use Rattle.std.proofs.lemmas.List.Folds.{list_any-append}
+use Rattle.dwarf_bytes.proofs.{Items.ItemLaws.{first_step, items_from-step}, Items.Turns.SoFar}
+use Rattle.dwarf_bytes.specs.Items.{At, End, Item, Lists, Next, items_from, without_offset}
 use Rattle.dwarf_bytes.specs.declared.fault.Cause.{Cause}
-use Rattle.dwarf_bytes.specs.declared.fault.Cause.TheVariants as causes
-use Rattle.dwarf_bytes.specs.Items.{At, Next, Item, End, Lists, without_offset, items_from}
-use Rattle.dwarf_bytes.proofs.Items.ItemLaws.{first_step, items_from-step}
-use Rattle.dwarf_bytes.proofs.Items.Turns.{SoFar}
-use Rattle.dwarf_forms.specs.declared.attribute.AttributeSpecification.{AttributeSpecification}
 use Rattle.dwarf_forms.specs.Tables.{attribute_at, attributes_at, shares_name}
-use Rattle.dwarf_forms.proofs.Moves.{found, found-again, found-twice, attribute_at-advances}
-use Rattle.dwarf_forms.proofs.Moves.{attributes_at-lists, attributes-ok}
+use Rattle.dwarf_forms.specs.declared.attribute.AttributeSpecification.{AttributeSpecification}
+use Rattle.std.proofs.Common.{Bool, Err, List, Ok, Result, [], append-nil, append_assoc, arith}
+use Rattle.std.proofs.Common.{false, if◌then◌else◌, length, refl, true, ℕ, ◌++◌, ◌==◌, ◌||◌, ◌∙◌}
+use Rattle.std.proofs.{Common.{◌∷◌, ◌≡◌}, lemmas.List.Folds.list_any-append}
+use Rattle.std.specs.List.{list_any}
+use Rattle.dwarf_forms.proofs.Moves.{attribute_at-advances, attributes-ok, attributes_at-lists}
+use Rattle.dwarf_forms.proofs.Moves.{found, found-again, found-twice}
+use Rattle.dwarf_bytes.specs.declared.fault.Cause.TheVariants as causes
 
 abbrev pub named : ℕ → AttributeSpecification → Bool
 named name attribute = attribute.name == name

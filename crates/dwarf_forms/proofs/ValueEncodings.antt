@@ -1,22 +1,17 @@
 -- Values are read if and only if they are encoded, in both directions.
-use Rattle.std.proofs.Common.{◌≡◌, ◌↔◌, ℕ, ◌+◌, ℤ, List, [], ◌++◌, length, refl, sym, ap, subst, arith}
-use Rattle.std.proofs.Common.{Option, Some, None, Result, Ok, Err}
-use Rattle.dwarf_bytes.specs.declared.format.Format.{Format}
-use Rattle.dwarf_bytes.specs.declared.form.Form.{Form as Shape}
-use Rattle.dwarf_bytes.specs.declared.form.Form.TheVariants.{Direct, ImplicitConst, Indirect}
-use Rattle.dwarf_bytes.specs.declared.form.ValueLayout.{ValueLayout}
-use Rattle.dwarf_bytes.specs.Bind.{◌>>=◌}
-use Rattle.dwarf_bytes.specs.Forms.{form_of}
-use Rattle.dwarf_bytes.specs.Numbers.{IsEncodedAt, uleb_at}
-use Rattle.dwarf_bytes.specs.Contents.{Signed, content_at}
-use Rattle.dwarf_bytes.proofs.Numbers.LebEncodings.{uleb-encoded, uleb-again}
-use Rattle.dwarf_bytes.proofs.Contents.ContentLaws.{content-encoded}
 use Rattle.dwarf_bytes.proofs.Contents.ContentEncodings.{content-again}
-use Rattle.dwarf_forms.specs.declared.values.ValueFault.{ValueFault}
+use Rattle.dwarf_bytes.proofs.Contents.ContentLaws.{content-encoded}
+use Rattle.dwarf_bytes.proofs.Numbers.LebEncodings.{uleb-again, uleb-encoded}
+use Rattle.dwarf_bytes.specs.{Bind.◌>>=◌, Contents.{Signed, content_at}, Forms.form_of}
+use Rattle.dwarf_bytes.specs.{Numbers.{IsEncodedAt, uleb_at}, declared.form.Form.Form as Shape}
+use Rattle.dwarf_bytes.specs.declared.form.Form.TheVariants.{Direct, ImplicitConst, Indirect}
+use Rattle.dwarf_bytes.specs.{declared.form.ValueLayout.ValueLayout, declared.format.Format.Format}
+use Rattle.dwarf_forms.specs.Values.{SpellsDirectly, SpellsIndirectly, Value, direct_at}
+use Rattle.dwarf_forms.specs.{Values.reading_value, declared.values.ValueFault.ValueFault}
 use Rattle.dwarf_forms.specs.declared.values.ValueFault.TheVariants.{Form}
-use Rattle.dwarf_forms.specs.Values.{Value, SpellsDirectly, SpellsIndirectly, reading_value}
-use Rattle.dwarf_forms.specs.Values.{direct_at}
-use Rattle.dwarf_forms.proofs.Encodings.{stands, encoded, again, both, nothing, parted}
+use Rattle.std.proofs.Common.{Err, List, None, Ok, Option, Result, Some, [], ap, arith, length}
+use Rattle.std.proofs.Common.{refl, subst, sym, ℕ, ℤ, ◌++◌, ◌+◌, ◌↔◌, ◌≡◌}
+use Rattle.dwarf_forms.proofs.Encodings.{again, both, encoded, nothing, parted, stands}
 
 module _ (format : Format) (bytes : List ℕ) (at : ℕ) (value : Value) (next : ℕ) where
   -- the layout of the form, and the read of the content

@@ -1,16 +1,13 @@
 -- Table items beyond the end of the section, and the current base of a range list.
-use Rattle.std.proofs.Common.{◌≡◌, ℕ, ◌+◌, ◌*◌, ◌<◌, List, true, length, refl, arith, [], ◌∷◌, ◌++◌}
-use Rattle.std.proofs.Common.{map, Option, Some, Err, nat_lt}
-use Rattle.std.proofs.lemmas.Bool.{lt-ltb}
+use Rattle.dwarf_bytes.specs.Numbers.{block_at, fixed_at}
 use Rattle.dwarf_bytes.specs.declared.fault.ReadFault.TheVariants.{Short}
 use Rattle.dwarf_bytes.specs.declared.tables.TableKind.{TableKind}
-use Rattle.dwarf_bytes.specs.Numbers.{block_at, fixed_at}
-use Rattle.dwarf_ranges.specs.declared.bases.Table.{Table}
-use Rattle.dwarf_ranges.specs.Bases.{item_len, item_at}
-use Rattle.dwarf_ranges.specs.declared.range.Range.{Range}
+use Rattle.dwarf_ranges.specs.{Bases.{item_at, item_len}, Ranges.{base_after, next_base}}
+use Rattle.dwarf_ranges.specs.{declared.bases.Table.Table, declared.range.Range.Range}
 use Rattle.dwarf_ranges.specs.declared.range_entries.RangeListEntry.{RangeListEntry}
 use Rattle.dwarf_ranges.specs.declared.range_entries.RangeListEntry.TheVariants.{Base, Covers}
-use Rattle.dwarf_ranges.specs.Ranges.{base_after, next_base}
+use Rattle.std.proofs.Common.{Err, List, Option, Some, [], arith, length, map, nat_lt, refl, true}
+use Rattle.std.proofs.{Common.{ℕ, ◌*◌, ◌++◌, ◌+◌, ◌<◌, ◌∷◌, ◌≡◌}, lemmas.Bool.lt-ltb}
 use Rattle.dwarf_bytes.specs.declared.fault.Cause.TheVariants as causes
 
 pub fixed-outside : (n : ℕ) (bytes : List ℕ) (at : ℕ) → length bytes < at

@@ -1,23 +1,18 @@
 -- The entries of range lists: each takes at least one byte, and its range, if any, is nonempty.
-use Rattle.std.proofs.Common.{◌≡◌, ℕ, ◌<◌, ◌≤◌, List, length, arith, Option, Some, None, Result, Ok}
-use Rattle.std.proofs.Common.{All, nat_le, option_to_list}
-use Rattle.std.proofs.lemmas.List.Elements.{All-nil}
-use Rattle.dwarf_bytes.specs.declared.fault.Cause.{Cause}
-use Rattle.dwarf_bytes.specs.declared.fault.Cause.TheVariants as causes
-use Rattle.dwarf_bytes.specs.Bind.{◌>>=◌}
-use Rattle.dwarf_bytes.specs.Items.{Next, Item, End, Advances, reading, refuse_if}
-use Rattle.dwarf_bytes.specs.Numbers.{u8_at}
-use Rattle.dwarf_bytes.proofs.Numbers.Advance.{MovesOn, bind_ok}
-use Rattle.dwarf_bytes.proofs.Numbers.Moves.{uleb-moves, u8-moves, fixed_at-moves}
-use Rattle.dwarf_ranges.specs.declared.range.Range.{Range}
-use Rattle.dwarf_ranges.specs.declared.bases.Bases.{Bases}
-use Rattle.dwarf_ranges.specs.declared.range_entries.Operand.{Operand}
+use Rattle.dwarf_bytes.proofs.{Numbers.Advance.{MovesOn, bind_ok}, Numbers.Moves.fixed_at-moves}
+use Rattle.dwarf_bytes.proofs.Numbers.Moves.{u8-moves, uleb-moves}
+use Rattle.dwarf_bytes.specs.{Bind.◌>>=◌, Items.{Advances, End, Item, Next, reading, refuse_if}}
+use Rattle.dwarf_bytes.specs.{Numbers.u8_at, declared.fault.Cause.Cause}
+use Rattle.dwarf_ranges.specs.Ranges.{IsValidRange, base_after, entry_at, list_entry_at}
+use Rattle.dwarf_ranges.specs.Ranges.{list_entry_of, live_range, operand_at, operands_of, range_of}
+use Rattle.dwarf_ranges.specs.{Ranges.ranges_in, declared.bases.Bases.Bases}
+use Rattle.dwarf_ranges.specs.{declared.range.Range.Range, declared.range_entries.Operand.Operand}
 use Rattle.dwarf_ranges.specs.declared.range_entries.Operands.{Operands}
 use Rattle.dwarf_ranges.specs.declared.range_entries.RangeListEntry.{RangeListEntry}
 use Rattle.dwarf_walk.specs.Sections.{Sections}
-use Rattle.dwarf_ranges.specs.Ranges.{live_range, ranges_in, base_after, operand_at, range_of}
-use Rattle.dwarf_ranges.specs.Ranges.{operands_of, entry_at, list_entry_of, list_entry_at}
-use Rattle.dwarf_ranges.specs.Ranges.{IsValidRange}
+use Rattle.std.proofs.Common.{All, List, None, Ok, Option, Result, Some, arith, length, nat_le}
+use Rattle.std.proofs.{Common.{option_to_list, ℕ, ◌<◌, ◌≡◌, ◌≤◌}, lemmas.List.Elements.All-nil}
+use Rattle.dwarf_bytes.specs.declared.fault.Cause.TheVariants as causes
 
 -- ---- the range between two bounds
 

@@ -1,23 +1,18 @@
 -- The loop over a range list.
-use Rattle.std.proofs.Common.{◌≡◌, ℕ, ◌+◌, ◌<◌, List, [], ◌∷◌, ◌++◌, length, refl, ap, sym, ◌∙◌}
-use Rattle.std.proofs.Common.{arith, append_assoc, length-append, append-nil, Option}
-use Rattle.std.proofs.Common.{Result, Ok, Err, flat_map}
-use Rattle.std.proofs.lemmas.List.Concat.{flat_map-append}
+use Rattle.dwarf_bytes.proofs.{Items.ItemLaws.items_from-step, Items.Turns.{SoFar, so-far-end}}
+use Rattle.dwarf_bytes.proofs.{Items.Turns.{so-far-fault, so-far-item}, Numbers.Advance.MovesOn}
+use Rattle.dwarf_bytes.specs.{Items.{Advances, End, Item, Next}, Position.Position}
 use Rattle.dwarf_bytes.specs.declared.fault.Cause.{Cause}
-use Rattle.dwarf_bytes.specs.declared.fault.Cause.TheVariants as causes
-use Rattle.dwarf_bytes.specs.Position.{Position}
-use Rattle.dwarf_bytes.specs.Items.{Next, Item, End, Advances}
-use Rattle.dwarf_bytes.proofs.Numbers.Advance.{MovesOn}
-use Rattle.dwarf_bytes.proofs.Items.ItemLaws.{items_from-step}
-use Rattle.dwarf_bytes.proofs.Items.Turns.{SoFar, so-far-item, so-far-end, so-far-fault}
+use Rattle.dwarf_ranges.specs.Ranges.{AddsRanges, base_after, list_at, list_entry_at, list_entry_of}
+use Rattle.dwarf_ranges.specs.{Ranges.{next_base, ranges_in}, declared.bases.Bases.Bases}
 use Rattle.dwarf_ranges.specs.declared.range.Range.{Range}
-use Rattle.dwarf_ranges.specs.declared.bases.Bases.{Bases}
 use Rattle.dwarf_ranges.specs.declared.range_entries.RangeListEntry.{RangeListEntry}
 use Rattle.dwarf_walk.specs.Sections.{Sections}
-use Rattle.dwarf_ranges.specs.Ranges.{AddsRanges, next_base, base_after, ranges_in, list_entry_of}
-use Rattle.dwarf_ranges.specs.Ranges.{list_entry_at, list_at}
-use Rattle.dwarf_ranges.proofs.BaseLaws.{fixed-outside}
-use Rattle.dwarf_ranges.proofs.EntryLaws.{list_entry_at-advances}
+use Rattle.std.proofs.Common.{Err, List, Ok, Option, Result, [], ap, append-nil, append_assoc}
+use Rattle.std.proofs.Common.{arith, flat_map, length, length-append, refl, sym, ℕ, ◌++◌, ◌+◌, ◌<◌}
+use Rattle.std.proofs.{Common.{◌∙◌, ◌∷◌, ◌≡◌}, lemmas.List.Concat.flat_map-append}
+use Rattle.dwarf_ranges.proofs.{BaseLaws.fixed-outside, EntryLaws.list_entry_at-advances}
+use Rattle.dwarf_bytes.specs.declared.fault.Cause.TheVariants as causes
 
 base_after-push : (base : Option ℕ) (before : List RangeListEntry) (x : RangeListEntry)
     → base_after base (before ++ x ∷ []) ≡ next_base x (base_after base before)

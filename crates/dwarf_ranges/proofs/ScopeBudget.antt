@@ -1,25 +1,21 @@
 -- The ranges of an entry are nonempty, and the number of items that they are read from is within
 -- the budget.
-use Rattle.std.proofs.Common.{◌≡◌, ℕ, ◌+◌, ◌≤◌, List, [], ◌∷◌, ◌++◌, length, arith, length-append}
-use Rattle.std.proofs.Common.{Option, Result, Ok, flat_map}
-use Rattle.std.proofs.lemmas.List.Elements.{All-append}
+use Rattle.dwarf_bytes.proofs.{Items.ItemLaws.Lists-within, Numbers.Advance.bind_ok}
+use Rattle.dwarf_bytes.proofs.Numbers.Moves.{same-ok}
+use Rattle.dwarf_bytes.specs.Items.{Lists, Next, items_from, without_offset}
 use Rattle.dwarf_bytes.specs.declared.constants.TheConstants.{DW_AT_HIGH_PC, DW_AT_LOW_PC}
 use Rattle.dwarf_bytes.specs.declared.constants.TheConstants.{DW_AT_RANGES}
 use Rattle.dwarf_bytes.specs.declared.fault.Cause.{Cause}
-use Rattle.dwarf_bytes.specs.Items.{Next, Lists, without_offset, items_from}
-use Rattle.dwarf_bytes.proofs.Numbers.Advance.{bind_ok}
-use Rattle.dwarf_bytes.proofs.Items.ItemLaws.{Lists-within}
-use Rattle.dwarf_bytes.proofs.Numbers.Moves.{same-ok}
-use Rattle.dwarf_ranges.specs.declared.range.Range.{Range}
-use Rattle.dwarf_ranges.specs.declared.bases.Bases.{Bases}
+use Rattle.dwarf_ranges.specs.Ranges.{AddsRanges, Covering, IsValidRange, base_after, covers_by}
+use Rattle.dwarf_ranges.specs.Ranges.{covers_of, list_at, list_entry_at, pair_at, ranges_in}
+use Rattle.dwarf_ranges.specs.{declared.bases.Bases.Bases, declared.range.Range.Range}
 use Rattle.dwarf_ranges.specs.declared.range_entries.RangeListEntry.{RangeListEntry}
-use Rattle.dwarf_units.specs.declared.attributes.AttributeValue.{AttributeValue}
 use Rattle.dwarf_units.specs.Entries.{Die, attribute}
+use Rattle.dwarf_units.specs.declared.attributes.AttributeValue.{AttributeValue}
 use Rattle.dwarf_walk.specs.Sections.{Sections}
-use Rattle.dwarf_ranges.specs.Ranges.{Covering, ranges_in, base_after, list_entry_at}
-use Rattle.dwarf_ranges.specs.Ranges.{list_at, pair_at, covers_by, covers_of}
-use Rattle.dwarf_ranges.specs.Ranges.{IsValidRange, AddsRanges}
-use Rattle.dwarf_ranges.proofs.EntryLaws.{AllHold, none-holds, live-holds, list_entry-facts}
+use Rattle.std.proofs.Common.{List, Ok, Option, Result, [], arith, flat_map, length, length-append}
+use Rattle.std.proofs.{Common.{ℕ, ◌++◌, ◌+◌, ◌∷◌, ◌≡◌, ◌≤◌}, lemmas.List.Elements.All-append}
+use Rattle.dwarf_ranges.proofs.EntryLaws.{AllHold, list_entry-facts, live-holds, none-holds}
 
 pub record Fits (budget : ℕ) (covering : Covering) : Type 0 where
   pub hold : AllHold covering.ranges

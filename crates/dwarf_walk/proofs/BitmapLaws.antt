@@ -1,12 +1,11 @@
 -- The bitmap of entry offsets: the bits that a walk sets, and how they are looked up.
-use Rattle.std.proofs.Common.{◌≡◌, ℕ, ◌*◌, ◌/◌, ◌%◌, ◌^◌, ◌<◌, List, [], ◌∷◌, ◌++◌, length, set}
-use Rattle.std.proofs.Common.{get_or, Bool, arith, ◌==◌, ◌||◌, bit_or, if◌then◌else◌}
-use Rattle.std.proofs.{Common.zero-mul, lemmas.Bool.Decides.nat_tests, lemmas.Grind.get_or-set_at}
+use Rattle.dwarf_walk.specs.{EntryBitmap.AddsOffsets, declared.entry_bitmap.EntryBitmap.EntryBitmap}
+use Rattle.std.proofs.Common.{Bool, List, [], arith, bit_or, get_or, if◌then◌else◌, length, set}
+use Rattle.std.proofs.Common.{zero-mul, ℕ, ◌%◌, ◌*◌, ◌++◌, ◌/◌, ◌<◌, ◌==◌, ◌^◌, ◌||◌, ◌∷◌, ◌≡◌}
+use Rattle.std.proofs.{lemmas.Bool.Decides.nat_tests, lemmas.Grind.get_or-set_at}
 use Rattle.std.proofs.{lemmas.List.get_or-set_other, lemmas.List.Folds.list_any-append}
-use Rattle.std.proofs.lemmas.Nat.Bits.{bit_at_set_same, bit_at_set_other}
+use Rattle.std.proofs.lemmas.Nat.Bits.{bit_at_set_other, bit_at_set_same}
 use Rattle.std.specs.{Int.{bit_at, from_bool, w64}, Int.Bits.or_zero_r, List.list_any}
-use Rattle.dwarf_walk.specs.EntryBitmap.{AddsOffsets}
-use Rattle.dwarf_walk.specs.declared.entry_bitmap.EntryBitmap.{EntryBitmap}
 
 -- ---- bits in words
 

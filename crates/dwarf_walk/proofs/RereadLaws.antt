@@ -1,22 +1,16 @@
 -- Entries that are read at their offsets, and cached entries.
-use Rattle.std.proofs.Common.{◌≡◌, ℕ, ◌≤◌, List, length, true, refl}
-use Rattle.std.proofs.Common.{arith}
-use Rattle.std.specs.Prelude.{Option, Result, Ok, Some}
-use Rattle.std.proofs.lemmas.Bool.{le-ltb}
-use Rattle.dwarf_bytes.specs.declared.fault.Cause.{Cause}
-use Rattle.dwarf_bytes.specs.declared.fault.Cause.TheVariants as causes
+use Rattle.dwarf_bytes.specs.{Bind.◌>>=◌, Refusals.Fails, declared.fault.Cause.Cause}
 use Rattle.dwarf_bytes.specs.declared.format.Format.{Format}
-use Rattle.dwarf_bytes.specs.Bind.{◌>>=◌}
-use Rattle.dwarf_bytes.specs.Refusals.{Fails}
 use Rattle.dwarf_forms.specs.Declarations.{Declaration}
+use Rattle.dwarf_units.specs.{Entries.entry_at, Private.StoredAttributes.stored_attributes}
 use Rattle.dwarf_units.specs.declared.attributes.Attribute.{Attribute}
-use Rattle.dwarf_units.specs.Entries.{entry_at}
-use Rattle.dwarf_units.specs.Private.StoredAttributes.{stored_attributes}
 use Rattle.dwarf_units.specs.declared.unit_headers.UnitHeader.{UnitHeader}
+use Rattle.dwarf_walk.specs.{Private.Long.long_entry, Private.Named.used_at}
 use Rattle.dwarf_walk.specs.declared.long_entries.LongEntry.{LongEntry}
 use Rattle.dwarf_walk.specs.declared.unit_entries.NamedEntry.{NamedEntry}
-use Rattle.dwarf_walk.specs.Private.Long.{long_entry}
-use Rattle.dwarf_walk.specs.Private.Named.{used_at}
+use Rattle.std.proofs.{Common.{List, arith, length, refl, true, ℕ, ◌≡◌, ◌≤◌}, lemmas.Bool.le-ltb}
+use Rattle.std.specs.Prelude.{Ok, Option, Result, Some}
+use Rattle.dwarf_bytes.specs.declared.fault.Cause.TheVariants as causes
 
 -- ---- the used attributes
 

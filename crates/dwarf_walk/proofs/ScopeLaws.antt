@@ -1,17 +1,17 @@
 -- The scopes that the walk stores, and the number of scopes below each.
-use Rattle.std.proofs.Common.{◌≡◌, ℕ, ◌+◌, ◌<◌, ◌≤◌, min, List, [], ◌∷◌, ◌++◌, cond, drop, refl, ap}
-use Rattle.std.proofs.Common.{sym, arith, append_assoc, append-nil, zero, suc, length, get_or}
-use Rattle.std.proofs.Common.{one-add, suc-add, zero-add, nat_lt, count_by}
-use Rattle.std.proofs.{lemmas.Grind.common_steps, lemmas.List.Elements.{All-nil, All-tail}}
-use Rattle.std.proofs.{lemmas.List.Elements.All-append, lemmas.List.Sums.sum_by-cons}
-use Rattle.std.proofs.lemmas.List.Sums.{take_while-cons}
-use Rattle.std.specs.List.{prefix_len}
 use Rattle.dwarf_units.specs.Entries.{Die, below}
-use Rattle.dwarf_walk.specs.Private.WalkedScopes.{walked_scope, walked_scopes, least_after_entry}
-use Rattle.dwarf_walk.specs.Private.WalkedScopes.{least_after, is_deeper, counted_places, IsBounded}
-use Rattle.dwarf_walk.specs.{Private.WalkedScopes.AreBounded, ScopeEntries.is_scope}
+use Rattle.dwarf_walk.specs.Private.WalkedScopes.{AreBounded, IsBounded, counted_places, is_deeper}
+use Rattle.dwarf_walk.specs.Private.WalkedScopes.{least_after, least_after_entry, walked_scope}
+use Rattle.dwarf_walk.specs.{Private.WalkedScopes.walked_scopes, ScopeEntries.is_scope}
 use Rattle.dwarf_walk.specs.{Stored.scope_places, declared.descendants.WalkedScope.WalkedScope}
 use Rattle.dwarf_walk.specs.declared.unit_entries.ScopePlace.{ScopePlace}
+use Rattle.std.proofs.Common.{List, [], ap, append-nil, append_assoc, arith, cond, count_by, drop}
+use Rattle.std.proofs.Common.{get_or, length, min, nat_lt, one-add, refl, suc, suc-add, sym, zero}
+use Rattle.std.proofs.Common.{zero-add, ℕ, ◌++◌, ◌+◌, ◌<◌, ◌∷◌, ◌≡◌, ◌≤◌}
+use Rattle.std.proofs.{lemmas.Grind.common_steps, lemmas.List.Elements.{All-append, All-nil}}
+use Rattle.std.proofs.{lemmas.List.Elements.All-tail, lemmas.List.Sums.sum_by-cons}
+use Rattle.std.proofs.lemmas.List.Sums.{take_while-cons}
+use Rattle.std.specs.List.{prefix_len}
 
 -- ---- one more entry
 

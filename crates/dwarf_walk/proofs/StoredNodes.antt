@@ -1,12 +1,12 @@
 -- An entry with only some of its attributes stored.
-use Rattle.std.proofs.Common.{◌≡◌, ℕ, List, [], ◌∷◌, Bool, true, refl, ◌+◌, arith, is_some, filter}
-use Rattle.std.proofs.Common.{not}
-use Rattle.std.specs.Int.{from_bool}
 use Rattle.dwarf_units.specs.{Attributes.is_used, Entries.{Die, Entry, value_of}}
 use Rattle.dwarf_units.specs.Private.StoredAttributes.{stored_attributes}
 use Rattle.dwarf_units.specs.declared.attributes.Attribute.{Attribute}
 use Rattle.dwarf_walk.specs.Private.Readers.{WalkState, after_die, after_node, die_at}
 use Rattle.dwarf_walk.specs.Stored.{named_entry, root_entry}
+use Rattle.std.proofs.Common.{Bool, List, [], arith, filter, is_some, not, refl, true, ℕ, ◌+◌, ◌∷◌}
+use Rattle.std.proofs.Common.{◌≡◌}
+use Rattle.std.specs.Int.{from_bool}
 
 -- The value of an attribute is in a list of attributes with certain names, if its name is one.
 value-kept : (p : ℕ → Bool) (xs : List Attribute) (name : ℕ) → p name ≡ true

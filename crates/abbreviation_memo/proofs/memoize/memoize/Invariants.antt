@@ -1,4 +1,4 @@
-use Rattle.std.proofs.Common.{◌≡◌, length}
+use Rattle.std.proofs.Common.{length, ◌≡◌}
 use Rattle.abbreviation_memo.proofs.memoize.memoize.Given as goal
 
 abbrev pub invariant-loop-place : goal.invariant-loop-place

@@ -1,4 +1,4 @@
-use Rattle.std.proofs.Common.{◌-◌, ◌+◌, length}
+use Rattle.std.proofs.Common.{length, ◌+◌, ◌-◌}
 use Rattle.abbreviation_memo.proofs.memoize.new_places.Given as goal
 
 abbrev pub decreases-loop-alloc : goal.decreases-loop-alloc

@@ -1,9 +1,9 @@
-use Rattle.std.proofs.Common.{◌≡◌, [], ◌∷◌, false, arith, length-append}
-use Rattle.std.specs.List.{list_any}
 use Rattle.dwarf_bytes.proofs.Items.Turns.{None-from-no-Some}
-use Rattle.dwarf_forms.proofs.Loops.{one-more, all-read}
-use Rattle.dwarf_forms.proofs.Moves.{attribute_at-advances, attributes-ok}
-use Rattle.dwarf_forms.proofs.SuffixLists.{attribute-again, end-again, named, list-continues}
+use Rattle.dwarf_forms.proofs.{Loops.{all-read, one-more}, Moves.attribute_at-advances}
+use Rattle.dwarf_forms.proofs.{Moves.attributes-ok, SuffixLists.{attribute-again, end-again}}
+use Rattle.dwarf_forms.proofs.SuffixLists.{list-continues, named}
+use Rattle.std.proofs.Common.{[], arith, false, length-append, ◌∷◌, ◌≡◌}
+use Rattle.std.specs.List.{list_any}
 use Rattle.abbreviation_memo.proofs.shared.first_attributes.Goals as goal
 
 pub returns-in_default-clause-starts : goal.returns-in_default-clause-starts

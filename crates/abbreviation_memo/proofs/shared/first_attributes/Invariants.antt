@@ -1,6 +1,6 @@
-use Rattle.std.proofs.Common.{◌≤◌, ◌-◌, length}
-use Rattle.dwarf_forms.specs.Tables.{attribute_at}
 use Rattle.dwarf_forms.proofs.Loops.{ItemsSoFar}
+use Rattle.dwarf_forms.specs.Tables.{attribute_at}
+use Rattle.std.proofs.Common.{length, ◌-◌, ◌≤◌}
 use Rattle.abbreviation_memo.proofs.shared.first_attributes.Given as goal
 
 abbrev pub invariant-loop-alloc : goal.invariant-loop-alloc

@@ -1,6 +1,5 @@
-use Rattle.std.proofs.Common.{◌-◌, length}
-use Rattle.dwarf_forms.specs.Tables.{attribute_at}
-use Rattle.dwarf_forms.specs.Private.Index.{ContainsNames}
+use Rattle.dwarf_forms.specs.{Private.Index.ContainsNames, Tables.attribute_at}
+use Rattle.std.proofs.Common.{length, ◌-◌}
 use Rattle.dwarf_forms.proofs.Loops.{ItemsSoFar}
 use Rattle.dwarf_forms.proofs.attribute.attributes.Given as goal
 

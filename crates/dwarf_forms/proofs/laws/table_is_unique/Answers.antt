@@ -1,8 +1,6 @@
-use Rattle.std.proofs.Common.{◌+◌, ◌≤◌, length, arith}
-use Rattle.dwarf_forms.specs.Declarations.{EncodesTable, AreValid}
-use Rattle.dwarf_forms.specs.Tables.{table_at}
-use Rattle.dwarf_forms.proofs.Encodings.{again, one-encoding}
-use Rattle.dwarf_forms.proofs.EncodedTables.{table-decoded}
+use Rattle.dwarf_forms.specs.{Declarations.{AreValid, EncodesTable}, Tables.table_at}
+use Rattle.std.proofs.Common.{arith, length, ◌+◌, ◌≤◌}
+use Rattle.dwarf_forms.proofs.{EncodedTables.table-decoded, Encodings.{again, one-encoding}}
 use Rattle.dwarf_forms.proofs.laws.table_is_unique.Goals as goal
 
 pub returns : goal.returns

@@ -1,7 +1,6 @@
 use Rattle.dwarf_bytes.specs.Forms.{form_of}
 use Rattle.dwarf_forms.specs.Values.{Spells, value_at}
-use Rattle.dwarf_forms.proofs.Encodings.{one-encoding}
-use Rattle.dwarf_forms.proofs.ValueEncodings.{value-decoded}
+use Rattle.dwarf_forms.proofs.{Encodings.one-encoding, ValueEncodings.value-decoded}
 use Rattle.dwarf_forms.proofs.laws.value_is_unique.Goals as goal
 
 pub returns : goal.returns

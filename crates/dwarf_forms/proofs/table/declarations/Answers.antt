@@ -1,5 +1,5 @@
 use Rattle.std.proofs.Common.{arith}
-use Rattle.dwarf_forms.proofs.TableTurns.{turn-item, turn_end, turn-fault}
+use Rattle.dwarf_forms.proofs.TableTurns.{turn-fault, turn-item, turn_end}
 use Rattle.dwarf_forms.proofs.table.declarations.Goals as goal
 
 pub loop-table-smaller : goal.loop-table-smaller

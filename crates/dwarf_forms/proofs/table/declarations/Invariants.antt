@@ -1,5 +1,5 @@
-use Rattle.std.proofs.Common.{◌-◌, length}
 use Rattle.dwarf_forms.specs.Tables.{declaration_at}
+use Rattle.std.proofs.Common.{length, ◌-◌}
 use Rattle.dwarf_forms.proofs.Loops.{ItemsSoFar}
 use Rattle.dwarf_forms.proofs.table.declarations.Given as goal
 

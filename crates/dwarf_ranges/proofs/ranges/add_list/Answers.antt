@@ -1,7 +1,6 @@
-use Rattle.std.proofs.Common.{length, ap, arith, inr}
-use Rattle.std.proofs.lemmas.Result.{err_from_is_err_and}
 use Rattle.dwarf_bytes.proofs.Items.Turns.{None-from-no-Some}
-use Rattle.dwarf_ranges.proofs.ListLaws.{list-next, list-end, list-fault}
+use Rattle.std.proofs.{Common.{ap, arith, inr, length}, lemmas.Result.err_from_is_err_and}
+use Rattle.dwarf_ranges.proofs.ListLaws.{list-end, list-fault, list-next}
 use Rattle.dwarf_ranges.proofs.ranges.add_list.Goals as goal
 
 pub returns-in_err-entry : goal.returns-in_err-entry

@@ -1,5 +1,5 @@
-use Rattle.std.proofs.Common.{◌-◌, length}
 use Rattle.dwarf_walk.specs.Sections.{sections_of}
+use Rattle.std.proofs.Common.{length, ◌-◌}
 use Rattle.dwarf_ranges.proofs.ListLaws.{ListSoFar}
 use Rattle.dwarf_ranges.proofs.ranges.add_list.Given as goal
 

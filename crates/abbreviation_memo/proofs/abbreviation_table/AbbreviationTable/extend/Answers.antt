@@ -1,9 +1,7 @@
-use Rattle.std.proofs.Common.{[], ◌∷◌, refl, ◌∙◌}
-use Rattle.std.proofs.lemmas.List.{map-append}
-use Rattle.std.proofs.lemmas.Simd.{map-map}
-use Rattle.dwarf_forms.specs.Declarations.{Declaration}
-use Rattle.std.proofs.lemmas.List.Elements.{All-push}
 use Rattle.abbreviation_memo.specs.Declarations.{IsShared, SharedDeclaration, full_declaration}
+use Rattle.dwarf_forms.specs.Declarations.{Declaration}
+use Rattle.std.proofs.{Common.{[], refl, ◌∙◌, ◌∷◌}, lemmas.List.map-append}
+use Rattle.std.proofs.{lemmas.List.Elements.All-push, lemmas.Simd.map-map}
 use Rattle.abbreviation_memo.proofs.abbreviation_table.AbbreviationTable.extend.Goals as goal
 
 pub returns-clause-table : goal.returns-clause-table

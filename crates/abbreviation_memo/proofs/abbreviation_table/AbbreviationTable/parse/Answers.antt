@@ -1,7 +1,6 @@
-use Rattle.std.proofs.Common.{arith, ◌∙◌}
-use Rattle.std.proofs.lemmas.List.{length-map}
+use Rattle.abbreviation_memo.specs.Declarations.{full_declaration, full_declarations}
 use Rattle.dwarf_forms.proofs.TableTurns.{turn-item, turn_end}
-use Rattle.abbreviation_memo.specs.Declarations.{full_declarations, full_declaration}
+use Rattle.std.proofs.{Common.{arith, ◌∙◌}, lemmas.List.length-map}
 use Rattle.abbreviation_memo.proofs.abbreviation_table.AbbreviationTable.parse.Goals as goal
 
 pub loop-table-smaller : goal.loop-table-smaller

@@ -1,7 +1,7 @@
-use Rattle.std.proofs.Common.{◌≡◌, ◌-◌, length}
-use Rattle.dwarf_forms.specs.Tables.{declaration_at}
-use Rattle.dwarf_forms.proofs.Loops.{ItemsSoFar}
 use Rattle.abbreviation_memo.specs.Declarations.{AreShared, full_declarations}
+use Rattle.dwarf_forms.proofs.Loops.{ItemsSoFar}
+use Rattle.dwarf_forms.specs.Tables.{declaration_at}
+use Rattle.std.proofs.Common.{length, ◌-◌, ◌≡◌}
 use Rattle.abbreviation_memo.proofs.abbreviation_table.AbbreviationTable.parse.Given as goal
 
 abbrev pub invariant-loop-table : goal.invariant-loop-table

@@ -1,6 +1,6 @@
-use Rattle.std.proofs.Common.{ℕ, refl, ◌==◌}
-use Rattle.dwarf_forms.proofs.Elements.{position-map}
 use Rattle.abbreviation_memo.specs.Declarations.{SharedDeclaration}
+use Rattle.dwarf_forms.proofs.Elements.{position-map}
+use Rattle.std.proofs.Common.{refl, ℕ, ◌==◌}
 use Rattle.abbreviation_memo.proofs.abbreviation_table.AbbreviationTable.position.Goals as goal
 
 pub returns : goal.returns

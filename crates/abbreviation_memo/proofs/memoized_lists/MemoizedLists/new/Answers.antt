@@ -1,9 +1,6 @@
-use Rattle.std.proofs.Common.{length, ap, arith}
-use Rattle.std.proofs.lemmas.List.Elements.{All-nil}
-use Rattle.abbreviation_memo.specs.Lists.{IsListAt}
-use Rattle.abbreviation_memo.specs.Private.Memo.{IsMemo}
-use Rattle.abbreviation_memo.proofs.MapLaws.{entries-none}
-use Rattle.abbreviation_memo.proofs.SetLaws.{none-in}
+use Rattle.abbreviation_memo.specs.{Lists.IsListAt, Private.Memo.IsMemo}
+use Rattle.std.proofs.{Common.{ap, arith, length}, lemmas.List.Elements.All-nil}
+use Rattle.abbreviation_memo.proofs.{MapLaws.entries-none, SetLaws.none-in}
 use Rattle.abbreviation_memo.proofs.memoized_lists.MemoizedLists.new.Goals as goal
 
 pub invariant_of-result : goal.invariant_of-result

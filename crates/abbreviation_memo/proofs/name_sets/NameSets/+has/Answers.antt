@@ -1,5 +1,5 @@
-use Rattle.std.proofs.Common.{◌<◌, arith}
-use Rattle.abbreviation_memo.proofs.SetLaws.{is_in-zero, is_in-more}
+use Rattle.std.proofs.Common.{arith, ◌<◌}
+use Rattle.abbreviation_memo.proofs.SetLaws.{is_in-more, is_in-zero}
 use Rattle.abbreviation_memo.proofs.name_sets.NameSets.+has.Goals as goal
 
 pub returns-then-name-eq0 : goal.returns-then-name-eq0

@@ -1,11 +1,9 @@
-use Rattle.std.proofs.Common.{◌%◌, ◌/◌, ◌≡◌, ℕ, ◌<◌, ◌++◌, ◌∷◌, [], length, true, arith, ◌≤◌, ◌+◌}
-use Rattle.std.proofs.Common.{length-append}
-use Rattle.abbreviation_memo.specs.declared.name_sets.Branch.{Branch}
-use Rattle.std.proofs.lemmas.Int.Digits.{length-digits_of_step}
+use Rattle.abbreviation_memo.specs.{Private.NameSets.side, declared.name_sets.Branch.Branch}
 use Rattle.dwarf_forms.proofs.Elements.{if-ok}
-use Rattle.abbreviation_memo.proofs.SetLaws.{HasMore, branch-last, is_in-zero, is_in-more}
+use Rattle.std.proofs.Common.{[], arith, length, length-append, true, ℕ, ◌%◌, ◌++◌, ◌+◌, ◌/◌, ◌<◌}
+use Rattle.std.proofs.{Common.{◌∷◌, ◌≡◌, ◌≤◌}, lemmas.Int.Digits.length-digits_of_step}
+use Rattle.abbreviation_memo.proofs.SetLaws.{HasMore, branch-last, is_in-more, is_in-zero}
 use Rattle.abbreviation_memo.proofs.SetLaws.{more-bits}
-use Rattle.abbreviation_memo.specs.Private.NameSets.{side}
 use Rattle.abbreviation_memo.proofs.name_sets.NameSets.+with.Goals as goal
 
 pub returns-then-name-eq0-clause-names : goal.returns-then-name-eq0-clause-names

@@ -1,4 +1,4 @@
-use Rattle.std.proofs.Common.{inl, inr, refl, arith}
+use Rattle.std.proofs.Common.{arith, inl, inr, refl}
 use Rattle.dwarf_forms.proofs.CodeLaws.{code-push}
 use Rattle.dwarf_forms.proofs.code_index.CodeIndex.push.Goals as goal
 

@@ -1,4 +1,4 @@
-use Rattle.std.proofs.Common.{◌≤◌, length, arith, inr, refl}
+use Rattle.std.proofs.Common.{arith, inr, length, refl, ◌≤◌}
 use Rattle.dwarf_forms.proofs.TableTurns.{outside}
 use Rattle.dwarf_forms.proofs.table.Abbrevs.read.Goals as goal
 

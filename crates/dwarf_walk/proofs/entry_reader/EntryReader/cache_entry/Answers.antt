@@ -1,5 +1,5 @@
 use Rattle.std.proofs.Common.{arith}
-use Rattle.dwarf_walk.proofs.RereadLaws.{cached-again, again-memory}
+use Rattle.dwarf_walk.proofs.RereadLaws.{again-memory, cached-again}
 use Rattle.dwarf_walk.proofs.entry_reader.EntryReader.cache_entry.Goals as goal
 
 pub returns-in_err-cache_names-in-Ok-clause-reader

@@ -1,5 +1,4 @@
-use Rattle.std.proofs.Common.{inl, inr, arith, ◌∙◌}
-use Rattle.std.proofs.lemmas.Bool.Decides.{eqb_tells}
+use Rattle.std.proofs.{Common.{arith, inl, inr, ◌∙◌}, lemmas.Bool.Decides.eqb_tells}
 use Rattle.dwarf_walk.proofs.entry_reader.EntryReader.cache_unit.Goals as goal
 use Rattle.dwarf_walk.proofs.entry_reader.EntryReader.cache_unit.Goals.{then-has_entry+in_ok-cache_entry}
 use Rattle.dwarf_walk.proofs.entry_reader.EntryReader.cache_unit.Goals.{else-has_entry}

@@ -1,7 +1,6 @@
-use Rattle.std.proofs.Common.{◌≡◌, ◌≤◌, ◌<◌, ℕ, true}
+use Rattle.dwarf_walk.specs.{EntryBitmap.has_entry, Private.Rereading.{IsCachedAt, IsReaderOf}}
 use Rattle.dwarf_walk.specs.Sections.{Sections}
-use Rattle.dwarf_walk.specs.Private.Rereading.{IsCachedAt, IsReaderOf}
-use Rattle.dwarf_walk.specs.EntryBitmap.{has_entry}
+use Rattle.std.proofs.Common.{true, ℕ, ◌<◌, ◌≡◌, ◌≤◌}
 use Rattle.dwarf_walk.proofs.entry_reader.EntryReader.cache_unit.Given as goal
 
 abbrev pub invariant-loop-offset : goal.invariant-loop-offset

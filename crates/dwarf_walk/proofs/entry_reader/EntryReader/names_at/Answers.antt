@@ -1,5 +1,5 @@
-use Rattle.std.proofs.Common.{inl, arith}
 use Rattle.dwarf_walk.specs.Private.Long.{long_entry}
+use Rattle.std.proofs.Common.{arith, inl}
 use Rattle.dwarf_walk.proofs.RereadLaws.{cached-again}
 use Rattle.dwarf_walk.proofs.entry_reader.EntryReader.names_at.Goals as goal
 
