@@ -1,5 +1,5 @@
--- Encodings at offsets: bytes in sequence, the encoding of consecutive items in both directions, for
--- any step, and lists of valid items with distinct keys.
+-- Encodings at offsets: bytes in sequence, consecutive items in both directions, for any step, and
+-- lists of valid items with distinct keys.
 use Rattle.dwarf_bytes.proofs.{Contents.ContentLaws.bytes-after, Items.ItemLaws.Lists-within}
 use Rattle.dwarf_bytes.proofs.Items.ItemLaws.{items_from-Lists}
 use Rattle.dwarf_bytes.specs.Items.{Advances, End, Item, Lists, Next, items_from}
@@ -192,10 +192,14 @@ module _ {X : Type 0} (P : X → Type 0) (key : X → ℕ) where
   )
 
   pub distinct-front : (xs ys : List X) → AreDistinct P key (xs ++ ys) → AreDistinct P key xs
-  distinct-front xs ys all = (
-    λ k d within. rw (get_or_append_left xs ys d k within) at (all.0 k d (omega (arith, length-append xs ys))),
-    λ i j d lt within. rw (get_or_append_left xs ys d i (omega arith), get_or_append_left xs ys d j within) at (all.1 i j d lt (omega (arith, length-append xs ys))),
-  )
+  distinct-front xs ys all =
+      let longer = length-append xs ys in (
+        λ k d within. rw (get_or_append_left xs ys d k within) at (all.0 k d (omega arith)),
+        λ i j d lt within. rw (
+          get_or_append_left xs ys d i (omega arith),
+          get_or_append_left xs ys d j within,
+        ) at (all.1 i j d lt (omega arith)),
+      )
 
   pub last-new : (xs : List X) (x : X) → AreDistinct P key (xs ++ x ∷ []) → IsNew P key xs x
   last-new xs x all =

@@ -11,7 +11,7 @@ use Rattle.dwarf_ranges.specs.declared.range_entries.Operands.{Operands}
 use Rattle.dwarf_ranges.specs.declared.range_entries.RangeListEntry.{RangeListEntry}
 use Rattle.dwarf_walk.specs.Sections.{Sections}
 use Rattle.std.proofs.Common.{All, List, None, Ok, Option, Result, Some, arith, length, nat_le}
-use Rattle.std.proofs.{Common.{option_to_list, ℕ, ◌<◌, ◌≡◌, ◌≤◌}, lemmas.List.Elements.All-nil}
+use Rattle.std.proofs.Common.{option_to_list, ℕ, ◌<◌, ◌≡◌, ◌≤◌}
 use Rattle.dwarf_bytes.specs.declared.fault.Cause.TheVariants as causes
 
 -- ---- the range between two bounds
@@ -19,19 +19,13 @@ use Rattle.dwarf_bytes.specs.declared.fault.Cause.TheVariants as causes
 abbrev pub AllHold : List Range → Type 0
 AllHold ranges = All IsValidRange ranges
 
--- No range, or a nonempty one.
-abbrev pub MayHold : Option Range → Type 0
-MayHold range = AllHold (option_to_list range)
-
-pub none-holds : MayHold None
-none-holds = All-nil IsValidRange
-
 pub live-holds : (bounds : ℕ × ℕ) (range : Option Range) → live_range bounds ≡ Ok range
-    → MayHold range
+    → AllHold (option_to_list range)
 live-holds bounds range h i d within = grind arith
 
 range_of-holds : (first second : Operand) (base : Option ℕ) (start value : ℕ)
-    (range : Option Range) → range_of first second base start value ≡ Ok range → MayHold range
+    (range : Option Range) → range_of first second base start value ≡ Ok range
+    → AllHold (option_to_list range)
 range_of-holds first second base start value range h i d within = grind arith
 
 -- ---- the entries of a list

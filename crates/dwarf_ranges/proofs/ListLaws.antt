@@ -60,12 +60,7 @@ module _ {budget : ℕ} {sections : Sections} {bases : Bases} {first : ℕ} {kno
           counted = omega (arith, so_far.counted, length-append so_far.before (x ∷ []));
           base_is = ap (next_base x) so_far.base_is
               ∙ sym (base_after-push bases.low_pc so_far.before x);
-          ranges_are = rw (
-            so_far.ranges_are,
-            flat_map-append ranges_in so_far.before (x ∷ []),
-            append-nil (ranges_in x),
-            append_assoc known (flat_map ranges_in so_far.before) (ranges_in x),
-          ) refl;
+          ranges_are = rw so_far.ranges_are (simp (flat_map-append, append-nil, append_assoc));
           read = so-far-item _ _ advances first so_far.before at.place x new.place so_far.read
               read;
         },

@@ -14,8 +14,9 @@ use Rattle.dwarf_units.specs.Entries.{Die, attribute}
 use Rattle.dwarf_units.specs.declared.attributes.AttributeValue.{AttributeValue}
 use Rattle.dwarf_walk.specs.Sections.{Sections}
 use Rattle.std.proofs.Common.{List, Ok, Option, Result, [], arith, flat_map, length, length-append}
-use Rattle.std.proofs.{Common.{ℕ, ◌++◌, ◌+◌, ◌∷◌, ◌≡◌, ◌≤◌}, lemmas.List.Elements.All-append}
-use Rattle.dwarf_ranges.proofs.EntryLaws.{AllHold, list_entry-facts, live-holds, none-holds}
+use Rattle.std.proofs.Common.{ℕ, ◌++◌, ◌+◌, ◌∷◌, ◌≡◌, ◌≤◌}
+use Rattle.std.proofs.lemmas.List.Elements.{All-append, All-nil}
+use Rattle.dwarf_ranges.proofs.EntryLaws.{AllHold, list_entry-facts, live-holds}
 
 pub record Fits (budget : ℕ) (covering : Covering) : Type 0 where
   pub hold : AllHold covering.ranges
@@ -29,7 +30,7 @@ lists-hold : (budget : ℕ) (sections : Sections) (bases : Bases) (lists : List 
     → AllHold (flat_map ranges_in entries) × (length (flat_map ranges_in entries) ≤ length entries)
     × (length before + length entries ≤ budget)
 lists-hold budget sections bases lists before at [] after h le =
-    (none-holds, omega arith, omega (arith, le))
+    (All-nil IsValidRange, omega arith, omega (arith, le))
 lists-hold budget sections bases lists before at (entry ∷ entries) after h le =
     let here = list_entry-facts budget sections bases (length before)
     (base_after bases.low_pc before) lists at entry h.0 h.1 in
@@ -67,7 +68,8 @@ pair-fits budget sections bases low high covering h = record {
 }
 
 none-fits : (budget : ℕ) → Fits budget (record { ranges = []; items = 0 })
-none-fits budget = record { hold = none-holds; counted = omega arith; within = omega arith }
+none-fits budget =
+    record { hold = All-nil IsValidRange; counted = omega arith; within = omega arith }
 
 by-fits : (budget : ℕ) (sections : Sections) (bases : Bases)
     (low high ranges : Option AttributeValue)
