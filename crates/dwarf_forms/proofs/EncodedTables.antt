@@ -19,74 +19,74 @@ code_of d = d.code
 abbrev FitsBudget : ℕ → List Declaration → Type 0
 FitsBudget budget table = AreDistinct IsValid code_of table × (length table ≤ budget)
 
--- a declaration is read after others if and only if it is encoded, and valid after them
-declaration-encoded : (budget : ℕ) (section : List ℕ) (before : List Declaration) (at : ℕ)
-    (x : Declaration) (next : ℕ) → FitsBudget budget before
-    → declaration_at budget section before at ≡ Ok (Item x next)
-    → IsEncodedAt EncodesDeclaration section at x next × FitsBudget budget (before ++ x ∷ [])
-declaration-encoded budget section before at x next good h =
-    let fits = declaration-fits budget section before at x next h in
-    let f = declaration-found budget section before at x next h in
-    let code = uleb-decoded.0 f.3 in
-    let tag = uleb-decoded.0 f.4 in
-    let children = byte-decoded.0 f.5 in
-    let all = (attributes-decoded section f.2 x.attributes next).0 f.6 in
-    let attributes = all.0.1 in
-    let end = all.0.2 in
-    let valid : IsValid x = record {
-      code = fits.some;
-      named = λ k d within. (all.1.0 k d within).0;
-      forms = λ k d within. (all.1.0 k d within).1;
-      once = all.1.1;
-    } in (
-      encoded (record {
-        code = code.front;
-        tag = tag.front;
-        attributes = attributes.front;
-        end = end.front;
-        whole = refl;
-        code_is = code.encoded;
-        tag_is = tag.encoded;
-        attributes_are = attributes.encoded;
-        ends = end.encoded;
-      }) (joined (joined (stands code) (stands tag))
-          (joined children (joined (stands attributes) (stands end)))),
-      (
-        distinct-push IsValid code_of before x good.0 (valid, fits.new),
-        omega (arith, fits.left, length-append before (x ∷ [])),
-      ),
-    )
+module _ (budget : ℕ) (section : List ℕ) (before : List Declaration) (at : ℕ) (x : Declaration)
+    (next : ℕ) where
+  -- a declaration is read after others if and only if it is encoded, and valid after them
+  declaration-encoded : FitsBudget budget before
+      → declaration_at budget section before at ≡ Ok (Item x next)
+      → IsEncodedAt EncodesDeclaration section at x next × FitsBudget budget (before ++ x ∷ [])
+  declaration-encoded good h =
+      let fits = declaration-fits budget section before at x next h in
+      let f = declaration-found budget section before at x next h in
+      let code = uleb-decoded.0 f.3 in
+      let tag = uleb-decoded.0 f.4 in
+      let children = byte-decoded.0 f.5 in
+      let all = (attributes-decoded section f.2 x.attributes next).0 f.6 in
+      let attributes = all.0.1 in
+      let end = all.0.2 in
+      let valid : IsValid x = record {
+        code = fits.some;
+        named = λ k d within. (all.1.0 k d within).0;
+        forms = λ k d within. (all.1.0 k d within).1;
+        once = all.1.1;
+      } in (
+        encoded (record {
+          code = code.front;
+          tag = tag.front;
+          attributes = attributes.front;
+          end = end.front;
+          whole = refl;
+          code_is = code.encoded;
+          tag_is = tag.encoded;
+          attributes_are = attributes.encoded;
+          ends = end.encoded;
+        }) (joined (joined (stands code) (stands tag))
+            (joined children (joined (stands attributes) (stands end)))),
+        (
+          distinct-push IsValid code_of before x good.0 (valid, fits.new),
+          omega (arith, fits.left, length-append before (x ∷ [])),
+        ),
+      )
 
-declaration-reads : (budget : ℕ) (section : List ℕ) (before : List Declaration) (at : ℕ)
-    (x : Declaration) (next : ℕ) → IsEncodedAt EncodesDeclaration section at x next
-    → FitsBudget budget (before ++ x ∷ [])
-    → declaration_at budget section before at ≡ Ok (Item x next)
-declaration-reads budget section before at x next s good =
-    let e = s.encoded in
-    let flag : ℕ = if x.children then 1 else 0 in
-    let parts = parted (e.code ++ e.tag) (flag ∷ (e.attributes ++ e.end)) e.whole (stands s) in
-    let numbers = parted e.code e.tag refl parts.0 in
-    let flagged = parted (flag ∷ []) (e.attributes ++ e.end) refl parts.1 in
-    let lists = parted e.attributes e.end refl flagged.1 in
-    let new = last-new IsValid code_of before x good.0 in
-    let valid = new.0 in
-    let attributes = (attributes-decoded section _ x.attributes next).1 (
-      (_, encoded e.attributes_are lists.0, encoded e.ends lists.1),
-      (λ k d within. (valid.named k d within, valid.forms k d within), valid.once),
-    ) in
-    declaration-again budget section before at x next (record {
-      some = valid.code;
-      left = omega (arith, good.1, length-append before (x ∷ []));
-      new = new.1;
-    }) (
-      _,
-      _,
-      _,
-      uleb-decoded.1 (encoded e.code_is numbers.0),
-      uleb-decoded.1 (encoded e.tag_is numbers.1),
-      byte-decoded.1 flagged.0,
-      attributes,
-    )
+  declaration-reads : IsEncodedAt EncodesDeclaration section at x next
+      → FitsBudget budget (before ++ x ∷ [])
+      → declaration_at budget section before at ≡ Ok (Item x next)
+  declaration-reads s good =
+      let e = s.encoded in
+      let flag : ℕ = if x.children then 1 else 0 in
+      let parts = parted (e.code ++ e.tag) (flag ∷ (e.attributes ++ e.end)) e.whole (stands s) in
+      let numbers = parted e.code e.tag refl parts.0 in
+      let flagged = parted (flag ∷ []) (e.attributes ++ e.end) refl parts.1 in
+      let lists = parted e.attributes e.end refl flagged.1 in
+      let new = last-new IsValid code_of before x good.0 in
+      let valid = new.0 in
+      let attributes = (attributes-decoded section _ x.attributes next).1 (
+        (_, encoded e.attributes_are lists.0, encoded e.ends lists.1),
+        (λ k d within. (valid.named k d within, valid.forms k d within), valid.once),
+      ) in
+      declaration-again budget section before at x next (record {
+        some = valid.code;
+        left = omega (arith, good.1, length-append before (x ∷ []));
+        new = new.1;
+      }) (
+        _,
+        _,
+        _,
+        uleb-decoded.1 (encoded e.code_is numbers.0),
+        uleb-decoded.1 (encoded e.tag_is numbers.1),
+        byte-decoded.1 flagged.0,
+        attributes,
+      )
 
 declaration-decoded : (budget : ℕ) (section : List ℕ)
     → IsDecoded EncodesDeclaration (λ b. IsUleb b 0) (FitsBudget budget) section

@@ -14,17 +14,13 @@ module _ {X : Type 0} {step : List ℕ → List X → ℕ → Result (Next X) Ca
     {bytes : List ℕ} {items : List X} {cursor : Position}
     (advances : Advances (length bytes) (step bytes))
     (so_far : ItemsSoFar step first bytes items cursor) where
-  here : (read : Result (Next X) Cause) → step cursor.bytes items cursor.place ≡ read
-      → step bytes items cursor.place ≡ read
-  here read is = rw so_far.bytes_are at is
-
   -- an iteration that reads an item
   pub one-more : (new : Position) (x : X)
       → step cursor.bytes items cursor.place ≡ Ok (Item x new.place) → new.bytes ≡ cursor.bytes
       → ItemsSoFar step first bytes (items ++ x ∷ []) new × (cursor.place < new.place)
       × (new.place ≤ length bytes)
   one-more new x is same =
-      let read = here (Ok (Item x new.place)) is in
+      let read = rw so_far.bytes_are at is in
       let moved = advances items cursor.place x new.place read in (
         record {
           bytes_are = same ∙ so_far.bytes_are;
@@ -38,10 +34,11 @@ module _ {X : Type 0} {step : List ℕ → List X → ℕ → Result (Next X) Ca
   pub all-read : (after : ℕ) → step cursor.bytes items cursor.place ≡ Ok (End after)
       → items_from (length bytes) (step bytes) [] first ≡ Ok (items, after)
   all-read after is =
-      so-far-end _ _ advances first items cursor.place after so_far.read (here (Ok (End after)) is)
+      so-far-end _ _ advances first items cursor.place after so_far.read (rw so_far.bytes_are at is)
 
   -- an invalid item
   pub first-fault : (cause : Cause) → step cursor.bytes items cursor.place ≡ Err cause
       → items_from (length bytes) (step bytes) [] first ≡ Err (cause, cursor.place)
   first-fault cause is =
-      so-far-fault _ _ advances first items cursor.place cause so_far.read (here (Err cause) is)
+      so-far-fault _ _ advances first items cursor.place cause so_far.read
+      (rw so_far.bytes_are at is)

@@ -109,25 +109,23 @@ attribute_at-ends section before at after h =
 pub with-offset : {X : Type 0} (r : Result X At) (x : X) → without_offset r ≡ Ok x → r ≡ Ok x
 with-offset r x h = grind arith
 
-pub attributes_at-lists : (section : List ℕ) (at : ℕ) (read : List AttributeSpecification × ℕ)
-    → attributes_at section at ≡ Ok read → Lists (attribute_at section) [] at read.0 read.1
-unfolding attributes_at
-attributes_at-lists section at read h =
-    Lists-within (suc (length section - at)) (attribute_at section) [] at read.0 read.1
-    (with-offset (items_from (length section) (attribute_at section) [] at) read h)
+module _ (section : List ℕ) (at : ℕ) (read : List AttributeSpecification × ℕ) where
+  pub attributes_at-lists : attributes_at section at ≡ Ok read
+      → Lists (attribute_at section) [] at read.0 read.1
+  unfolding attributes_at
+  attributes_at-lists h =
+      Lists-within (suc (length section - at)) _ [] at read.0 read.1 (with-offset _ read h)
 
-pub attributes_at-moves : (section : List ℕ) (at : ℕ) (read : List AttributeSpecification × ℕ)
-    → attributes_at section at ≡ Ok read → MovesOn section at read.1
-attributes_at-moves section at read h =
-    Lists-moves (length section) (attribute_at section) (attribute_at-advances section)
-    (attribute_at-ends section) [] at read.0 read.1 (attributes_at-lists section at read h)
+  pub attributes_at-moves : attributes_at section at ≡ Ok read → MovesOn section at read.1
+  attributes_at-moves h =
+      Lists-moves (length section) (attribute_at section) (attribute_at-advances section)
+      (attribute_at-ends section) [] at read.0 read.1 (attributes_at-lists h)
 
--- the attributes that are read, from the list that is read
-pub attributes-ok : (section : List ℕ) (at : ℕ) (read : List AttributeSpecification × ℕ)
-    → items_from (length section) (attribute_at section) [] at ≡ Ok read
-    → attributes_at section at ≡ Ok read
-unfolding attributes_at
-attributes-ok section at read h = rw h refl
+  -- the attributes that are read, from the list that is read
+  pub attributes-ok : items_from (length section) (attribute_at section) [] at ≡ Ok read
+      → attributes_at section at ≡ Ok read
+  unfolding attributes_at
+  attributes-ok h = rw h refl
 
 -- ---- declarations
 
@@ -145,27 +143,26 @@ pub record FitsAfter (budget : ℕ) (before : List Declaration) (code : ℕ) : T
   pub left : length before < budget
   pub new : list_any (λ other. other.code == code) before ≡ false
 
--- what a declaration is read from, ..
-pub declaration-found : (budget : ℕ) (section : List ℕ) (before : List Declaration) (at : ℕ)
-    (x : Declaration) (next : ℕ) → declaration_at budget section before at ≡ Ok (Item x next)
-    → DeclarationAt section at x next
-declaration-found budget section before at x next h = grind arith
+module _ (budget : ℕ) (section : List ℕ) (before : List Declaration) (at : ℕ) (x : Declaration)
+    (next : ℕ) where
+  -- what a declaration is read from, ..
+  pub declaration-found : declaration_at budget section before at ≡ Ok (Item x next)
+      → DeclarationAt section at x next
+  declaration-found h = grind arith
 
-pub declaration-fits : (budget : ℕ) (section : List ℕ) (before : List Declaration) (at : ℕ)
-    (x : Declaration) (next : ℕ) → declaration_at budget section before at ≡ Ok (Item x next)
-    → FitsAfter budget before x.code
-declaration-fits budget section before at x next h =
-    let same = any-map (λ (d : Declaration). d.code) (λ (code : ℕ). code == x.code) before in
-    let len = length-map before (λ d. d.code) in
-    record { some = grind arith; left = grind (arith, len); new = grind (arith, same) }
+  pub declaration-fits : declaration_at budget section before at ≡ Ok (Item x next)
+      → FitsAfter budget before x.code
+  declaration-fits h =
+      let same = any-map (λ (d : Declaration). d.code) (λ (code : ℕ). code == x.code) before in
+      let len = length-map before (λ d. d.code) in
+      record { some = grind arith; left = grind (arith, len); new = grind (arith, same) }
 
--- .. and the read of it
-pub declaration-again : (budget : ℕ) (section : List ℕ) (before : List Declaration) (at : ℕ)
-    (x : Declaration) (next : ℕ) → FitsAfter budget before x.code
-    → DeclarationAt section at x next → declaration_at budget section before at ≡ Ok (Item x next)
-declaration-again budget section before at x next fits s =
-    let same = any-map (λ (d : Declaration). d.code) (λ (code : ℕ). code == x.code) before in
-    grind (arith, same, length-map before (λ d. d.code))
+  -- .. and the read of it
+  pub declaration-again : FitsAfter budget before x.code → DeclarationAt section at x next
+      → declaration_at budget section before at ≡ Ok (Item x next)
+  declaration-again fits s =
+      let same = any-map (λ (d : Declaration). d.code) (λ (code : ℕ). code == x.code) before in
+      grind (arith, same, length-map before (λ d. d.code))
 
 pub declaration_at-advances : (budget : ℕ) (section : List ℕ)
     → Advances (length section) (declaration_at budget section)

@@ -23,72 +23,66 @@ pub record Fits (budget : ℕ) (covering : Covering) : Type 0 where
   pub counted : length covering.ranges ≤ covering.items
   pub within : covering.items ≤ budget
 
-lists-hold : (budget : ℕ) (sections : Sections) (bases : Bases) (lists : List ℕ)
-    (before : List RangeListEntry) (at : ℕ) (entries : List RangeListEntry) (after : ℕ)
-    → Lists (list_entry_at budget sections bases lists) before at entries after → length before
-    ≤ budget
-    → AllHold (flat_map ranges_in entries) × (length (flat_map ranges_in entries) ≤ length entries)
-    × (length before + length entries ≤ budget)
-lists-hold budget sections bases lists before at [] after h le =
-    (All-nil IsValidRange, omega arith, omega (arith, le))
-lists-hold budget sections bases lists before at (entry ∷ entries) after h le =
-    let here = list_entry-facts budget sections bases (length before)
-    (base_after bases.low_pc before) lists at entry h.0 h.1 in
-    let size = length-append before (entry ∷ []) in
-    let rest = lists-hold budget sections bases lists (before ++ entry ∷ []) h.0 entries after h.2
-    (omega (arith, size, here.2)) in
-    let both = length-append (ranges_in entry) (flat_map ranges_in entries) in (
-      All-append IsValidRange (ranges_in entry) (flat_map ranges_in entries) here.1.0 rest.0,
-      omega (arith, both, here.1.1, rest.1),
-      omega (arith, size, rest.2),
-    )
+module _ (budget : ℕ) (sections : Sections) (bases : Bases) where
+  lists-hold : (lists : List ℕ) (before : List RangeListEntry) (at : ℕ)
+      (entries : List RangeListEntry) (after : ℕ)
+      → Lists (list_entry_at budget sections bases lists) before at entries after
+      → length before ≤ budget → AllHold (flat_map ranges_in entries)
+      × (length (flat_map ranges_in entries) ≤ length entries)
+      × (length before + length entries ≤ budget)
+  lists-hold lists before at [] after h le =
+      (All-nil IsValidRange, omega arith, omega (arith, le))
+  lists-hold lists before at (entry ∷ entries) after h le =
+      let here = list_entry-facts budget sections bases (length before)
+      (base_after bases.low_pc before) lists at entry h.0 h.1 in
+      let size = length-append before (entry ∷ []) in
+      let rest = lists-hold lists (before ++ entry ∷ []) h.0 entries after h.2
+      (omega (arith, size, here.2)) in
+      let both = length-append (ranges_in entry) (flat_map ranges_in entries) in (
+        All-append IsValidRange (ranges_in entry) (flat_map ranges_in entries) here.1.0 rest.0,
+        omega (arith, both, here.1.1, rest.1),
+        omega (arith, size, rest.2),
+      )
 
-list-fits : (budget : ℕ) (sections : Sections) (bases : Bases) (place : ℕ) (covering : Covering)
-    → list_at budget sections bases place ≡ Ok covering → Fits budget covering
-unfolding list_at
-list-fits budget sections bases place covering h =
-    let lists = sections.debug_rnglists in
-    let step : List RangeListEntry → ℕ → Result (Next RangeListEntry) Cause =
-    list_entry_at budget sections bases lists in
-    let all = bind_ok (without_offset (items_from (length lists) step [] place)) _ covering h in
-    let read : items_from (length lists) step [] place ≡ Ok all.0 = grind (arith, all.1) in
-    let listed = Lists-within _ step [] place all.0.0 all.0.1 read in
-    let hold = lists-hold budget sections bases lists [] place all.0.0 all.0.1 listed (omega arith)
-    in
-    rw (← same-ok (record { ranges = flat_map ranges_in all.0.0; items = length all.0.0 }) covering
-    all.2) (record { hold = hold.0; counted = hold.1; within = omega (arith, hold.2) })
+  list-fits : (place : ℕ) (covering : Covering)
+      → list_at budget sections bases place ≡ Ok covering → Fits budget covering
+  unfolding list_at
+  list-fits place covering h =
+      let lists = sections.debug_rnglists in
+      let step : List RangeListEntry → ℕ → Result (Next RangeListEntry) Cause =
+      list_entry_at budget sections bases lists in
+      let all = bind_ok (without_offset (items_from (length lists) step [] place)) _ covering h in
+      let read : items_from (length lists) step [] place ≡ Ok all.0 = grind (arith, all.1) in
+      let listed = Lists-within _ step [] place all.0.0 all.0.1 read in
+      let hold = lists-hold lists [] place all.0.0 all.0.1 listed (omega arith) in
+      rw (← same-ok (record { ranges = flat_map ranges_in all.0.0; items = length all.0.0 })
+      covering all.2) (record { hold = hold.0; counted = hold.1; within = omega (arith, hold.2) })
 
-pair-fits : (budget : ℕ) (sections : Sections) (bases : Bases) (low high : AttributeValue)
-    (covering : Covering) → pair_at budget sections bases low high ≡ Ok covering
-    → Fits budget covering
-pair-fits budget sections bases low high covering h = record {
-  hold = λ i d within. grind (arith, live-holds);
-  counted = grind arith;
-  within = grind arith;
-}
+  pair-fits : (low high : AttributeValue) (covering : Covering)
+      → pair_at budget sections bases low high ≡ Ok covering → Fits budget covering
+  pair-fits low high covering h = record {
+    hold = λ i d within. grind (arith, live-holds);
+    counted = grind arith;
+    within = grind arith;
+  }
 
-none-fits : (budget : ℕ) → Fits budget (record { ranges = []; items = 0 })
-none-fits budget =
-    record { hold = All-nil IsValidRange; counted = omega arith; within = omega arith }
+  none-fits : Fits budget (record { ranges = []; items = 0 })
+  none-fits = record { hold = All-nil IsValidRange; counted = omega arith; within = omega arith }
 
-by-fits : (budget : ℕ) (sections : Sections) (bases : Bases)
-    (low high ranges : Option AttributeValue)
-    (covering : Covering) → covers_by budget sections bases low high ranges ≡ Ok covering
-    → Fits budget covering
-by-fits budget sections bases low high ranges covering h = grind (
-  arith,
-  λ (place : ℕ). list-fits budget sections bases place covering,
-  λ (l h : AttributeValue). pair-fits budget sections bases l h covering,
-  none-fits budget,
-)
+  by-fits : (low high ranges : Option AttributeValue) (covering : Covering)
+      → covers_by budget sections bases low high ranges ≡ Ok covering → Fits budget covering
+  by-fits low high ranges covering h = grind (
+    arith,
+    λ (place : ℕ). list-fits place covering,
+    λ (l h : AttributeValue). pair-fits l h covering,
+    none-fits,
+  )
 
-pub covers-fits : (budget : ℕ) (sections : Sections) (bases : Bases) (die : Die)
-    (covering : Covering)
-    → covers_of budget sections bases die ≡ Ok covering → Fits budget covering
-unfolding covers_of
-covers-fits budget sections bases die covering h =
-    by-fits budget sections bases (attribute die DW_AT_LOW_PC) (attribute die DW_AT_HIGH_PC)
-    (attribute die DW_AT_RANGES) covering h
+  pub covers-fits : (die : Die) (covering : Covering)
+      → covers_of budget sections bases die ≡ Ok covering → Fits budget covering
+  unfolding covers_of
+  covers-fits die covering h = by-fits (attribute die DW_AT_LOW_PC) (attribute die DW_AT_HIGH_PC)
+      (attribute die DW_AT_RANGES) covering h
 
 -- The number of items that a call returns is within the budget.
 pub budget-left : (budget items : ℕ) (s : Sections) (bases : Bases)
