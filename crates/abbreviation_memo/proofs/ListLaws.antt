@@ -23,8 +23,8 @@ attributes-step : (section : List ℕ) (at : ℕ) → attributes_at section at �
     (first_step (items_from (length section) (attribute_at section)) [] at
     (attribute_at section [] at))
 unfolding attributes_at
-attributes-step section at = ap without_offset (items_from-step (length section)
-    (attribute_at section) (attribute_at-advances section) [] at)
+attributes-step section at =
+    ap without_offset (items_from-step _ _ (attribute_at-advances section) [] at)
 
 pub attribute-before : (section : List ℕ) (place at after : ℕ) (x : AttributeSpecification)
     (rest : List AttributeSpecification) → attribute_at section [] place ≡ Ok (Item x at)
@@ -84,9 +84,8 @@ starts-at section place (Some x) rest is read = by_list (list_at section place) 
         let same = same-item x y rest listed.0 (sym read ∙ listed.1) in
         let others : attributes_at section rest ≡ Ok (ys, is.0) =
         attributes-ok section rest (ys, is.0)
-        (items_from-Lists (length section) (attribute_at section) (attribute_at-advances section)
-        [] rest ys is.0 (lists-alone section (y ∷ []) [] rest ys is.0 (rw (← same.1) at listed.2)))
-        in
+        (items_from-Lists _ _ (attribute_at-advances section) [] rest ys is.0
+        (lists-alone section (y ∷ []) [] rest ys is.0 (rw (← same.1) at listed.2))) in
         record {
           list = rw (list, ← same.0, others) refl;
           after = (
