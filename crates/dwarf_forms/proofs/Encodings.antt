@@ -19,10 +19,12 @@ pub record StandsAt (bytes : List ℕ) (at : ℕ) (front : List ℕ) (next : ℕ
   pub parts : drop at bytes ≡ front ++ rest
   pub next_is : next ≡ at + length front
 
+-- the bytes of an encoding, ..
 pub stands : {X : Type 0} {A : List ℕ → X → Type 0} {bytes : List ℕ} {at next : ℕ} {x : X}
     (s : IsEncodedAt A bytes at x next) → StandsAt bytes at s.front next
 stands s = record { rest = s.rest; parts = s.parts; next_is = s.next_is }
 
+-- .. and the encoding that bytes are
 pub encoded : {X : Type 0} {A : List ℕ → X → Type 0} {bytes front : List ℕ} {at next : ℕ} {x : X}
     → A front x → StandsAt bytes at front next → IsEncodedAt A bytes at x next
 encoded {front = front} is s = record {
@@ -40,6 +42,7 @@ pub again : {X Y : Type 0} {A : List ℕ → X → Type 0} {B : List ℕ → Y �
 again s is = encoded is (stands s)
 
 module _ {bytes : List ℕ} {at : ℕ} where
+  -- no bytes
   pub nothing : StandsAt bytes at [] at
   nothing = record { rest = drop at bytes; parts = refl; next_is = omega arith }
 
