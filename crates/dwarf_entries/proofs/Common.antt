@@ -59,6 +59,7 @@ pub use Rattle.dwarf_ranges.specs.{Ranges.{Covering, covers_by}, declared.bases.
 pub use Rattle.dwarf_ranges.specs.{declared.bases.Table.Table, declared.range.Range.Range}
 unfoldable pub use Rattle.dwarf_ranges.specs.Ranges.{covers_of}
 pub use Rattle.dwarf_units.proofs.{EntryMoves.{fixed-stays, offset-stays}, EntryOrder.entries-rise}
+pub use Rattle.dwarf_units.proofs.EntryOrder.{increasing}
 pub use Rattle.dwarf_units.proofs.{EntryOrder.list-in, NodeLaws.node_at-facts}
 pub use Rattle.dwarf_units.proofs.{RereadLaws.entries-again, TableLaws.{in_section-ok, table_for}}
 pub use Rattle.dwarf_units.proofs.{TableLaws.table_is, UnitLaws.{header_in-places, unit_at-moves}}
@@ -86,8 +87,8 @@ pub use walk.declared.unit_entries.ScopePlace.{ScopePlace}
 pub use walk.declared.unit_entries.UnitEntries.{UnitEntries}
 pub use Rattle.std.proofs.Common.{All, Bool, Contains, Err, IfSome, List, None, Ok, Option, Result}
 pub use Rattle.std.proofs.Common.{Some, Vec, [], ap, append-nil, append_assoc, arith, cond}
-pub use Rattle.std.proofs.Common.{count_by, drop, drop-cons, eq-eqb, false, filter, get_or}
-pub use Rattle.std.proofs.Common.{if◌then◌else◌, inl, inr, is_some, length, length-append}
+pub use Rattle.std.proofs.Common.{count_by, drop, drop-cons, eq-eqb, false, filter, flat_map}
+pub use Rattle.std.proofs.Common.{get_or, if◌then◌else◌, inl, inr, is_some, length, length-append}
 pub use Rattle.std.proofs.Common.{length-take, map, min, nat_le, nat_lt, ok_or, option_map}
 pub use Rattle.std.proofs.Common.{option_to_list, refl, rules, slice_get, subst, subst₂, suc}
 pub use Rattle.std.proofs.Common.{sum_by, sym, take, take-add, true, zero, zip, ℕ, ◌&&◌, ◌++◌, ◌+◌}

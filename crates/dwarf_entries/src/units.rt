@@ -46,6 +46,7 @@ impl<'a> Units<'a> {
     /// Parses all units: their headers, abbreviation tables, entries and roots. Each pass covers
     /// all units before the next one starts. A fault is reported at its unit, declaration or
     /// entry, as an offset relative to the start of its section.
+    #[tactic(auto, unfolding(crate::specs::Units::units_read))]
     pub(crate) fn read(alloc: Global, sections: &'a Sections<'a>) -> Result<Units<'a>, LoadFault>
         ensures units { Decodes (λ read. read.units) result
             (units_read (sections_of sections.now)) }

@@ -35,7 +35,7 @@ module _ {X : Type 0} (p : X → Bool) (xs : List X) where
       )
 
 -- The index after the entries below an entry.
-abbrev past_below : List Die → ℕ → Die → ℕ
+abbrev pub past_below : List Die → ℕ → Die → ℕ
 past_below dies i outer = i + 1 + prefix_len (λ d. nat_lt outer.depth d.depth) (drop (i + 1) dies)
 
 from-below : (dies : List Die) (i j : ℕ) (outer : Die) → slice_get dies i ≡ Some outer
@@ -75,7 +75,7 @@ number dies place = count_by is_scope (take place dies)
 
 -- The end of a scope, computed by counting the scopes below it, is the number of scopes before the
 -- index after those entries.
-ends-are : (dies : List Die) (i : ℕ) (outer : Die) → slice_get dies i ≡ Some outer
+pub ends-are : (dies : List Die) (i : ℕ) (outer : Die) → slice_get dies i ≡ Some outer
     → is_scope outer ≡ true → number dies i + 1 + count_by is_scope
     (below outer (drop (i + 1) dies)) ≡ number dies (past_below dies i outer)
 ends-are dies i outer is scope = omega (

@@ -2,17 +2,16 @@
 -- its index, and a scope that starts inside another one also ends inside it.
 use Rattle.dwarf_entries.proofs.Common
 use Common.{◌≡◌, ◌⊎◌, ℕ, zero, suc, ◌+◌, ◌<◌, ◌≤◌, cond, List, [], ◌∷◌, take, drop, ap, arith, ◌↔◌}
-use Common.{Some, slice_get, is_some, count_by, nat_lt, slice_get_within, Die, below, IsBelow}
-use Common.{RiseWithin, is_scope, Sections, CompilationUnit, ScopeSite, first_number, prefix_len}
-use Common.{sum_by-take-le, common_steps, length, get_or, refl, Ok, length-map, slice_get-get_or}
-use Common.{each-length, Scope, ParsedScope, Tree, tree_of, parse_scope, all_sites, AreNumbered}
-use Common.{AreInOrder, sum_by-take-drop, take-take, recursion_from_All, AreNested}
-use Rattle.dwarf_entries.proofs.Results.BelowLaws.{counted-one, counted-rises, scopes-between}
-use Rattle.dwarf_entries.proofs.Results.BelowLaws.{ends-within}
+use Common.{Some, slice_get, is_some, count_by, slice_get_within, Die, below, IsBelow, RiseWithin}
+use Common.{is_scope, Sections, CompilationUnit, ScopeSite, first_number, sum_by-take-le}
+use Common.{common_steps, length, get_or, refl, Ok, slice_get-get_or, Scope, Tree, tree_of}
+use Common.{AreNumbered, AreInOrder, take-take, recursion_from_All, AreNested}
+use Rattle.dwarf_entries.proofs.Results.BelowLaws.{counted-rises, scopes-between, ends-within}
+use Rattle.dwarf_entries.proofs.Results.BelowLaws.{ends-are, past_below}
 use Rattle.dwarf_entries.proofs.OriginChains.ReferenceLaws.{within-le}
 use Rattle.dwarf_entries.proofs.ScopePasses.SiteLaws.{IsSiteAt, first-next, first-all}
 use Rattle.dwarf_entries.proofs.UnitPasses.UnitLaws.{AreUnitsIn, dies-rise}
-use Rattle.dwarf_entries.proofs.Results.TreeParts.{tree-parts, scope-at, scopes_in}
+use Rattle.dwarf_entries.proofs.Results.TreeParts.{tree-parts, scope-at, scopes-count}
 
 -- ---- the order of numbers
 
@@ -22,23 +21,18 @@ first-rises us i j le = rw (← take-take i j us le)
     (sum_by-take-le (λ (u : CompilationUnit). count_by is_scope u.dies) (take j us) i)
 
 -- A scope ends before the scopes of any later unit.
-pub before-later : {us : List CompilationUnit} {n : ℕ} {p : ScopeSite} (at : IsSiteAt us n p)
-    (j : ℕ) → at.unit < j
-    → (n < first_number us j) × (n + 1 + p.inside ≤ first_number us j)
-before-later {us} {n} {p} at j lt =
+pub before-later : {us : List CompilationUnit} {i k n : ℕ} {p : ScopeSite}
+    → IsSiteAt us i k n p → (j : ℕ) → i < j → n + 1 + p.inside ≤ first_number us j
+before-later {us} {i} {k} {p = p} at j lt =
     let dies : List Die = p.member.unit.dies in
-    let after : List Die = drop (at.index + 1) dies in
-    let more = counted-one is_scope dies at.index p.member.die at.is.there
-    (ap is_some at.is.kind_is) in
-    let whole = sum_by-take-drop (λ (x : Die). cond (is_scope x) 1 0) dies (at.index + 1) in
-    let next = first-next us at.unit p.member.unit at.unit_is in
-    let rises = first-rises us (at.unit + 1) j (omega (arith, lt)) in
-    let few = sum_by-take-le (λ x. cond (is_scope x) 1 0) after
-    (prefix_len (λ (d : Die). nat_lt p.member.die.depth d.depth) after) in
-    let start = at.number_is in
-    let place = at.is.number_is in (
-      omega (arith, start, place, more, whole, next, rises),
-      omega (arith, start, place, more, whole, next, rises, at.is.inside_is, few),
+    omega (
+      arith,
+      at.number_is,
+      at.inside_is,
+      ends-are dies k p.member.die at.there (ap is_some at.kind_is),
+      sum_by-take-le (λ (x : Die). cond (is_scope x) 1 0) dies (past_below dies k p.member.die),
+      first-next us i p.member.unit at.unit_is,
+      first-rises us (i + 1) j (omega (arith, lt)),
     )
 
 -- ---- the order of offsets
@@ -61,68 +55,61 @@ rise-order from end (x ∷ dies) (suc i) (suc j) d e rise d_is e_is lt =
     rise-order (suc x.offset) end dies i j d e rise.1 d_is e_is (omega (arith, lt))
 
 -- A site is within its unit.
-pub site-within : {s : Sections} {us : List CompilationUnit} {n : ℕ} {p : ScopeSite}
-    → AreUnitsIn s us → (a : IsSiteAt us n p)
+pub site-within : {s : Sections} {us : List CompilationUnit} {i k n : ℕ} {p : ScopeSite}
+    → AreUnitsIn s us → IsSiteAt us i k n p
     → (p.member.unit.header.start ≤ p.member.die.offset)
     × (p.member.die.offset < p.member.unit.header.end)
-site-within {p = p} are a =
-    rise-at p.member.unit.header.start p.member.unit.header.end p.member.unit.dies a.index
-    p.member.die (dies-rise (are.each_is a.unit p.member.unit a.unit_is)) a.is.there
+site-within {i = i} {k} {p = p} are a =
+    rise-at p.member.unit.header.start p.member.unit.header.end p.member.unit.dies k p.member.die
+    (dies-rise (are.each_is i p.member.unit a.unit_is)) a.there
 
 -- ---- two sites
 
-module _ {us : List CompilationUnit} {n m : ℕ} {p q : ScopeSite} (a : IsSiteAt us n p)
-    (b : IsSiteAt us m q) where
+module _ {us : List CompilationUnit} {i j k l n m : ℕ} {p q : ScopeSite}
+    (a : IsSiteAt us i k n p) (b : IsSiteAt us j l m q) where
   -- A site of the same unit as another: its entry, its number, and the number of scopes below it.
-  pub in-unit-of : a.unit ≡ b.unit → let dies : List Die = p.member.unit.dies in
-      (slice_get dies b.index ≡ Some q.member.die)
-      × (m ≡ first_number us a.unit + count_by is_scope (take b.index dies))
-      × (q.inside ≡ count_by is_scope (below q.member.die (drop (b.index + 1) dies)))
+  pub in-unit-of : i ≡ j → let dies : List Die = p.member.unit.dies in
+      (slice_get dies l ≡ Some q.member.die)
+      × (m ≡ first_number us i + count_by is_scope (take l dies))
+      × (q.inside ≡ count_by is_scope (below q.member.die (drop (l + 1) dies)))
   in-unit-of e =
       let same : p.member.unit ≡ q.member.unit = grind (arith, a.unit_is, b.unit_is) in
-      rw (same, ap (first_number us) e)
-      (b.is.there, omega (arith, b.number_is, b.is.number_is), b.is.inside_is)
+      rw (same, e) (b.there, b.number_is, b.inside_is)
 
   -- A site is below another in the same unit if and only if its number is between the other's
   -- number and end.
-  pub sites-below : ((a.unit ≡ b.unit) × IsBelow p.member.unit.dies b.index a.index)
+  pub sites-below : ((i ≡ j) × IsBelow p.member.unit.dies l k)
       ↔ ((n < m) × (m < n + 1 + p.inside))
   sites-below =
-      let past = before-later a b.unit in
-      let before = before-later b a.unit in
-      let between = λ (e : a.unit ≡ b.unit). scopes-between p.member.unit.dies a.index b.index
-      p.member.die q.member.die a.is.there (in-unit-of e).0 (ap is_some a.is.kind_is)
-      (ap is_some b.is.kind_is) in
-      let place = a.is.number_is in
-      let inside = a.is.inside_is in (
+      let past = before-later a j in
+      let before = before-later b i in
+      let between = λ (e : i ≡ j). scopes-between p.member.unit.dies k l p.member.die q.member.die
+      a.there (in-unit-of e).0 (ap is_some a.kind_is) (ap is_some b.kind_is) in
+      let inside = a.inside_is in (
         λ below. let numbers = (between below.0).0 below.1 in
-            omega (arith, a.number_is, place, inside, (in-unit-of below.0).1, numbers.0, numbers.1),
-        λ numbers. let e : a.unit ≡ b.unit = grind (arith, a.number_is, b.number_is) in
-            (e, (between e).1 (grind (arith, a.number_is, place, inside, (in-unit-of e).1))),
+            omega (arith, a.number_is, inside, (in-unit-of below.0).1, numbers.0, numbers.1),
+        λ numbers. let e : i ≡ j = grind (arith, a.number_is, b.number_is) in
+            (e, (between e).1 (grind (arith, a.number_is, inside, (in-unit-of e).1))),
       )
 
   -- A scope with a lower number is in an earlier unit, or earlier in the same unit.
-  pub site-order : n < m
-      → (a.unit < b.unit) ⊎ ((p.member.unit ≡ q.member.unit) × (a.index < b.index))
+  pub site-order : n < m → (i < j) ⊎ ((p.member.unit ≡ q.member.unit) × (k < l))
   site-order less =
-      let counts = counted-rises is_scope p.member.unit.dies b.index a.index in
-      let past = before-later b a.unit in
-      let place = a.number_is in
-      let other = b.number_is in
-      grind (arith, a.unit_is, b.unit_is, a.is.number_is, b.is.number_is)
+      let counts = counted-rises is_scope p.member.unit.dies l k in
+      let past = before-later b i in
+      grind (arith, a.unit_is, b.unit_is, a.number_is, b.number_is)
 
   -- The offsets of sites are strictly increasing.
   pub sites-rise : {s : Sections} → AreUnitsIn s us → n < m
       → p.member.die.offset < q.member.die.offset
   sites-rise are less =
       let rise = rise-order q.member.unit.header.start q.member.unit.header.end q.member.unit.dies
-      a.index b.index p.member.die q.member.die
-      (dies-rise (are.each_is b.unit q.member.unit b.unit_is)) in
+      k l p.member.die q.member.die (dies-rise (are.each_is j q.member.unit b.unit_is)) in
       let order = site-order less in
       let first = site-within are a in
       let second = site-within are b in
-      let apart = are.apart a.unit b.unit p.member.unit q.member.unit a.unit_is b.unit_is in
-      grind (arith, a.is.there, b.is.there)
+      let apart = are.apart i j p.member.unit q.member.unit a.unit_is b.unit_is in
+      grind (arith, a.there, b.there)
 
 -- ---- the order of scopes
 
@@ -149,46 +136,35 @@ nested (s ∷ ss) at = (
 )
 
 -- A scope that starts inside another one also ends inside it.
-sites-nest : {us : List CompilationUnit} {n m : ℕ} {p q : ScopeSite} (a : IsSiteAt us n p)
-    (b : IsSiteAt us m q) → n < m → m < n + 1 + p.inside → m + 1 + q.inside ≤ n + 1 + p.inside
-sites-nest {p = p} {q = q} a b lt within =
+sites-nest : {us : List CompilationUnit} {i j k l n m : ℕ} {p q : ScopeSite}
+    (a : IsSiteAt us i k n p) (b : IsSiteAt us j l m q) → n < m → m < n + 1 + p.inside
+    → m + 1 + q.inside ≤ n + 1 + p.inside
+sites-nest {k = k} {l} {p = p} {q = q} a b lt within =
     let under = (sites-below a b).1 (lt, within) in
     let there = in-unit-of a b under.0 in
-    let ends = ends-within p.member.unit.dies a.index b.index p.member.die q.member.die
-    a.is.there there.0 (ap is_some a.is.kind_is) (ap is_some b.is.kind_is) under.1 in
-    omega (
-      arith,
-      ends,
-      a.number_is,
-      a.is.number_is,
-      a.is.inside_is,
-      there.1,
-      there.2,
-    )
+    let ends = ends-within p.member.unit.dies k l p.member.die q.member.die a.there there.0
+    (ap is_some a.kind_is) (ap is_some b.kind_is) under.1 in
+    omega (arith, ends, a.number_is, a.inside_is, there.1, there.2)
 
 pub scopes-in-order : (s : Sections) (tree : Tree) → tree_of s ≡ Ok tree → AreInOrder tree.scopes
 scopes-in-order s tree h =
     let t = tree-parts s tree h in
     let us = t.0 in
-    let parsed = t.1.parsed in
-    let scopes : List Scope = scopes_in parsed in
-    let at = scope-at s us parsed t.1.parsed_are in
-    let all = first-all us (length us) (omega arith) in
-    let size = each-length (parse_scope s us) [] (all_sites us) parsed t.1.parsed_are in
-    let same = length-map parsed (λ (j : ParsedScope). j.scope) in
-    rw (← t.1.is) (record {
-      numbered = numbered 0 (length scopes) scopes (omega arith) (λ i t found.
-          let x = at i t found in
-          let last = (before-later x.place (length us)
-          (slice_get_within us x.place.unit x.site.member.unit x.place.unit_is)).1 in (
+    let at = scope-at t.1 in
+    record {
+      numbered = numbered 0 (length tree.scopes) tree.scopes (omega arith) (λ i scope found.
+          let x = at i scope found in
+          let last = before-later x.place (length us)
+          (slice_get_within us x.unit x.site.member.unit x.place.unit_is) in
+          let all = first-all us (length us) (omega arith) in (
             omega (arith, x.number_is),
             omega (arith, x.number_is, x.end_is),
-            omega (arith, x.end_is, last, all, size, same),
+            omega (arith, x.end_is, last, all, scopes-count t.1),
           ));
-      nested = nested scopes (λ i k t u first second lt inside.
-          let x = at i t first in
-          let y = at k u second in
+      nested = nested tree.scopes (λ i j outer inner outer_is inner_is lt inside.
+          let x = at i outer outer_is in
+          let y = at j inner inner_is in
           let ends = sites-nest x.place y.place lt
           (omega (arith, inside, y.number_is, x.end_is)) in
           omega (arith, ends, y.end_is, x.end_is));
-    })
+    }

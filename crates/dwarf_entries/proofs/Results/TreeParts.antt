@@ -1,38 +1,42 @@
 -- The units and scopes that a result was read from.
 use Rattle.dwarf_entries.proofs.Common
-use Common.{◌≡◌, ℕ, ◌+◌, List, [], length, take, map, get_or, ap, sym, ◌∙◌, arith, length-take}
-use Common.{refl, Result, Ok, Some, All, Contains, slice_get, slice_get-get_or, slice_get_within}
-use Common.{Cause, in_section, bind_ok, same-ok, in_section-ok, Sections, EntryNames}
-use Common.{CompilationUnit, units_read, names_of, Tree, Scope, ScopeSite, ParsedScope, scope_at}
-use Common.{tree_of, roots_from, stmt_list_of, parse_scope, all_sites, all_scopes, DebugInfo}
-use Common.{All-map, with_offset, scope_of_site, covers_there, Covering}
+use Common.{◌≡◌, ℕ, ◌+◌, List, [], length, take, map, ap, sym, ◌∙◌, arith, length-take, refl}
+use Common.{Result, Ok, Some, Contains, slice_get, slice_get-get_or, slice_get_within, Cause}
+use Common.{in_section, bind_ok, same-ok, in_section-ok, Sections, EntryNames, CompilationUnit}
+use Common.{units_read, names_of, Tree, Scope, ScopeSite, ParsedScope, scope_at, tree_of}
+use Common.{roots_from, stmt_list_of, parse_scope, all_sites, all_scopes, DebugInfo, with_offset}
+use Common.{scope_of_site, covers_there, Covering, AllHold, Fits, covers-fits, each-length}
+use Common.{items_limit, length-map, sum_by, ◌-◌}
 use Rattle.dwarf_entries.proofs.ScopePasses.SiteLaws.{IsSiteAt, site-at}
 use Rattle.dwarf_entries.proofs.UnitPasses.PassLaws.{each-at, from-map}
+use Rattle.dwarf_entries.proofs.UnitPasses.UnitLaws.{AreUnitsIn, units-in}
 
 -- ---- the passes of a read
 
-abbrev pub tree_from : List CompilationUnit → List ParsedScope → Tree
-tree_from us parsed = record { roots = roots_from 0 us; scopes = map (λ j. j.scope) parsed }
-
 -- The units and scopes that a result was read from.
 pub record IsReadFrom (s : Sections) (us : List CompilationUnit) (tree : Tree) : Type 0 where
-  pub parsed : List ParsedScope
   pub us_are : units_read s ≡ Ok us
+  pub are : AreUnitsIn s us
+  pub parsed : List ParsedScope
   pub parsed_are : all_scopes s us ≡ Ok parsed
-  pub is : tree_from us parsed ≡ tree
+  pub roots_are : tree.roots ≡ roots_from 0 us
+  pub scopes_are : tree.scopes ≡ map (λ j. j.scope) parsed
 
 pub tree-parts : (s : Sections) (tree : Tree) → tree_of s ≡ Ok tree
     → (us : List CompilationUnit) × IsReadFrom s us tree
 unfolding tree_of
 tree-parts s tree h =
     let a = bind_ok (units_read s) _ tree h in
-    let b = bind_ok (in_section DebugInfo (all_scopes s a.0)) _ tree a.2 in (
+    let b = bind_ok (in_section DebugInfo (all_scopes s a.0)) _ tree a.2 in
+    rw (← same-ok _ tree b.2) (
       a.0,
       record {
-        parsed = b.0;
         us_are = a.1;
+        are = units-in s a.0 a.1;
+        parsed = b.0;
         parsed_are = in_section-ok DebugInfo (all_scopes s a.0) b.0 b.1;
-        is = same-ok (tree_from a.0 b.0) tree b.2;
+        roots_are = refl;
+        scopes_are = refl;
       },
     )
 
@@ -58,39 +62,35 @@ pub record IsParsedAt (s : Sections) (us : List CompilationUnit) (parsed : List 
   pub names : EntryNames
   pub names_are : names_of s us site.member ≡ Ok names
   pub covering : Covering
-  pub covering_is : covers_there s (take n parsed) site ≡ Ok covering
+  pub fits : Fits (items_limit - sum_by (λ j. j.items) (take n parsed)) covering
   pub is : scope_of_site (take n parsed) site names covering ≡ j
 
 -- The site of the scope with a number, and the data that the scope has from it.
-pub record IsScopeAt (us : List CompilationUnit) (n : ℕ) (scope : Scope) : Type 0 where
-  pub site : ScopeSite
-  pub there : slice_get (all_sites us) n ≡ Some site
-  pub place : IsSiteAt us n site
-  pub kind_is : scope.kind ≡ site.kind
-  pub offset_is : scope.offset ≡ site.member.die.offset
-  pub number_is : scope.number ≡ n
-  pub end_is : scope.«end» ≡ n + 1 + site.inside
-  pub stmt_list_is : scope.stmt_list ≡ stmt_list_of site.member.unit.dies
+pub record IsScopeAt (s : Sections) (us : List CompilationUnit) (n : ℕ) (scope : Scope) : Type 0
+  where
+    pub site : ScopeSite
+    pub there : slice_get (all_sites us) n ≡ Some site
+    pub unit : ℕ
+    pub index : ℕ
+    pub place : IsSiteAt us unit index n site
+    pub names : EntryNames
+    pub names_are : names_of s us site.member ≡ Ok names
+    pub name_is : scope.name ≡ names.name
+    pub linkage_name_is : scope.linkage_name ≡ names.linkage_name
+    pub kind_is : scope.kind ≡ site.kind
+    pub offset_is : scope.offset ≡ site.member.die.offset
+    pub number_is : scope.number ≡ n
+    pub end_is : scope.«end» ≡ n + 1 + site.inside
+    pub stmt_list_is : scope.stmt_list ≡ stmt_list_of site.member.unit.dies
+    pub hold : AllHold scope.ranges
 
--- ---- the list of scopes
-
-abbrev pub scopes_in : List ParsedScope → List Scope
-scopes_in parsed = map (λ j. j.scope) parsed
-
-pub all-are : (P : Scope → Type 0) (parsed : List ParsedScope)
-    → ((n : ℕ) (j : ParsedScope) → slice_get parsed n ≡ Some j → P j.scope)
-    → All P (scopes_in parsed)
-all-are P parsed each_is = All-map P (λ (j : ParsedScope). j.scope) parsed
-    (λ k d lt. each_is k (get_or parsed k d) (slice_get-get_or parsed k d lt))
-
-module _ (s : Sections) (us : List CompilationUnit) (parsed : List ParsedScope)
-    (h : all_scopes s us ≡ Ok parsed) where
-  pub parsed-at : (n : ℕ) (j : ParsedScope) → slice_get parsed n ≡ Some j
-      → IsParsedAt s us parsed n j
+module _ {s : Sections} {us : List CompilationUnit} {tree : Tree} (t : IsReadFrom s us tree) where
+  pub parsed-at : (n : ℕ) (j : ParsedScope) → slice_get t.parsed n ≡ Some j
+      → IsParsedAt s us t.parsed n j
   parsed-at n j there =
-      let of = each-at (parse_scope s us) [] (all_sites us) parsed h n j there in
+      let of = each-at (parse_scope s us) [] (all_sites us) t.parsed t.parsed_are n j there in
       let p = of.0 in
-      let before : List ParsedScope = take n parsed in
+      let before : List ParsedScope = take n t.parsed in
       let found = bind_ok (names_of s us p.member) _ j
       (without-offset p.member.die.offset (scope_at s us before p) j of.2) in
       let covering = bind_ok (covers_there s before p) _ j found.2 in
@@ -100,27 +100,41 @@ module _ (s : Sections) (us : List CompilationUnit) (parsed : List ParsedScope)
         names = found.0;
         names_are = found.1;
         covering = covering.0;
-        covering_is = covering.1;
+        fits = covers-fits _ s p.member.unit.bases p.member.die covering.0 covering.1;
         is = same-ok (scope_of_site before p found.0 covering.0) j covering.2;
       }
 
-  pub scope-at : (n : ℕ) (scope : Scope) → slice_get (scopes_in parsed) n ≡ Some scope
-      → IsScopeAt us n scope
+  pub scope-at : (n : ℕ) (scope : Scope) → slice_get tree.scopes n ≡ Some scope
+      → IsScopeAt s us n scope
   scope-at n scope there =
-      let j = from-map (λ (j : ParsedScope). j.scope) parsed n scope there in
+      let j = from-map (λ (j : ParsedScope). j.scope) t.parsed n scope
+      (rw t.scopes_are at there) in
       let x = parsed-at n j.0 j.1 in
-      let within = slice_get_within parsed n j.0 j.1 in
-      let size : length (take n parsed) ≡ n = omega (arith, length-take n parsed, within) in
+      let size = length-take n t.parsed in
+      let within = slice_get_within t.parsed n j.0 j.1 in
+      let number : length (take n t.parsed) ≡ n = omega (arith, size, within) in
+      let place = site-at us n x.site x.there in
       rw (← j.2, ← x.is) (record {
         site = x.site;
         there = x.there;
-        place = site-at us n x.site x.there;
+        unit = place.0;
+        index = place.1;
+        place = place.2;
+        names = x.names;
+        names_are = x.names_are;
+        name_is = refl;
+        linkage_name_is = refl;
         kind_is = refl;
         offset_is = refl;
-        number_is = size;
-        end_is = omega (arith, size);
+        number_is = number;
+        end_is = omega (arith, number);
         stmt_list_is = refl;
+        hold = x.fits.hold;
       })
+
+  pub scopes-count : length tree.scopes ≡ length (all_sites us)
+  scopes-count = rw (t.scopes_are, length-map t.parsed (λ (j : ParsedScope). j.scope))
+      (each-length (parse_scope s us) [] (all_sites us) t.parsed t.parsed_are)
 
 -- A scope of the list has an index.
 pub contained : (scopes : List Scope) (scope : Scope) → Contains scopes scope

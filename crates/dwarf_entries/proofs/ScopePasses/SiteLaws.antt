@@ -126,17 +126,17 @@ all-sites-at (v ∷ us) (suc i) m n u p found here is =
     at-right (sites_in v v.dies) (all_sites us) n (first_number us i + m)
     (omega (arith, is, sum, sites-count v v.dies)) ∙ rest
 
--- A site belongs to the entry at an index of the unit at an index.
-pub record IsSiteAt (us : List CompilationUnit) (n : ℕ) (p : ScopeSite) : Type 0 where
-  pub unit : ℕ
+-- A site is that of the entry at an index of the unit at an index.
+pub record IsSiteAt (us : List CompilationUnit) (unit index n : ℕ) (p : ScopeSite) : Type 0 where
   pub unit_is : slice_get us unit ≡ Some p.member.unit
-  pub number : ℕ
-  pub number_is : n ≡ first_number us unit + number
-  pub index : ℕ
-  pub is : IsSiteIn p.member.unit p.member.unit.dies number index p
+  pub there : slice_get p.member.unit.dies index ≡ Some p.member.die
+  pub kind_is : kind_of p.member.die.tag ≡ Some p.kind
+  pub number_is : n ≡ first_number us unit + count_by is_scope (take index p.member.unit.dies)
+  pub inside_is :
+      p.inside ≡ count_by is_scope (below p.member.die (drop (index + 1) p.member.unit.dies))
 
 pub site-at : (us : List CompilationUnit) (n : ℕ) (p : ScopeSite) → slice_get (all_sites us) n
-    ≡ Some p → IsSiteAt us n p
+    ≡ Some p → (unit index : ℕ) × IsSiteAt us unit index n p
 site-at [] n p h = cc
 site-at (u ∷ us) n p h = elim (cases_lt n (length (sites_in u u.dies))) [
   | inl lt ↦ (
@@ -144,28 +144,14 @@ site-at (u ∷ us) n p h = elim (cases_lt n (length (sites_in u u.dies))) [
       let is = site-in u u.dies n p (q.1
       ∙ (sym (at-left (sites_in u u.dies) (all_sites us) n q.0 q.1) ∙ h)) in
       let none : first_number (u ∷ us) zero ≡ 0 = refl in
-      record {
-        unit = zero;
-        unit_is = rw is.unit_is refl;
-        number = n;
-        number_is = omega (arith, none);
-        index = index_of p.member.unit.dies n;
-        is = rw (← is.unit_is) at is;
-      })
+      (zero, index_of u.dies n, grind (arith, is, none)))
   | inr ge ↦ (
       let m : ℕ = n - length (sites_in u u.dies) in
       let at = site-at us m p
       (sym (at-right (sites_in u u.dies) (all_sites us) n m (omega (arith, ge))) ∙ h) in
       let sum = sum_by-cons (λ (w : CompilationUnit). count_by is_scope w.dies) u
-      (take at.unit us) in
-      record {
-        unit = suc at.unit;
-        unit_is = at.unit_is;
-        number = at.number;
-        number_is = omega (arith, ge, at.number_is, sum, sites-count u u.dies);
-        index = at.index;
-        is = at.is;
-      })
+      (take at.0 us) in
+      (suc at.0, at.1, grind (arith, at.2, sum, sites-count u u.dies)))
 ]
 
 -- The site of an entry of a unit.

@@ -4,8 +4,8 @@ use proofs.{Option, Some, None, Ok, All, DW_AT_LINKAGE_NAME, DW_AT_NAME, same-ok
 use proofs.{EntryNames, Sections, CompilationUnit, Member, chain_within, names_of, Scope, Tree}
 use proofs.{tree_of, DebugInfo, first_on, name_on, references_limit, TextOffset, text_in, text_of}
 use proofs.{section_bytes, IsTextOf, reading-ok, text-encoded, IfSome, Section, StrOffsets, reading}
-use proofs.{cstr_at, text_at, DebugLineStr, DebugStr, Table, item_at, optional, tree-parts, all-are}
-use proofs.{parsed-at}
+use proofs.{cstr_at, text_at, DebugLineStr, DebugStr, Table, item_at, optional, tree-parts, get_or}
+use proofs.{scope-at, slice_get-get_or}
 use Rattle.dwarf_entries.proofs.tree_laws.names_are_strings.Goals as goal
 
 -- ---- a string that is found in a section
@@ -68,15 +68,13 @@ names-are_texts s units m found h =
       first-is_text s (first_on DW_AT_LINKAGE_NAME path.0) linkage_name.0 linkage_name.1,
     )
 
-abbrev HasTexts : Sections → Scope → Type 0
-HasTexts s scope = AreTexts s scope.name scope.linkage_name
-
-all-strings : (s : Sections) (tree : Tree) → tree_of s ≡ Ok tree → All (HasTexts s) tree.scopes
-all-strings s tree h =
+all-strings : (s : Sections) (tree : Tree) → tree_of s ≡ Ok tree
+    → All (λ (scope : Scope). AreTexts s scope.name scope.linkage_name) tree.scopes
+all-strings s tree h k d lt =
     let t = tree-parts s tree h in
-    rw (← t.1.is) (all-are (HasTexts s) t.1.parsed (λ n j there.
-    let at = parsed-at s t.0 t.1.parsed t.1.parsed_are n j there in
-    rw (← at.is) (names-are_texts s t.0 at.site.member at.names at.names_are)))
+    let at = scope-at t.1 k (get_or tree.scopes k d) (slice_get-get_or tree.scopes k d lt) in
+    rw (at.name_is, at.linkage_name_is)
+    (names-are_texts s t.0 at.site.member at.names at.names_are)
 
 pub returns : goal.returns
 returns c = record {

@@ -1,16 +1,15 @@
 use Rattle.dwarf_entries.proofs
 use proofs.{◌≡◌, ℕ, suc, ◌+◌, ◌<◌, ◌≤◌, List, [], ◌∷◌, length, map, refl, ap, arith, get_or, Some}
-use proofs.{All, slice_get, All-nil, All-cons, All-weaker, slice_get-get_or, get_or_from_slice_get}
-use proofs.{slice_get_within, Die, RiseWithin, Root, Sections, CompilationUnit, Scope, root_of}
-use proofs.{roots_from, AllPairs, All-map, AllPairs-cons, IsStrictlyIncreasing, within-le}
-use proofs.{sites-rise, site-within, tree-parts, scope-at, scopes_in, AreUnitsIn, dies-rise}
-use proofs.{units-in, units-after, from-map}
+use proofs.{slice_get, slice_get-get_or, Die, RiseWithin, Root, Sections, CompilationUnit, Scope}
+use proofs.{root_of, roots_from, All-map, IsStrictlyIncreasing, within-le, sites-rise, site-within}
+use proofs.{tree-parts, scope-at, AreUnitsIn, dies-rise, units-after, from-map, count_by, flat_map}
+use proofs.{increasing, is_scope, rise-at, take, ◌++◌}
 use Rattle.dwarf_entries.proofs.tree_laws.offsets_rise.Goals as goal
 
-increasing : {X : Type 0} (key : X → ℕ) (xs : List X) → ((i j : ℕ) (x y : X)
+increasing-by : {X : Type 0} (key : X → ℕ) (xs : List X) → ((i j : ℕ) (x y : X)
     → slice_get xs i ≡ Some x → slice_get xs j ≡ Some y → i < j → key x < key y)
     → IsStrictlyIncreasing (map key xs)
-increasing key xs rise k lt =
+increasing-by key xs rise k lt =
     let keys : List ℕ = map key xs in
     let a = from-map key xs k _ (slice_get-get_or keys k 0 (omega (arith, lt))) in
     let b = from-map key xs (k + 1) _ (slice_get-get_or keys (k + 1) 0 lt) in
@@ -20,80 +19,73 @@ increasing key xs rise k lt =
 
 pub returns-clause-scopes : goal.returns-clause-scopes
 returns-clause-scopes c s tree h =
-    let t = tree-parts s tree h in
-    let scopes : List Scope = scopes_in t.1.parsed in
-    let are = units-in s t.0 t.1.us_are in
-    let at = scope-at s t.0 t.1.parsed t.1.parsed_are in
-    rw (← t.1.is) (
-      increasing (λ (scope : Scope). scope.offset) scopes (λ i j x y x_is y_is lt.
+    let t = (tree-parts s tree h).1 in
+    let at = scope-at t in (
+      increasing-by (λ (scope : Scope). scope.offset) tree.scopes (λ i j x y x_is y_is lt.
           let first = at i x x_is in
           let second = at j y y_is in
-          let less = sites-rise first.place second.place are lt in
+          let less = sites-rise first.place second.place t.are lt in
           omega (arith, less, first.offset_is, second.offset_is)),
       All-map (λ (offset : ℕ). offset < length s.debug_info) (λ (scope : Scope). scope.offset)
-          scopes (λ k d lt.
-          let one = at k (get_or scopes k d) (slice_get-get_or scopes k d lt) in
-          let inside = site-within are one.place in
-          let unit = are.each_is one.place.unit one.site.member.unit one.place.unit_is in
+          tree.scopes (λ k d lt.
+          let one = at k (get_or tree.scopes k d) (slice_get-get_or tree.scopes k d lt) in
+          let inside = site-within t.are one.place in
+          let unit = t.are.each_is one.unit one.site.member.unit one.place.unit_is in
           omega (arith, inside.1, unit.bounds.within, one.offset_is)),
     )
 
 -- ---- roots
 
-abbrev Within : ℕ → ℕ → Root → Type 0
-Within from end root = (from ≤ root.offset) × (root.offset < end)
+raised : (low from end : ℕ) (dies : List Die) → low ≤ from → RiseWithin from end dies
+    → RiseWithin low end dies
+raised low from end [] le rise = omega (arith, le, rise)
+raised low from end (die ∷ dies) le rise = grind (arith, rise.0, rise.1)
 
--- The offsets of roots rise, from a lower bound on.
-abbrev RootsRise : Sections → ℕ → List Root → Type 0
-RootsRise s from roots =
-    All (Within from (length s.debug_info)) roots × AllPairs (λ a b. a.offset < b.offset) roots
+-- The roots of units, as entries.
+abbrev heads : List CompilationUnit → List Die
+heads us = flat_map (λ u. take 1 u.dies) us
 
--- The roots rise with that of a unit in front.
-rise-cons : (s : Sections) (from number past start end : ℕ) (dies : List Die) (roots : List Root)
-    → from ≤ start → end ≤ length s.debug_info → RiseWithin start end dies → RootsRise s end roots
-    → RootsRise s from (root_of number past dies roots)
-rise-cons s from number past start end [] roots lower within rise rest = (
-  All-weaker (Within end (length s.debug_info)) (Within from (length s.debug_info))
-      (λ root at. (omega (arith, lower, rise, at.0), at.1)) roots rest.0,
-  rest.1,
-)
-rise-cons s from number past start end (die ∷ dies) roots lower within rise rest =
-    let size : ℕ = length s.debug_info in
-    let first = rise.0 in
-    let fits = within-le (suc die.offset) end dies rise.1 in (
-      All-cons (Within from size) _ roots
-          (omega (arith, lower, first), omega (arith, fits, within))
-          (All-weaker (Within end size) (Within from size)
-          (λ root at. (omega (arith, lower, first, fits, at.0), at.1)) roots rest.0),
-      AllPairs-cons (λ (a b : Root). a.offset < b.offset) _ roots (All-weaker (Within end size)
-          (λ (root : Root). die.offset < root.offset) (λ root at. omega (arith, fits, at.0)) roots
-          rest.0) rest.1,
-    )
+heads-are : (number : ℕ) (us : List CompilationUnit) → map (λ r. r.offset) (roots_from number us)
+    ≡ map (λ d. d.offset) (heads us)
+heads-are number [] = refl
+heads-are number (u ∷ us) =
+    let past : ℕ = number + count_by is_scope u.dies in
+    by_dies (roots_from past us) u.dies past (heads-are past us)
+  where
+    by_dies : (roots : List Root) (dies : List Die) (past : ℕ)
+        → map (λ r. r.offset) roots ≡ map (λ d. d.offset) (heads us)
+        → map (λ r. r.offset) (root_of number past dies roots)
+        ≡ map (λ d. d.offset) (take 1 dies ++ heads us)
+    by_dies roots [] past same = same
+    by_dies roots (die ∷ dies) past same = ap (λ (places : List ℕ). die.offset ∷ places) same
 
-roots-from-rise : (s : Sections) (from number : ℕ) (us : List CompilationUnit) → AreUnitsIn s us
+-- The first entry of a unit, before entries after the unit.
+head-rises : (from end size : ℕ) (dies rest : List Die) → RiseWithin from end dies
+    → RiseWithin end size rest → RiseWithin from size (take 1 dies ++ rest)
+head-rises from end size [] rest rise later = raised from end size rest rise later
+head-rises from end size (die ∷ dies) rest rise later =
+    (rise.0, raised (suc die.offset) end size rest (within-le (suc die.offset) end dies rise.1) later)
+
+heads-rise : {s : Sections} (from : ℕ) (us : List CompilationUnit) → AreUnitsIn s us
     → ((i : ℕ) (u : CompilationUnit) → slice_get us i ≡ Some u → from ≤ u.header.start)
-    → RootsRise s from (roots_from number us)
-roots-from-rise s from number [] are starts = (All-nil _, λ i j d lt within. grind arith)
-roots-from-rise s from number (u ∷ us) are starts =
+    → from ≤ length s.debug_info → RiseWithin from (length s.debug_info) (heads us)
+heads-rise from [] are starts le = le
+heads-rise {s} from (u ∷ us) are starts le =
     let is = are.each_is 0 u refl in
-    rise-cons s from number _ u.header.start u.header.end u.dies (roots_from _ us)
-    (starts 0 u refl) is.bounds.within (dies-rise is) (roots-from-rise s u.header.end _ us
-    (units-after u us are) (λ i v found. are.apart 0 (suc i) u v refl found (omega arith)))
+    let end : ℕ = u.header.end in
+    head-rises from end (length s.debug_info) u.dies (heads us)
+    (raised from u.header.start end u.dies (starts 0 u refl) (dies-rise is))
+    (heads-rise end us (units-after u us are)
+    (λ i v found. are.apart 0 (suc i) u v refl found (omega arith)) is.bounds.within)
 
 pub returns-clause-roots : goal.returns-clause-roots
 returns-clause-roots c s tree h =
     let t = tree-parts s tree h in
-    let roots : List Root = roots_from 0 t.0 in
-    let rise = roots-from-rise s 0 0 t.0 (units-in s t.0 t.1.us_are) (λ i u found. omega arith) in
-    rw (← t.1.is) (
-      increasing (λ (root : Root). root.offset) roots (λ i j x y x_is y_is lt.
-          let less = rise.1 i j x lt (slice_get_within roots j y y_is) in
-          omega (
-            arith,
-            less,
-            ap (λ (r : Root). r.offset) (get_or_from_slice_get roots i x x x_is),
-            ap (λ (r : Root). r.offset) (get_or_from_slice_get roots j y x y_is),
-          )),
-      All-map (λ (offset : ℕ). offset < length s.debug_info) (λ (root : Root). root.offset) roots
-          (λ k d lt. (rise.0 k d lt).1),
+    let size : ℕ = length s.debug_info in
+    let dies : List Die = heads t.0 in
+    let rise = heads-rise 0 t.0 t.1.are (λ i u found. omega arith) (omega arith) in
+    rw (t.1.roots_are, heads-are 0 t.0) (
+      increasing 0 size dies rise,
+      All-map (λ (offset : ℕ). offset < size) (λ (d : Die). d.offset) dies (λ k d lt.
+          (rise-at 0 size dies k (get_or dies k d) rise (slice_get-get_or dies k d lt)).1),
     )

@@ -1,11 +1,9 @@
 use Rattle.dwarf_entries.proofs
-use proofs.{◌≡◌, ℕ, zero, suc, ◌+◌, ◌<◌, ◌≤◌, List, [], ◌∷◌, length, take, refl, arith, Some, All}
-use proofs.{slice_get, count_by, length-map, All-nil, All-cons, All-weaker, sum_by-cons}
-use proofs.{each-length, Die, is_scope, Sections, Root, CompilationUnit, Scope, ParsedScope}
-use proofs.{stmt_list_of, root_of, roots_from, first_number, parse_scope, all_sites}
-use proofs.{number_of_scopes, All-contains, IsOfUnit, first-rises, before-later, rise-order}
-use proofs.{IsScopeAt, tree-parts, scope-at, contained, scopes_in, first-next, all-sites-count}
-use proofs.{AreUnitsIn, dies-rise, units-in, roots-part}
+use proofs.{◌≡◌, ℕ, zero, suc, ◌+◌, ◌≤◌, List, [], ◌∷◌, length, take, refl, arith, Some, All}
+use proofs.{slice_get, count_by, All-nil, All-cons, All-weaker, sum_by-cons, Die, is_scope, Root}
+use proofs.{CompilationUnit, stmt_list_of, root_of, roots_from, first_number, number_of_scopes}
+use proofs.{All-contains, first-rises, before-later, tree-parts, scope-at, contained, first-next}
+use proofs.{all-sites-count, dies-rise, roots-part, RiseWithin, rise-at, root_in, scopes-count}
 use Rattle.dwarf_entries.proofs.tree_laws.roots_partition_scopes.Goals as goal
 
 -- Each root belongs to a unit with entries.
@@ -59,48 +57,46 @@ roots-of number (u ∷ us) =
 
 -- ---- the theorems
 
+-- The first entry of a unit has the lowest offset.
+from-first : (from end : ℕ) (dies : List Die) (k : ℕ) (first d : Die) → RiseWithin from end dies
+    → slice_get dies 0 ≡ Some first → slice_get dies k ≡ Some d → first.offset ≤ d.offset
+from-first from end [] k first d rise first_is is = cc
+from-first from end (x ∷ dies) zero first d rise first_is is = grind arith
+from-first from end (x ∷ dies) (suc k) first d rise first_is is =
+    grind (arith, rise-at (suc x.offset) end dies k d rise.1 is)
+
 pub returns-clause-parts : goal.returns-clause-parts
 returns-clause-parts c s tree h =
     let t = tree-parts s tree h in
-    let us = t.0 in
-    let made = each-length (parse_scope s us) [] (all_sites us) t.1.parsed t.1.parsed_are in
-    let same = length-map t.1.parsed (λ (j : ParsedScope). j.scope) in
-    let size : 0 + number_of_scopes us ≡ length (scopes_in t.1.parsed) =
-    omega (arith, made, same, all-sites-count us) in
-    let parts = roots-part 0 us in
-    rw (← t.1.is) (rw size at parts)
+    let count : length tree.scopes ≡ 0 + number_of_scopes t.0 =
+    omega (arith, scopes-count t.1, all-sites-count t.0) in
+    rw (t.1.roots_are, count) (roots-part 0 t.0)
 
-of-unit : (s : Sections) (us : List CompilationUnit) (n : ℕ) (scope : Scope) (root : Root)
-    → AreUnitsIn s us → IsScopeAt us n scope → IsRootOf us 0 root → root.first ≤ scope.number
-    → scope.number < root.past → IsOfUnit root scope
-of-unit s us n scope root are x r from until =
+pub returns-clause-scopes : goal.returns-clause-scopes
+returns-clause-scopes c s tree root scope h root_in scope_in from until =
+    let t = tree-parts s tree h in
+    let us = t.0 in
+    let r = All-contains (IsRootOf us 0) (roots_from 0 us) root (roots-of 0 us)
+    (rw t.1.roots_are at root_in) in
+    let j = contained tree.scopes scope scope_in in
+    let x = scope-at t.1 j.0 scope j.1 in
     let next = first-next us r.unit r.of r.of_is in
-    let e : x.place.unit ≡ r.unit = grind (
+    let later = before-later x.place r.unit in
+    let e : x.unit ≡ r.unit = grind (
       arith,
-      first-rises us (r.unit + 1) x.place.unit,
-      before-later x.place r.unit,
+      first-rises us (r.unit + 1) x.unit,
       x.number_is,
       x.place.number_is,
       r.first_is,
       r.past_is,
     ) in
     let same : x.site.member.unit ≡ r.of = grind (arith, x.place.unit_is, r.of_is) in
-    let last = (before-later x.place (r.unit + 1) (omega (arith, e))).1 in
-    let there = rw same at x.place.is.there in
-    let rise = rise-order r.of.header.start r.of.header.end r.of.dies 0 x.place.index r.die
-    x.site.member.die (dies-rise (are.each_is r.unit r.of r.of_is)) r.die_is there in
+    let last = before-later x.place (r.unit + 1) (omega (arith, e)) in
+    let rise = from-first r.of.header.start r.of.header.end r.of.dies x.index r.die
+    x.site.member.die (dies-rise (t.1.are.each_is r.unit r.of r.of_is)) r.die_is
+    (rw same at x.place.there) in
     record {
       stmt_list_is = rw (x.stmt_list_is, r.root_is.1, same) refl;
       ends = omega (arith, x.end_is, last, next, r.first_is, r.past_is);
-      starts = grind (arith, x.offset_is, r.root_is.0, r.die_is);
+      starts = omega (arith, rise, x.offset_is, r.root_is.0);
     }
-
-pub returns-clause-scopes : goal.returns-clause-scopes
-returns-clause-scopes c s tree root scope h root_in scope_in =
-    let t = tree-parts s tree h in
-    let is = t.1.is in
-    let inside = rw (← is) at root_in in
-    let j = contained (scopes_in t.1.parsed) scope (rw (← is) at scope_in) in
-    of-unit s t.0 j.0 scope root (units-in s t.0 t.1.us_are)
-    (scope-at s t.0 t.1.parsed t.1.parsed_are j.0 scope j.1)
-    (All-contains (IsRootOf t.0 0) (roots_from 0 t.0) root (roots-of 0 t.0) inside)

@@ -2,17 +2,6 @@ use Rattle.dwarf_entries.proofs.{sym, ◌∙◌, List, refl, Die, in_section-ok,
 use Rattle.dwarf_entries.proofs.{DebugAbbrev, stored_unit, bases-stay, exit, step-fault}
 use Rattle.dwarf_entries.proofs.units.Units.read.Goals as goal
 
-pub returns-in_err-headers-clause-units : goal.returns-in_err-headers-clause-units
-unfolding units_read
-returns-in_err-headers-clause-units c =
-    rw (exit _ c.from_residual.ensures.1) (step-fault _ _ c.in_err-headers.ensures)
-
-pub returns-in_err-tables-clause-units : goal.returns-in_err-tables-clause-units
-unfolding units_read
-returns-in_err-tables-clause-units c =
-    rw (exit _ c.from_residual-in_err-tables.ensures.1, c.in_ok-headers.ensures)
-    (step-fault _ _ (rw c.as_slice.ensures.value at c.in_err-tables.ensures.err))
-
 pub returns-in_err-units-clause-units : goal.returns-in_err-units-clause-units
 unfolding units_read
 returns-in_err-units-clause-units c =
