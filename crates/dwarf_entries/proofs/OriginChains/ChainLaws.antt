@@ -78,24 +78,22 @@ followed-none {m = m} at stored =
 
 module _ {units : List CompilationUnit} {remaining : ℕ} {m : Member} {left : ℕ} {found : UnitEntry}
     {firsts : FirstNames} (so_far : Followed units remaining m left found firsts) where
-  next-is : (next : Option AttributeValue) → found.entry.next ≡ next
-      → next_of so_far.last.die ≡ next
-  next-is next is = sym (ap (λ (e : NamedEntry). e.next) so_far.at.entry_is) ∙ is
-
-  -- The chain after the last entry, given the chain from that entry on.
-  rest-is : (r : Result (List Member) Cause) → chain_within left units so_far.last ≡ r
-      → chain_within remaining units m ≡ prepend so_far.before r
-  rest-is r is = so_far.rest ∙ ap (prepend so_far.before) is
+  next-is : next_of so_far.last.die ≡ found.entry.next
+  next-is = sym (ap (λ (e : NamedEntry). e.next) so_far.at.entry_is)
 
   pub followed-end : found.entry.next ≡ None
       → FindsFirst units (Ok firsts) (chain_within remaining units m)
   followed-end is = (
     so_far.before ++ so_far.last ∷ [],
-    rest-is (Ok (so_far.last ∷ [])) (ended units left so_far.last (next-is None is)),
+    grind (arith, so_far.rest, next-is, ended units left so_far.last),
     so_far.stored,
   )
 
   module _ (reference : AttributeValue) (is : found.entry.next ≡ Some reference) where
+    pub followed-deep : left ≡ 0 → chain_within remaining units m ≡ Err OriginDepth
+    followed-deep none =
+        grind (arith, so_far.rest, next-is, stopped units so_far.last reference)
+
     -- The chain after the last entry, given the target of its reference.
     followed-on : (after : ℕ) (target : Result Member Cause) → after + 1 ≡ left
         → target_of units so_far.last.unit reference ≡ target
@@ -103,12 +101,8 @@ module _ {units : List CompilationUnit} {remaining : ℕ} {m : Member} {left : �
         (target >>= λ next. in_front so_far.last (chain_within after units next))
     followed-on after target left_is target_is =
         let one : left ≡ suc after = omega (arith, left_is) in
-        rest-is _ (rw (one, ← target_is) (stepped units after so_far.last reference
-        (next-is (Some reference) is)))
-
-    pub followed-deep : left ≡ 0 → chain_within remaining units m ≡ Err OriginDepth
-    followed-deep none = rest-is (Err OriginDepth)
-        (rw none (stopped units so_far.last reference (next-is (Some reference) is)))
+        let step = stepped units after so_far.last reference (next-is ∙ is) in
+        so_far.rest ∙ rw (one, ← target_is) (ap (prepend so_far.before) step)
 
     module _ (to : Option UnitPlace) (finds : (u : CompilationUnit) → slice_get units found.unit
         ≡ Some u → Finds units to (target_of units u reference)) where
@@ -178,19 +172,13 @@ names-by-reference s units number entry m reference at parts =
     let stored = rw at.entry_is at parts in
     let remaining : references_limit ≡ suc 15 = omega arith in
     rw (remaining, stepped units 15 m reference stored.0)
-    (by_target stored.1 stored.2 (target_of units m.unit reference))
+    (by_target stored.1 stored.2 (target_of units m.unit reference) (chain_within 15 units))
   where
     by_target : attribute m.die DW_AT_NAME ≡ None → attribute m.die DW_AT_LINKAGE_NAME ≡ None
-        → (t : Result Member Cause)
-        → ((t >>= λ n. in_front m (chain_within 15 units n)) >>= λ path. on_path s path)
-        ≡ (t >>= λ n. second_names s units n)
-    by_target no_name no_linkage_name (Err e) = refl
-    by_target no_name no_linkage_name (Ok n) = by_path (chain_within 15 units n)
-      where
-        by_path : (p : Result (List Member) Cause) → (in_front m p >>= λ path. on_path s path)
-            ≡ (p >>= λ path. on_path s path)
-        by_path (Err e) = refl
-        by_path (Ok path) = rw (no_name, no_linkage_name) refl
+        → (t : Result Member Cause) (chain : Member → Result (List Member) Cause)
+        → ((t >>= λ n. in_front m (chain n)) >>= λ path. on_path s path)
+        ≡ (t >>= λ n. chain n >>= λ path. on_path s path)
+    by_target no_name no_linkage_name t chain = grind arith
 
 -- ---- the names of the target of a reference
 

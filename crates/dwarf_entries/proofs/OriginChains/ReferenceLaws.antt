@@ -7,9 +7,9 @@ use Common.{Die, RiseWithin, UnitEntries, StoredUnit, Sections, CompilationUnit,
 use Common.{AreStored, member_in, Reference, ok_or, cases_lt, IsNonDecreasingBy, IsPartitionPoint}
 use Common.{members_of, IsWithin, member_at, eq-eqb, option_to_list, ne_eqb, find-append}
 use Common.{DW_FORM_REF_ADDR}
-use Rattle.dwarf_entries.proofs.{UnitPasses.PassLaws.element, UnitPasses.UnitLaws.stored-at}
-use Rattle.dwarf_entries.proofs.UnitPasses.UnitLaws.{stored-index, stored-length, AreUnitsIn}
-use Rattle.dwarf_entries.proofs.UnitPasses.UnitLaws.{dies-rise}
+use Rattle.dwarf_entries.proofs.UnitPasses.PassLaws.{element}
+use Rattle.dwarf_entries.proofs.UnitPasses.UnitLaws.{stored-at, stored-index, stored-length}
+use Rattle.dwarf_entries.proofs.UnitPasses.UnitLaws.{AreUnitsIn, dies-rise}
 
 -- ---- the entry at an offset of a unit
 
@@ -68,14 +68,14 @@ only-in : (us : List CompilationUnit) (n offset : ℕ)
     → find (is_at_offset offset) (members_of us)
     ≡ find (is_at_offset offset) (members_of (option_to_list (slice_get us n)))
 only-in [] n offset none = refl
-only-in (u ∷ us) zero offset none = find-units u us offset ∙ rw (
-  only-in us (length us) offset (λ i v found differs. none (suc i) v found
-      (λ (e : suc i ≡ zero). cc)),
-  slice_get_past us (length us) (omega arith),
-) (sym (find-units u [] offset))
-only-in (u ∷ us) (suc n) offset none = find-units u us offset
-    ∙ rw (none zero u refl (λ (e : zero ≡ suc n). cc)) (only-in us n offset (λ i v found differs.
-    none (suc i) v found (λ (e : suc i ≡ suc n). differs (omega (arith, e)))))
+only-in (u ∷ us) zero offset none =
+    let rest = only-in us (length us) offset (λ i v found differs. none (suc i) v found
+    (λ (e : suc i ≡ zero). cc)) in
+    grind (arith, find-units u us offset, find-units u [] offset, slice_get_past us (length us))
+only-in (u ∷ us) (suc n) offset none =
+    let rest = only-in us n offset (λ i v found differs. none (suc i) v found
+    (λ (e : suc i ≡ suc n). differs (omega (arith, e)))) in
+    grind (arith, find-units u us offset, none zero u refl (λ (e : zero ≡ suc n). cc))
 
 module _ {s : Sections} {us : List CompilationUnit} (are : AreUnitsIn s us) where
   -- An entry of any unit is looked up in the first unit that ends after its offset.

@@ -31,17 +31,7 @@ data-of scopes stored place k order same found =
     let number : (own_of k).number ≡ place = ap (λ (o : Own). o.number) own_is
     ∙ (number-at 0 (length scopes) place scopes s order.numbered there.1 ∙ omega arith) in
     let at : slice_get scopes (own_of k).number ≡ Some s =
-    ap (slice_get scopes) number ∙ there.1 in (
-      s,
-      there.1,
-      record {
-        own_is = own_is;
-        ranges_are = rw at refl;
-        stmt_list_is = rw at refl;
-        call_file_is = rw at refl;
-        call_line_is = rw at refl;
-      },
-    )
+    ap (slice_get scopes) number ∙ there.1 in (s, there.1, grind (arith, own_is, at))
 
 -- ---- the scope at an index
 

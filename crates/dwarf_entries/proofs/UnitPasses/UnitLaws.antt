@@ -1,6 +1,6 @@
 -- The units of an object, as they were read from its sections, and what is stored for them.
 use Rattle.dwarf_entries.proofs.Common
-use Common.{IsCacheOf, NameCache, ◌≡◌, ℕ, zero, suc, ◌<◌, ◌≤◌, List, [], ◌∷◌, length, map, refl, ap}
+use Common.{IsCacheOf, NameCache, ◌≡◌, ℕ, zero, suc, ◌<◌, ◌≤◌, List, [], ◌∷◌, length, map, refl}
 use Common.{sym, arith, get_or, ◌++◌, Some, Result, Ok, Err, zip, slice_get, slice_get_within}
 use Common.{get_or_from_slice_get, slice_get-map, LoadFault, in_section, bind_ok, same-ok}
 use Common.{Declaration, UnitHeader, tables_of, Die, RiseWithin, in_section-ok, Sections}
@@ -8,7 +8,7 @@ use Common.{CompilationUnit, units_read, AreStored, stored_unit_of, ObjectUnits,
 use Common.{UnitEntries, stored_of, DebugAbbrev, DebugInfo, slice_get_read, declarations_of}
 use Common.{declarations_limit, units_of, entries_of, table_is, with_bases, unit_of, all_entries}
 use Common.{each_from, IsReaderOf, EntryReader, AreUnitsOf, units_or_none, units_of_object, Inside}
-use Common.{all_bases, subst₂, entries-rise}
+use Common.{all_bases, entries-rise}
 use Rattle.dwarf_entries.proofs.UnitPasses.HeaderLaws.{HasBounds, headers-in}
 use Rattle.dwarf_entries.proofs.UnitPasses.PassLaws.{each-at, from-map}
 
@@ -75,27 +75,26 @@ module _ (s : Sections) (headers : List UnitHeader) (tables : List (List Declara
         → (slice_get headers i ≡ Some v.header) × IsUnitIn s v.header v.dies
     unit-in i v found =
         let of = each-at (λ _ u. with_bases s u) [] us vs vs_are i v found in
-        let stay = with_bases-parts s of.0 v of.2 in
         let from = each-at (λ _ p. unit_of s.debug_info p.0 p.1) [] (zip headers tables) us us_are i
         of.0 of.1 in
         let header : UnitHeader = from.0.0 in
         let at = zip-at headers tables i from.0 from.1 in
         let within = slice_get_within headers i header at.0 in
-        let header_at = get_or_from_slice_get headers i header header at.0 in
-        let read = table_is s.debug_abbrev headers tables i header tables_are within in
         let bounds = (headers-in s.debug_info headers headers_are).bounded i header within in
-        let dies = bind_ok (entries_of s.debug_info header from.0.1) _ of.0 from.2 in
-        let P : UnitHeader → List Die → Type 0 =
-        λ h ds. (slice_get headers i ≡ Some h) × IsUnitIn s h ds in
-        subst₂ P (sym stay.0) (sym stay.1) (rw (← same-ok _ of.0 dies.2) (
+        let here = get_or_from_slice_get headers i header header at.0 in
+        let table = get_or_from_slice_get tables i from.0.1 [] at.1 in
+        let same : (v.header ≡ header) × (entries_of s.debug_info header from.0.1 ≡ Ok v.dies) =
+        grind (arith, with_bases-parts s of.0 v of.2, from.2) in
+        rw same.0 (
           at.0,
           record {
-            bounds = rw header_at at bounds;
+            bounds = rw here at bounds;
             table = from.0.1;
-            table_is = rw (header_at, get_or_from_slice_get tables i from.0.1 [] at.1) at read;
-            dies_are = dies.1;
+            table_is = rw (here, table)
+                at (table_is s.debug_abbrev headers tables i header tables_are within);
+            dies_are = same.1;
           },
-        ))
+        )
 
     units-are-in : AreUnitsIn s vs
     units-are-in = record {
@@ -103,14 +102,13 @@ module _ (s : Sections) (headers : List UnitHeader) (tables : List (List Declara
       apart = λ i j u v first second lt.
           let a = (unit-in i u first).0 in
           let b = (unit-in j v second).0 in
-          let h = u.header in
-          let order = (headers-in s.debug_info headers headers_are).apart i j h lt
+          let order = (headers-in s.debug_info headers headers_are).apart i j u.header lt
           (slice_get_within headers j v.header b) in
-          omega (
+          grind (
             arith,
             order,
-            ap (λ (h : UnitHeader). h.end) (get_or_from_slice_get headers i u.header h a),
-            ap (λ (h : UnitHeader). h.start) (get_or_from_slice_get headers j v.header h b),
+            get_or_from_slice_get headers i u.header u.header a,
+            get_or_from_slice_get headers j v.header u.header b,
           );
     }
 
