@@ -122,8 +122,8 @@ numbered m total (s ∷ ss) size at =
       omega (arith, here.0),
       omega (arith, here.0, here.1),
       here.2,
-      numbered (suc m) total ss (omega (arith, size)) (λ i t found.
-          let later = at (suc i) t found in (omega (arith, later.0), later.1, later.2)),
+      numbered (suc m) total ss (omega (arith, size))
+          (λ i t found. grind (arith, at (suc i) t found)),
     )
 
 nested : (ss : List Scope) → ((i j : ℕ) (s t : Scope) → slice_get ss i ≡ Some s

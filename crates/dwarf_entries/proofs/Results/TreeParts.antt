@@ -5,8 +5,8 @@ use Common.{Result, Ok, Some, Contains, slice_get, slice_get-get_or, slice_get_w
 use Common.{in_section, bind_ok, same-ok, in_section-ok, Sections, EntryNames, CompilationUnit}
 use Common.{units_read, names_of, Tree, Scope, ScopeSite, ParsedScope, scope_at, tree_of}
 use Common.{roots_from, stmt_list_of, parse_scope, all_sites, all_scopes, DebugInfo, with_offset}
-use Common.{scope_of_site, covers_there, Covering, AllHold, Fits, covers-fits, each-length}
-use Common.{items_limit, length-map, sum_by, ◌-◌}
+use Common.{scope_of_site, covers_there, Fits, covers-fits, each-length, items_limit, length-map}
+use Common.{sum_by, ◌-◌}
 use Rattle.dwarf_entries.proofs.ScopePasses.SiteLaws.{IsSiteAt, site-at}
 use Rattle.dwarf_entries.proofs.UnitPasses.PassLaws.{each-at, from-map}
 use Rattle.dwarf_entries.proofs.UnitPasses.UnitLaws.{AreUnitsIn, units-in}
@@ -54,74 +54,53 @@ without-offset : {X : Type 0} (at : ℕ) (r : Result X Cause) (x : X) → with_o
     → r ≡ Ok x
 without-offset at r x h = grind arith
 
--- What a scope was parsed from: its site, its names and its ranges.
-pub record IsParsedAt (s : Sections) (us : List CompilationUnit) (parsed : List ParsedScope) (n : ℕ)
-    (j : ParsedScope) : Type 0 where
+-- What the scope with a number was parsed from, and the data that it has from it.
+pub record IsScopeAt (s : Sections) (us : List CompilationUnit) (parsed : List ParsedScope) (n : ℕ)
+    (scope : Scope) : Type 0 where
   pub site : ScopeSite
   pub there : slice_get (all_sites us) n ≡ Some site
+  pub unit : ℕ
+  pub index : ℕ
+  pub place : IsSiteAt us unit index n site
   pub names : EntryNames
   pub names_are : names_of s us site.member ≡ Ok names
-  pub covering : Covering
-  pub fits : Fits (items_limit - sum_by (λ j. j.items) (take n parsed)) covering
-  pub is : scope_of_site (take n parsed) site names covering ≡ j
-
--- The site of the scope with a number, and the data that the scope has from it.
-pub record IsScopeAt (s : Sections) (us : List CompilationUnit) (n : ℕ) (scope : Scope) : Type 0
-  where
-    pub site : ScopeSite
-    pub there : slice_get (all_sites us) n ≡ Some site
-    pub unit : ℕ
-    pub index : ℕ
-    pub place : IsSiteAt us unit index n site
-    pub names : EntryNames
-    pub names_are : names_of s us site.member ≡ Ok names
-    pub name_is : scope.name ≡ names.name
-    pub linkage_name_is : scope.linkage_name ≡ names.linkage_name
-    pub kind_is : scope.kind ≡ site.kind
-    pub offset_is : scope.offset ≡ site.member.die.offset
-    pub number_is : scope.number ≡ n
-    pub end_is : scope.«end» ≡ n + 1 + site.inside
-    pub stmt_list_is : scope.stmt_list ≡ stmt_list_of site.member.unit.dies
-    pub hold : AllHold scope.ranges
+  pub name_is : scope.name ≡ names.name
+  pub linkage_name_is : scope.linkage_name ≡ names.linkage_name
+  pub kind_is : scope.kind ≡ site.kind
+  pub offset_is : scope.offset ≡ site.member.die.offset
+  pub number_is : scope.number ≡ n
+  pub end_is : scope.«end» ≡ n + 1 + site.inside
+  pub stmt_list_is : scope.stmt_list ≡ stmt_list_of site.member.unit.dies
+  pub items : ℕ
+  pub parsed_is : slice_get parsed n ≡ Some (record { scope = scope; items = items })
+  pub fits : Fits (items_limit - sum_by (λ j. j.items) (take n parsed))
+      (record { ranges = scope.ranges; items = items })
 
 module _ {s : Sections} {us : List CompilationUnit} {tree : Tree} (t : IsReadFrom s us tree) where
-  pub parsed-at : (n : ℕ) (j : ParsedScope) → slice_get t.parsed n ≡ Some j
-      → IsParsedAt s us t.parsed n j
-  parsed-at n j there =
-      let of = each-at (parse_scope s us) [] (all_sites us) t.parsed t.parsed_are n j there in
-      let p = of.0 in
-      let before : List ParsedScope = take n t.parsed in
-      let found = bind_ok (names_of s us p.member) _ j
-      (without-offset p.member.die.offset (scope_at s us before p) j of.2) in
-      let covering = bind_ok (covers_there s before p) _ j found.2 in
-      record {
-        site = p;
-        there = of.1;
-        names = found.0;
-        names_are = found.1;
-        covering = covering.0;
-        fits = covers-fits _ s p.member.unit.bases p.member.die covering.0 covering.1;
-        is = same-ok (scope_of_site before p found.0 covering.0) j covering.2;
-      }
-
   pub scope-at : (n : ℕ) (scope : Scope) → slice_get tree.scopes n ≡ Some scope
-      → IsScopeAt s us n scope
+      → IsScopeAt s us t.parsed n scope
   scope-at n scope there =
       let j = from-map (λ (j : ParsedScope). j.scope) t.parsed n scope
       (rw t.scopes_are at there) in
-      let x = parsed-at n j.0 j.1 in
+      let before : List ParsedScope = take n t.parsed in
+      let of = each-at (parse_scope s us) [] (all_sites us) t.parsed t.parsed_are n j.0 j.1 in
+      let p = of.0 in
+      let names = bind_ok (names_of s us p.member) _ j.0
+      (without-offset p.member.die.offset (scope_at s us before p) j.0 of.2) in
+      let covering = bind_ok (covers_there s before p) _ j.0 names.2 in
+      let is = same-ok (scope_of_site before p names.0 covering.0) j.0 covering.2 in
       let size = length-take n t.parsed in
       let within = slice_get_within t.parsed n j.0 j.1 in
-      let number : length (take n t.parsed) ≡ n = omega (arith, size, within) in
-      let place = site-at us n x.site x.there in
-      rw (← j.2, ← x.is) (record {
-        site = x.site;
-        there = x.there;
+      let number : length before ≡ n = omega (arith, size, within) in
+      let place = site-at us n p of.1 in
+      rw (← j.2, ← is) (record {
+        site = p;
+        there = of.1;
         unit = place.0;
         index = place.1;
         place = place.2;
-        names = x.names;
-        names_are = x.names_are;
+        names = names.0;
+        names_are = names.1;
         name_is = refl;
         linkage_name_is = refl;
         kind_is = refl;
@@ -129,7 +108,9 @@ module _ {s : Sections} {us : List CompilationUnit} {tree : Tree} (t : IsReadFro
         number_is = number;
         end_is = omega (arith, number);
         stmt_list_is = refl;
-        hold = x.fits.hold;
+        items = covering.0.items;
+        parsed_is = rw (← is) at j.1;
+        fits = covers-fits _ s p.member.unit.bases p.member.die covering.0 covering.1;
       })
 
   pub scopes-count : length tree.scopes ≡ length (all_sites us)

@@ -6,8 +6,10 @@ use Common.{slice_get_within, get_or_from_slice_get, UnitEntries, is_scope, Stor
 use Common.{CompilationUnit, roots_from, stmt_list_of, number_of_scopes, first_number, find}
 use Common.{take_more, sum_by-take-le, find_at, IsNonDecreasingBy, IsPartitionPoint, ArePartsFrom}
 use Common.{stmt_list_by_number, position_or_len_is, lt-ltb, le-ltb, RootEntry, root_in}
+use Common.{common_steps, ◌-◌}
 use Rattle.dwarf_entries.proofs.ScopePasses.SiteLaws.{sites-count, first-next}
-use Rattle.dwarf_entries.proofs.{UnitPasses.RereadLaws.sites-stored, UnitPasses.UnitLaws.StoredFor}
+use Rattle.dwarf_entries.proofs.UnitPasses.RereadLaws.{sites-stored}
+use Rattle.dwarf_entries.proofs.UnitPasses.UnitLaws.{StoredFor}
 
 -- The root of a unit, if there is one.
 abbrev pub root_list : ℕ → ℕ → Option RootEntry → List Root
@@ -63,14 +65,9 @@ parts-rise : (number end : ℕ) (roots : List Root) → ArePartsFrom number end 
     (d : Root) → i ≤ j → j < length roots
     → (number ≤ (get_or roots j d).past) × ((get_or roots i d).past ≤ (get_or roots j d).past)
 parts-rise number end [] parts i j d le lt = absurd (omega (arith, lt))
-parts-rise number end (root ∷ roots) parts zero zero d le lt = (parts.1, omega arith)
-parts-rise number end (root ∷ roots) parts (suc i) zero d le lt = absurd (omega (arith, le))
-parts-rise number end (root ∷ roots) parts zero (suc j) d le lt =
-    let later = parts-rise root.past end roots parts.2 j j d (omega arith) (omega (arith, lt)) in
-    (omega (arith, parts.1, later.0), later.0)
-parts-rise number end (root ∷ roots) parts (suc i) (suc j) d le lt =
-    let later = parts-rise root.past end roots parts.2 i j d (omega (arith, le)) (omega (arith, lt))
-    in (omega (arith, parts.1, later.0), later.1)
+parts-rise number end (root ∷ roots) parts i j d le lt =
+    let later = parts-rise root.past end roots parts.2 (i - 1) (j - 1) d in
+    grind (arith, common_steps, parts.1)
 
 -- The roots partition the numbers of the scopes.
 pub roots-part : (number : ℕ) (units : List CompilationUnit)

@@ -1,11 +1,11 @@
 use Rattle.dwarf_entries.proofs
-use proofs.{bind_ok, ◌≡◌, ◌⊎◌, ℕ, ◌+◌, ◌<◌, List, [], ◌∷◌, ◌++◌, length, map, get_or, refl, sym}
-use proofs.{◌∙◌, arith, append-nil, inl, Some, Ok, Err, zip, slice_get, Result, map_push}
+use proofs.{bind_ok, ◌≡◌, ◌⊎◌, ℕ, ◌+◌, ◌<◌, List, [], ◌∷◌, ◌++◌, length, get_or, refl, sym, ◌∙◌}
+use proofs.{arith, append-nil, inl, Some, Ok, Err, zip, slice_get, Result, map_push}
 use proofs.{slice_get-get_or, same_Some, slice_get_within, LoadFault, in_section, each-length}
 use proofs.{same-ok, Declaration, UnitHeader, tables_of, Die, in_section-ok, UnitEntries}
 use proofs.{EntryBitmap, AddsOffsets, offsets_of, stored_of, CompilationUnit, stored_unit_of}
 use proofs.{all_offsets, DebugAbbrev, DebugInfo, At, memory_fault, declarations_of}
-use proofs.{declarations_limit, entries_of, table_is, stored_unit, dies_of, all_entries, table_for}
+use proofs.{declarations_limit, entries_of, table_is, stored_unit, all_entries, table_for}
 use proofs.{stored_entries, flat_map-append, length-zip, get_or-zip, adds-none, adds-more, no_bases}
 use proofs.{Faults, pass-none, pass-next, pass-end, pass-fault, exit}
 use Rattle.dwarf_entries.proofs.passes.all_entries.Invariants.{EntriesSoFar}
@@ -49,11 +49,8 @@ module _ {info : List ℕ} {headers : List UnitHeader} {tables : List (List Decl
       let found = bind_ok (entries_of info header table) _ (stored_of unit)
       (in_section-ok DebugInfo (stored_entries info header table) (stored_of unit) unit_read) in
       let u : CompilationUnit = record { header = header; dies = found.0; bases = no_bases } in
-      let offsets : all_offsets made ++ offsets_of found.0 ≡ all_offsets (made ++ u ∷ []) = rw (
-        map_push dies_of made u,
-        flat_map-append offsets_of (map dies_of made) (found.0 ∷ []),
-        append-nil (offsets_of found.0),
-      ) refl in
+      let offsets : all_offsets made ++ offsets_of found.0 ≡ all_offsets (made ++ u ∷ []) =
+      simp (map_push, flat_map-append, append-nil) in
       record {
         made = made ++ u ∷ [];
         passed = pass-next so_far.passed (header, table) u there (grind (arith, found.1));

@@ -1,8 +1,7 @@
 use Rattle.dwarf_entries.proofs
-use proofs.{◌≡◌, ℕ, ◌≤◌, List, [], ◌∷◌, ◌++◌, length, take, ◌∙◌, subst, arith, length-take, Ok}
-use proofs.{nat_le, list_any, leb-true, Format, Declaration, All-contains, Lists, after-bind}
-use proofs.{chosen, same-end, End, filter_map, LocatedNode, is_root, depth_after, node_at_depth}
-use proofs.{node_at, die_of, node_at-facts, list-in, FillsUnit, HasBounds, headers-in}
+use proofs.{◌≡◌, ℕ, ◌≤◌, List, [], ◌∷◌, ◌++◌, length, take, ◌∙◌, subst, arith, length-take}
+use proofs.{leb-true, Format, Declaration, All-contains, Lists, filter_map, LocatedNode, node_at}
+use proofs.{die_of, node_at-facts, list-in, FillsUnit, HasBounds, headers-in}
 use Rattle.dwarf_entries.proofs.tree_laws.entries_are_contiguous.Goals as goal
 
 -- The last node ends where the unit ends.
@@ -10,11 +9,7 @@ filled : (format : Format) (table : List Declaration) (unit : List ℕ) (before 
     (at : ℕ) (all : List LocatedNode) (after : ℕ)
     → Lists (node_at format table unit) before at all after → at ≤ length unit → after ≡ length unit
 filled format table unit before at [] after h le =
-    chosen (nat_le (length unit) at) _ _ (Ok (End after)) h (after ≡ length unit)
-    (λ past is. let ge = leb-true (length unit) at past in let same = same-end at after is in
-    omega (arith, le, ge, same)) (λ _ h1.
-    after-bind (node_at_depth format table (depth_after before) (list_any is_root before) unit at) _
-    (End after) h1 (after ≡ length unit) (λ _ _ last. cc))
+    grind (arith, h, leb-true (length unit) at)
 filled format table unit before at (x ∷ all) after h le =
     let here = node_at-facts format table unit before at x h.0 h.1 in
     filled format table unit (before ++ x ∷ []) h.0 all after h.2 (omega (arith, here.moves.1))

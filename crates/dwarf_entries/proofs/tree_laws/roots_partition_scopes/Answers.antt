@@ -1,9 +1,9 @@
 use Rattle.dwarf_entries.proofs
-use proofs.{◌≡◌, ℕ, zero, suc, ◌+◌, ◌≤◌, List, [], ◌∷◌, length, take, refl, arith, Some, All}
-use proofs.{slice_get, count_by, All-nil, All-cons, All-weaker, sum_by-cons, Die, is_scope, Root}
+use proofs.{◌≡◌, ℕ, zero, suc, ◌+◌, List, [], ◌∷◌, length, take, refl, arith, Some, All, slice_get}
+use proofs.{count_by, All-nil, All-cons, All-weaker, sum_by-cons, Die, is_scope, Root}
 use proofs.{CompilationUnit, stmt_list_of, root_of, roots_from, first_number, number_of_scopes}
 use proofs.{All-contains, first-rises, before-later, tree-parts, scope-at, contained, first-next}
-use proofs.{all-sites-count, dies-rise, roots-part, RiseWithin, rise-at, root_in, scopes-count}
+use proofs.{all-sites-count, dies-rise, roots-part, root_in, scopes-count, rise-order}
 use Rattle.dwarf_entries.proofs.tree_laws.roots_partition_scopes.Goals as goal
 
 -- Each root belongs to a unit with entries.
@@ -57,14 +57,6 @@ roots-of number (u ∷ us) =
 
 -- ---- the theorems
 
--- The first entry of a unit has the lowest offset.
-from-first : (from end : ℕ) (dies : List Die) (k : ℕ) (first d : Die) → RiseWithin from end dies
-    → slice_get dies 0 ≡ Some first → slice_get dies k ≡ Some d → first.offset ≤ d.offset
-from-first from end [] k first d rise first_is is = cc
-from-first from end (x ∷ dies) zero first d rise first_is is = grind arith
-from-first from end (x ∷ dies) (suc k) first d rise first_is is =
-    grind (arith, rise-at (suc x.offset) end dies k d rise.1 is)
-
 pub returns-clause-parts : goal.returns-clause-parts
 returns-clause-parts c s tree h =
     let t = tree-parts s tree h in
@@ -92,11 +84,12 @@ returns-clause-scopes c s tree root scope h root_in scope_in from until =
     ) in
     let same : x.site.member.unit ≡ r.of = grind (arith, x.place.unit_is, r.of_is) in
     let last = before-later x.place (r.unit + 1) (omega (arith, e)) in
-    let rise = from-first r.of.header.start r.of.header.end r.of.dies x.index r.die
+    let there = rw same at x.place.there in
+    let rise = rise-order r.of.header.start r.of.header.end r.of.dies 0 x.index r.die
     x.site.member.die (dies-rise (t.1.are.each_is r.unit r.of r.of_is)) r.die_is
-    (rw same at x.place.there) in
+    there in
     record {
       stmt_list_is = rw (x.stmt_list_is, r.root_is.1, same) refl;
       ends = omega (arith, x.end_is, last, next, r.first_is, r.past_is);
-      starts = omega (arith, rise, x.offset_is, r.root_is.0);
+      starts = grind (arith, x.offset_is, r.root_is.0, r.die_is);
     }
