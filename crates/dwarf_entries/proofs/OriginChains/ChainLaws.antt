@@ -4,12 +4,12 @@ use Rattle.dwarf_entries.proofs.Common
 use Common.{◌≡◌, ℕ, zero, suc, ◌+◌, List, [], ◌∷◌, ◌++◌, refl, sym, ap, ◌∙◌, arith, Option, Some}
 use Common.{None, Result, Ok, Err, slice_get, option_map, ◌-◌, option_or, Cause, ◌>>=◌}
 use Common.{AttributeValue, NamedEntry, UnitPlace, CompilationUnit, Member, target_of, chain_within}
-use Common.{IsMember, Reference, first_on, IsPlaceOf, Finds, same_Some, cond, Bool, true, ◌==◌}
-use Common.{DW_AT_LINKAGE_NAME, DW_AT_NAME, EntryNames, Sections, names_of, member_in, false}
-use Common.{name_on, references_limit, slot_at, IsCacheOf, NameCache, attribute, append_assoc, ◌&&◌}
-use Common.{if◌then◌else◌, of_member, IsFirst, AreFirst, FindsFirst, LeadsTo, UnitAttribute}
-use Common.{UnitEntry, FirstNames, CachedNames, slot_of, second_names, target_names, are_narrow}
-use Common.{or_else, next_of, OriginDepth}
+use Common.{IsMember, Reference, first_on, IsPlaceOf, Finds, same_Some, ◌==◌, DW_AT_LINKAGE_NAME}
+use Common.{DW_AT_NAME, EntryNames, Sections, names_of, member_in, name_on, references_limit}
+use Common.{slot_at, IsCacheOf, NameCache, attribute, append_assoc, ◌&&◌, if◌then◌else◌, of_member}
+use Common.{IsFirst, AreFirst, FindsFirst, LeadsTo, UnitAttribute, UnitEntry, FirstNames}
+use Common.{CachedNames, slot_of, second_names, target_names, are_narrow, or_else, next_of}
+use Common.{OriginDepth, chosen}
 
 -- ---- the first attribute with a name
 
@@ -148,14 +148,9 @@ pub cache-more : (s : Sections) (units : List CompilationUnit) (old new : NameCa
     ≡ Ok names
     → IsCacheOf s units new
 cache-more s units old new place names knew put m there led_is slot packed is =
-    by_test ((slot == slot_of place) && are_narrow place names) (sym (put slot) ∙ is)
-  where
-    by_test : (here : Bool) → cond here (Some (cached_names place names)) (slot_at old slot)
-        ≡ Some packed
-        → (m : Member) × (member_in units packed.place.unit packed.place.offset ≡ Ok m)
-        × (second_names s units m ≡ Ok packed.names)
-    by_test true h = rw (← same_Some _ packed h) (m, there, led_is)
-    by_test false h = knew slot packed h
+    chosen ((slot == slot_of place) && are_narrow place names) (Some (cached_names place names))
+    (slot_at old slot) (Some packed) (sym (put slot) ∙ is) _
+    (λ _ h. rw (← same_Some _ packed h) (m, there, led_is)) (λ _ h. knew slot packed h)
 
 -- ---- the names of an entry that has no name of its own
 

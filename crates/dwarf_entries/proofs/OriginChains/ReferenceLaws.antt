@@ -6,10 +6,9 @@ use Common.{slice_get, option_map, option_or, slice_get-get_or, slice_get_within
 use Common.{Die, RiseWithin, UnitEntries, StoredUnit, Sections, CompilationUnit, Member, target_of}
 use Common.{AreStored, member_in, Reference, ok_or, cases_lt, IsNonDecreasingBy, IsPartitionPoint}
 use Common.{members_of, IsWithin, member_at, eq-eqb, option_to_list, ne_eqb, find-append}
-use Common.{DW_FORM_REF_ADDR}
+use Common.{DW_FORM_REF_ADDR, get_or_from_slice_get}
 use Rattle.dwarf_entries.proofs.UnitPasses.PassLaws.{element}
-use Rattle.dwarf_entries.proofs.UnitPasses.UnitLaws.{stored-at, stored-index, stored-length}
-use Rattle.dwarf_entries.proofs.UnitPasses.UnitLaws.{AreUnitsIn, dies-rise}
+use Rattle.dwarf_entries.proofs.UnitPasses.UnitLaws.{stored-at, AreUnitsIn, dies-rise, stored-for}
 
 -- ---- the entry at an offset of a unit
 
@@ -104,28 +103,14 @@ module _ {s : Sections} {us : List CompilationUnit} (are : AreUnitsIn s us) wher
   -- ---- the stored units
 
   module _ (stored : List UnitEntries) (same : AreStored stored us) where
-    -- The stored header has the end of its unit.
-    end-at : (i : ℕ) (u : CompilationUnit) → slice_get us i ≡ Some u
-        → (k : UnitEntries) × (i < length stored) × ((get_or stored i k).header.end ≡ u.header.end)
-    end-at i u found =
-        let within = slice_get_within us i u found in
-        let inside : i < length stored = omega (arith, within, stored-length stored us same) in
-        let d = (element stored i inside).0 in (
-          d,
-          inside,
-          ap (λ (x : StoredUnit). x.header.end) (stored-index stored us same i (get_or stored i d) u
-              (slice_get-get_or stored i d inside) found),
-        )
-
     ends-rise : IsNonDecreasingBy (λ (k : UnitEntries). k.header.end) stored
     ends-rise i j d le lt =
         let a = stored-at stored us same i (get_or stored i d)
         (slice_get-get_or stored i d (omega (arith, le, lt))) in
         let b = stored-at stored us same j (get_or stored j d) (slice_get-get_or stored j d lt) in
         let bounds = (are.each_is j b.unit b.is).bounds in
-        let first = ap (λ (x : StoredUnit). x.header.end) a.stored in
-        let second = ap (λ (x : StoredUnit). x.header.end) b.stored in
-        grind (arith, are.apart i j a.unit b.unit a.is b.is, bounds.first, bounds.last)
+        let apart = are.apart i j a.unit b.unit a.is b.is in
+        grind (arith, a.stored, b.stored, a.is, b.is, bounds.first, bounds.last)
 
     pub anywhere : (n offset : ℕ) → (IsNonDecreasingBy (λ (k : UnitEntries). k.header.end) stored
         → IsPartitionPoint (λ (k : UnitEntries). k.header.end ≤ offset)
@@ -136,9 +121,14 @@ module _ {s : Sections} {us : List CompilationUnit} (are : AreUnitsIn s us) wher
         let parts = search_is ends-rise in
         let all : member_at (members_of us) offset ≡ member_in us n offset =
         ap (λ (o : Option Member). ok_or o Reference) (first-past n offset
-        (λ i v found lt. let k = end-at i v found in
-        omega (arith, parts.0 i k.0 (omega arith) lt, k.2))
-        (λ i v found le. let k = end-at i v found in omega (arith, parts.1 i k.0 le k.1, k.2))) in
+        (λ i v found lt. let k = stored-for stored us same i v found in
+        let place = slice_get_within stored i k.0 k.1 in
+        let here = get_or_from_slice_get stored i k.0 k.0 k.1 in
+        grind (arith, parts.0 i k.0, k.2))
+        (λ i v found le. let k = stored-for stored us same i v found in
+        let place = slice_get_within stored i k.0 k.1 in
+        let here = get_or_from_slice_get stored i k.0 k.0 k.1 in
+        grind (arith, parts.1 i k.0, k.2))) in
         let is : (reference.form == DW_FORM_REF_ADDR) ≡ true =
         eq-eqb reference.form DW_FORM_REF_ADDR form in
         sym (rw (is, number) all)

@@ -93,14 +93,15 @@ scopes-push roots wide more ranges new first [] s in_list ends =
     ) refl
 scopes-push roots wide more ranges new first (t ∷ ts) s in_list ends =
     let past = in_list-within (length wide) t.ranges_end (length ranges) ts in_list.2 in
-    let fits : t.ranges_end - first ≤ length (drop first ranges) =
-    omega (arith, length-drop first ranges, in_list.0, past) in
-    rw (
-      drop-append-le first ranges new (omega (arith, in_list.0, past)),
-      take-append-le (t.ranges_end - first) (drop first ranges) new fits,
-      call-stays wide more t.calls t.call_file t.call_line in_list.1,
-      scopes-push roots wide more ranges new t.ranges_end ts s in_list.2 ends,
-    ) refl
+    let size = length-drop first ranges in
+    let rest = scopes-push roots wide more ranges new t.ranges_end ts s in_list.2 ends in
+    let site = call-stays wide more t.calls t.call_file t.call_line in_list.1 in
+    grind (
+      arith,
+      in_list.0,
+      drop-append-le first ranges new,
+      take-append-le (t.ranges_end - first) (drop first ranges) new,
+    )
 
 pub in_list-push : (many more first past new : ℕ) (ss : List StoredScope) (s : StoredScope)
     → AreConsecutive many first past ss → s.ranges_end ≡ past + new

@@ -1,10 +1,10 @@
 -- The roots of units: the loop that returns them, their order, and the root of a scope.
 use Rattle.dwarf_entries.proofs.Common
-use Common.{◌≡◌, ℕ, zero, suc, ◌+◌, ◌<◌, ◌≤◌, List, [], ◌∷◌, ◌++◌, length, take, get_or, ap, sym}
-use Common.{◌∙◌, arith, Bool, Option, Some, None, count_by, slice_get, nat_lt, sum_by-cons}
-use Common.{slice_get_within, get_or_from_slice_get, UnitEntries, is_scope, StoredUnit, Root}
-use Common.{CompilationUnit, roots_from, stmt_list_of, number_of_scopes, first_number, find}
-use Common.{take_more, sum_by-take-le, find_at, IsNonDecreasingBy, IsPartitionPoint, ArePartsFrom}
+use Common.{◌≡◌, ℕ, zero, suc, ◌+◌, ◌<◌, ◌≤◌, List, [], ◌∷◌, ◌++◌, length, take, get_or, ap, ◌∙◌}
+use Common.{arith, Bool, Option, Some, None, count_by, slice_get, nat_lt, sum_by-cons}
+use Common.{slice_get_within, get_or_from_slice_get, UnitEntries, is_scope, Root, CompilationUnit}
+use Common.{roots_from, stmt_list_of, number_of_scopes, first_number, find, take_more}
+use Common.{sum_by-take-le, find_at, IsNonDecreasingBy, IsPartitionPoint, ArePartsFrom}
 use Common.{stmt_list_by_number, position_or_len_is, lt-ltb, le-ltb, RootEntry, root_in}
 use Common.{common_steps, ◌-◌}
 use Rattle.dwarf_entries.proofs.ScopePasses.SiteLaws.{sites-count, first-next}
@@ -51,14 +51,10 @@ module _ {us : List CompilationUnit} {index : ℕ} {unit : UnitEntries}
       → roots ≡ roots_from 0 (take index us)
       → roots ++ root_list first past found ≡ roots_from 0 (take (index + 1) us)
   roots-next found roots found_is so_far =
-      let root : found ≡ root_in here.unit.dies =
-      sym found_is ∙ ap (λ (k : StoredUnit). k.root) here.stored in
-      rw (
-        so_far,
-        root,
-        take_more us index here.unit (slice_get_within us index here.unit here.is),
-        get_or_from_slice_get us index here.unit here.unit here.is,
-      ) (sym (roots-push 0 (take index us) here.unit first past (omega (arith, first_is)) ends))
+      let more = take_more us index here.unit (slice_get_within us index here.unit here.is) in
+      let item = get_or_from_slice_get us index here.unit here.unit here.is in
+      let push = roots-push 0 (take index us) here.unit first past in
+      grind (arith, ends, first_is, here.stored)
 
 -- The scopes of the roots end in order, after a lower bound.
 parts-rise : (number end : ℕ) (roots : List Root) → ArePartsFrom number end roots → (i j : ℕ)

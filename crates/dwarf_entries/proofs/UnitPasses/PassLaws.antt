@@ -91,9 +91,12 @@ module _ {X Y : Type 0} {make : List Y → X → Result Y At} {xs : List X} {ind
   unfolding each_from
   pass-next x y found is = record {
     len = omega (arith, passed.len, length-append made (y ∷ []));
-    read = ap (each make) (take_more xs index x (slice_get_within xs index x found)
-        ∙ ap (λ (z : X). take index xs ++ z ∷ []) (get_or_from_slice_get xs index x x found))
-        ∙ (then (x ∷ []) ∙ rw is refl);
+    read = rw (
+      take_more xs index x (slice_get_within xs index x found),
+      get_or_from_slice_get xs index x x found,
+      then (x ∷ []),
+      is,
+    ) refl;
   }
 
   pub pass-end : length xs ≤ index → each make xs ≡ Ok made

@@ -29,10 +29,13 @@ pair-at section headers tables index d table all within table_read =
     (declarations_of declarations_limit section (get_or headers index d).abbreviations) table
     table_read) in
     let sizes = each-length (table_for section) [] headers tables all in
-    let there : index < length tables = omega (arith, sizes, within) in
-    slice_get-get_or (zip headers tables) index (d, [])
-    (omega (arith, length-zip headers tables, sizes, within))
-    ∙ rw (get_or-zip headers tables index (d, []) within there, same) refl
+    grind (
+      arith,
+      sizes,
+      length-zip headers tables,
+      slice_get-get_or (zip headers tables) index (d, []),
+      get_or-zip headers tables index (d, []),
+    )
 
 module _ {info : List ℕ} {headers : List UnitHeader} {tables : List (List Declaration)}
     {bitmap marked : EntryBitmap} {index : ℕ} {stored : List UnitEntries} {header : UnitHeader}
