@@ -43,6 +43,7 @@ pub(crate) struct FirstNames {
 
 impl FirstNames {
     /// Returns the first names of the chain after one more entry is appended to it.
+    #[tactic(auto, using(crate::proofs::OriginChains::ChainLaws::first_more))]
     fn or(self, last: UnitEntry) -> FirstNames
         ensures { (us : List CompilationUnit) (path : List Member) (m : Member)
             → AreFirst us self path → IsMember us last.unit last.entry m

@@ -40,6 +40,7 @@ impl Scopes {
     /// Parses all units: their headers, abbreviation tables, entries, roots and scopes. Each pass
     /// covers all units before the next one starts. A fault is reported at its unit, declaration
     /// or entry, as an offset relative to the start of its section.
+    #[tactic(auto, unfolding(crate::specs::Scopes::tree_of))]
     pub fn read(alloc: Global, sections: &Sections<'_>) -> Result<Scopes, LoadFault>
         ensures { Decodes (λ scopes. scopes) result (tree_of (sections_of sections.now)) }
     {
@@ -58,6 +59,7 @@ impl Scopes {
     }
 
     /// Returns the subprograms and inlined subroutines of all units that are read.
+    #[tactic(auto, using(crate::proofs::ScopePasses::DataLaws::own_stored))]
     pub fn scopes(&self) -> &[Scope]
         ensures { map own_of result.now ≡ map own self.now.scopes }
     {

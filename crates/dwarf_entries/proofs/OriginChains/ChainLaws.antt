@@ -19,13 +19,13 @@ first_on-push name [] m = grind arith
 first_on-push name (p ∷ path) m = let rest = first_on-push name path m in grind arith
 
 -- The first attribute, after one more entry is appended.
-pub first-more : (units : List CompilationUnit) (name number : ℕ) (path : List Member) (m : Member)
+pub first_more : (units : List CompilationUnit) (name number : ℕ) (path : List Member) (m : Member)
     (known : Option UnitAttribute) (value : Option AttributeValue)
     → slice_get units number ≡ Some m.unit → value ≡ attribute m.die name
     → IsFirst units known (first_on name path) → (result : Option UnitAttribute)
     → result ≡ option_or known (option_map (λ v. record { unit = number; value = v }) value)
     → IsFirst units result (first_on name (path ++ m ∷ []))
-first-more units name number path m known value is value_is h result result_is =
+first_more units name number path m known value is value_is h result result_is =
     let push = first_on-push name path m in grind arith
 
 -- ---- the loop

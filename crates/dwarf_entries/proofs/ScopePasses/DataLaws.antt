@@ -55,6 +55,13 @@ module _ (roots : List Root) (wide : List CallSite) (ranges : List Range) where
   scopes-length first [] = refl
   scopes-length first (s ∷ ss) = ap suc (scopes-length s.ranges_end ss)
 
+-- The data that scopes contain themselves.
+pub own_stored : (roots : List Root) (wide : List CallSite) (ranges : List Range) (first : ℕ)
+    (ss : List StoredScope) → map own_of ss ≡ map own (scopes_from roots wide ranges first ss)
+own_stored roots wide ranges first [] = refl
+own_stored roots wide ranges first (s ∷ ss) =
+    ap (λ (os : List Own). own_of s ∷ os) (own_stored roots wide ranges s.ranges_end ss)
+
 -- ---- one more scope
 
 in_list-within : (many first past : ℕ) (ss : List StoredScope) → AreConsecutive many first past ss

@@ -1,18 +1,7 @@
-use Rattle.dwarf_entries.proofs.{List, [], length, ap, arith, refl, length-map, each-length, Scope}
-use Rattle.dwarf_entries.proofs.{ParsedScope, roots_from, tree_of, parse_scope, all_sites}
-use Rattle.dwarf_entries.proofs.{scopes-length, all-sites-count, exit, step-fault}
+use Rattle.dwarf_entries.proofs
+use proofs.{List, [], length, ap, arith, length-map, each-length, Scope, ParsedScope, roots_from}
+use proofs.{parse_scope, all_sites, scopes-length, all-sites-count}
 use Rattle.dwarf_entries.proofs.scopes.Scopes.read.Goals as goal
-
-pub returns-in_err-units : goal.returns-in_err-units
-unfolding tree_of
-returns-in_err-units c = rw (exit _ c.from_residual-in_err-units.ensures.1)
-    (step-fault _ _ c.in_err-units.ensures.units)
-
-pub returns-in_err-lists : goal.returns-in_err-lists
-unfolding tree_of
-returns-in_err-lists c =
-    rw (exit _ c.from_residual-in_err-lists.ensures.1, c.in_ok-units.ensures.units)
-    (step-fault _ _ (rw c.in_ok-units.ensures.sections at c.in_err-lists.ensures.scopes))
 
 pub roots-requires : goal.roots-requires
 roots-requires c =
@@ -30,10 +19,3 @@ roots-requires c =
       lists.scopes.ok.1,
       lists.scopes.small,
     ))
-
-pub returns : goal.returns
-unfolding tree_of
-returns c =
-    let parsed = rw c.in_ok-units.ensures.sections at c.in_ok-lists.ensures.scopes in
-    let roots = rw c.in_ok-lists.ensures.same at c.in_ok-roots.ensures.roots in
-    rw (c.in_ok-units.ensures.units, parsed.1, roots, parsed.2) refl
