@@ -1,10 +1,10 @@
 -- The scope sites of units, by their numbers.
 use Rattle.dwarf_entries.proofs.Common
-use Common.{is_some, ◌≡◌, ℕ, zero, suc, ◌+◌, ◌-◌, ◌≤◌, inl, inr, cond, List, [], ◌∷◌, ◌++◌, length}
-use Common.{take, drop, refl, ap, sym, ◌∙◌, arith, length-append, take_all, Option, Some, count_by}
-use Common.{slice_get, sum_by-cons, slice_get_within, get_or_from_slice_get, Die, below, ScopeKind}
-use Common.{kind_of, is_scope, CompilationUnit, ScopeSite, sites_in, number_of_scopes, first_number}
-use Common.{all_sites, cases_lt, sum_by_more, site_of}
+use Common.{◌≡◌, ℕ, zero, suc, ◌+◌, ◌-◌, ◌≤◌, inl, inr, cond, List, [], ◌∷◌, ◌++◌, length, take}
+use Common.{drop, refl, ap, sym, ◌∙◌, arith, length-append, take_all, Some, count_by, slice_get}
+use Common.{sum_by-cons, slice_get_within, get_or_from_slice_get, Die, below, ScopeKind, kind_of}
+use Common.{is_scope, CompilationUnit, ScopeSite, sites_in, number_of_scopes, first_number}
+use Common.{all_sites, cases_lt, sum_by_more}
 use Rattle.dwarf_entries.proofs.UnitPasses.PassLaws.{element}
 
 -- ---- the sites of a unit
@@ -57,12 +57,6 @@ site-in u (die ∷ rest) (suc n) p h =
     let next : suc (index_of rest (suc n)) + 1 ≡ suc (index_of rest (suc n) + 1) = omega arith in
     grind arith
 
--- The site of the first entry, if it has one, is passed over.
-skipped : (u : CompilationUnit) (d : Die) (rest : List Die) (found : Option ScopeKind)
-    (sites : List ScopeSite) (n : ℕ)
-    → slice_get (site_of u d rest found sites) (cond (is_some found) 1 0 + n) ≡ slice_get sites n
-skipped u d rest found sites n = grind arith
-
 -- An entry that is a scope has the site with the number of scopes before it.
 site-of : (u : CompilationUnit) (dies : List Die) (k : ℕ) (die : Die) (kind : ScopeKind)
     → slice_get dies k ≡ Some die → kind_of die.tag ≡ Some kind
@@ -71,12 +65,10 @@ site-of : (u : CompilationUnit) (dies : List Die) (k : ℕ) (die : Die) (kind : 
 site-of u [] k die kind h is = cc
 site-of u (d ∷ rest) zero die kind h is = grind arith
 site-of u (d ∷ rest) (suc k) die kind h is =
+    let later = site-of u rest k die kind h is in
     let next : suc k + 1 ≡ suc (k + 1) = omega arith in
-    rw (
-      next,
-      sum_by-cons (λ x. cond (is_scope x) 1 0) d (take k rest),
-      skipped u d rest (kind_of d.tag) (sites_in u rest),
-    ) (site-of u rest k die kind h is)
+    let sum = sum_by-cons (λ x. cond (is_scope x) 1 0) d (take k rest) in
+    grind arith
 
 -- ---- the sites of all units
 

@@ -4,15 +4,13 @@ use Rattle.dwarf_entries.proofs.Common
 use Common.{◌≡◌, ℕ, ◌≤◌, List, length, take, true, refl, ap, ◌∙◌, arith, [], ◌∷◌, get_or, map, Some}
 use Common.{Result, Ok, slice_get, Cause, UnitHeader, Die, ScopeKind, Sections, UnitPlace}
 use Common.{CompilationUnit, Member, UnitEntries, AreStored, stored_unit_of, kind_of, StoredUnit}
-use Common.{stored_of, length-map, get_or_from_slice_get, ScopeSite, sites_in, IsPlaceOf}
-use Common.{named_entry, scope_entry, scope_places, scope_entry_at, used_at, named_entry_at}
-use Common.{ScopePlace, DW_AT_CALL_FILE, DW_AT_CALL_LINE, DW_AT_HIGH_PC, DW_AT_LOW_PC, DW_AT_RANGES}
-use Common.{uleb-moves, Attribute, entry_at, stored_attributes, entries-again, value-stored}
-use Common.{names_at-stored, without_place, inside-is, get_or-map, ◌<◌}
+use Common.{stored_of, length-map, slice_get_within, get_or_from_slice_get, ScopeSite, sites_in}
+use Common.{IsPlaceOf, named_entry, scope_entry, scope_places, scope_entry_at, used_at}
+use Common.{named_entry_at, ScopePlace, DW_AT_CALL_FILE, DW_AT_CALL_LINE, DW_AT_HIGH_PC}
+use Common.{DW_AT_LOW_PC, DW_AT_RANGES, uleb-moves, Attribute, entry_at, stored_attributes}
+use Common.{entries-again, value-stored, names_at-stored, without_place, inside-is, get_or-map}
 use Rattle.dwarf_entries.proofs.UnitPasses.UnitLaws.{stored-index, IsUnitIn, AreUnitsIn}
-use Rattle.dwarf_entries.proofs.UnitPasses.UnitLaws.{stored-there}
 use Rattle.dwarf_entries.proofs.ScopePasses.SiteLaws.{site-in}
-use Rattle.dwarf_entries.proofs.UnitPasses.PassLaws.{element}
 
 -- ---- the entries that were read before
 
@@ -92,26 +90,22 @@ sites-stored k u same = ap (λ (x : StoredUnit). length x.scopes) same
     ∙ length-map (sites_in u u.dies) place_in)
 
 -- The site at an index of a unit can be re-read from the stored data of the unit.
-pub site-read : (s : Sections) (us : List CompilationUnit) (stored : List UnitEntries) (n i : ℕ)
-    (u : CompilationUnit) (k : UnitEntries) (x : ScopePlace) → AreUnitsIn s us
-    → AreStored stored us → slice_get us n ≡ Some u → i < length (sites_in u u.dies)
-    → k ≡ get_or stored n k → x ≡ get_or k.scopes.items i x
-    → (p : ScopeSite) × (slice_get (sites_in u u.dies) i ≡ Some p) × (x.inside ≡ p.inside)
-    × (read : IsUnitIn s k.header u.dies)
+pub site-read : (s : Sections) (us : List CompilationUnit) (n i : ℕ) (u : CompilationUnit)
+    (p : ScopeSite) (k : UnitEntries) (x : ScopePlace) → AreUnitsIn s us
+    → stored_of k ≡ stored_unit_of u → slice_get us n ≡ Some u
+    → slice_get (sites_in u u.dies) i ≡ Some p → x ≡ get_or k.scopes.items i x
+    → (x.inside ≡ p.inside) × (read : IsUnitIn s k.header u.dies)
     × (scope_entry_at k.header.format read.table (bytes_in s k.header) x.offset
     ≡ Ok (scope_entry p.member.die p.kind))
-site-read s us stored n i u k x are all is within k_is here =
-    let p = element (sites_in u u.dies) i within in
-    let at = site-in u u.dies i p.0 p.1 in
-    let same = stored-there stored us all n k u is k_is in
+site-read s us n i u p k x are same is found here =
+    let at = site-in u u.dies i p found in
     let read = stored-in s u k same (are.each_is n u is) in
-    let place : x ≡ place_in p.0 = here ∙ rw (ap (λ (y : StoredUnit). y.scopes) same
-    ∙ places-are u u.dies) (get_or-map place_in (sites_in u u.dies) i p.0 x within
-    ∙ ap place_in (get_or_from_slice_get (sites_in u u.dies) i p.0 p.0 p.1)) in
+    let place : x ≡ place_in p = here ∙ rw (ap (λ (y : StoredUnit). y.scopes) same
+    ∙ places-are u u.dies) (get_or-map place_in (sites_in u u.dies) i p x
+    (slice_get_within (sites_in u u.dies) i p found)
+    ∙ ap place_in (get_or_from_slice_get (sites_in u u.dies) i p p found)) in
     rw place (
-      p.0,
-      p.1,
       refl,
       read,
-      scope-there s k.header u.dies _ p.0.member.die read at.there p.0.kind at.kind_is,
+      scope-there s k.header u.dies _ p.member.die read at.there p.kind at.kind_is,
     )

@@ -1,7 +1,7 @@
 use Rattle.dwarf_entries.proofs
-use proofs.{◌≡◌, ℕ, suc, ◌+◌, ◌<◌, ◌≤◌, List, [], ◌∷◌, length, map, refl, ap, arith, get_or, Some}
-use proofs.{slice_get, slice_get-get_or, Die, RiseWithin, Root, Sections, CompilationUnit, Scope}
-use proofs.{root_of, roots_from, All-map, IsStrictlyIncreasing, within-le, sites-rise, site-within}
+use proofs.{◌≡◌, ℕ, suc, ◌+◌, ◌<◌, ◌≤◌, List, [], ◌∷◌, length, map, refl, arith, get_or, Some}
+use proofs.{slice_get, slice_get-get_or, Die, RiseWithin, Sections, CompilationUnit, Scope}
+use proofs.{roots_from, All-map, IsStrictlyIncreasing, within-le, sites-rise, site-within}
 use proofs.{tree-parts, scope-at, AreUnitsIn, dies-rise, units-after, from-map, count_by, flat_map}
 use proofs.{increasing, is_scope, rise-at, take, ◌++◌}
 use Rattle.dwarf_entries.proofs.tree_laws.offsets_rise.Goals as goal
@@ -49,22 +49,15 @@ heads-are : (number : ℕ) (us : List CompilationUnit) → map (λ r. r.offset) 
     ≡ map (λ d. d.offset) (heads us)
 heads-are number [] = refl
 heads-are number (u ∷ us) =
-    let past : ℕ = number + count_by is_scope u.dies in
-    by_dies (roots_from past us) u.dies past (heads-are past us)
-  where
-    by_dies : (roots : List Root) (dies : List Die) (past : ℕ)
-        → map (λ r. r.offset) roots ≡ map (λ d. d.offset) (heads us)
-        → map (λ r. r.offset) (root_of number past dies roots)
-        ≡ map (λ d. d.offset) (take 1 dies ++ heads us)
-    by_dies roots [] past same = same
-    by_dies roots (die ∷ dies) past same = ap (λ (places : List ℕ). die.offset ∷ places) same
+    let rest = heads-are (number + count_by is_scope u.dies) us in grind arith
 
 -- The first entry of a unit, before entries after the unit.
 head-rises : (from end size : ℕ) (dies rest : List Die) → RiseWithin from end dies
     → RiseWithin end size rest → RiseWithin from size (take 1 dies ++ rest)
 head-rises from end size [] rest rise later = raised from end size rest rise later
 head-rises from end size (die ∷ dies) rest rise later =
-    (rise.0, raised (suc die.offset) end size rest (within-le (suc die.offset) end dies rise.1) later)
+    let le = within-le (suc die.offset) end dies rise.1 in
+    (rise.0, raised (suc die.offset) end size rest le later)
 
 heads-rise : {s : Sections} (from : ℕ) (us : List CompilationUnit) → AreUnitsIn s us
     → ((i : ℕ) (u : CompilationUnit) → slice_get us i ≡ Some u → from ≤ u.header.start)

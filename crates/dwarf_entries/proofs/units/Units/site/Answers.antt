@@ -1,6 +1,6 @@
-use Rattle.dwarf_entries.proofs.{sym, ap, ◌∙◌, arith, Cause, at_item, same-ok, refl, DebugInfo}
-use Rattle.dwarf_entries.proofs.{scope_entry, again-memory, sites-stored, site-read, seen}
-use Rattle.dwarf_entries.proofs.{with-parts, element, stored-there, object-units}
+use Rattle.dwarf_entries.proofs.{sym, ap, ◌∙◌, arith, Cause, at_item, same-ok, sites_in, refl}
+use Rattle.dwarf_entries.proofs.{DebugInfo, scope_entry, again-memory, sites-stored, site-read}
+use Rattle.dwarf_entries.proofs.{seen, with-parts, element, stored-there, object-units}
 use Rattle.dwarf_entries.proofs.units.Units.site.Goals as goal
 
 pub index-place-requires : goal.index-place-requires
@@ -24,12 +24,14 @@ invariant_of-self c =
 pub returns-in-Err-clause-site : goal.returns-in-Err-clause-site
 returns-in-Err-clause-site c u found =
     let are = seen c.self.invariant c.self.view_is in
-    let r = site-read _ _ _ c.args.unit c.args.index u c.index-stored.result.now _
-    (object-units _ _ c.self.view_is) are.stored_are found (c.requires.index u found)
-    c.index-stored.ensures c.index-place.ensures in
+    let p = element (sites_in u u.dies) c.args.index (c.requires.index u found) in
+    let k = c.index-stored.result.now in
+    let r = site-read _ _ c.args.unit c.args.index u p.0 k _ (object-units _ _ c.self.view_is)
+    (stored-there _ _ are.stored_are _ k u found c.index-stored.ensures) found p.1
+    c.index-place.ensures in
     c.at_item.ensures ∙ ap (λ (e : Cause). at_item DebugInfo e c.from-at.result)
-    (again-memory c.in-Err.cause _ _ r.4
-    (c.in-Err.ensures.scope _ r.3.table are.reader_is r.3.table_is))
+    (again-memory c.in-Err.cause _ _ r.2
+    (c.in-Err.ensures.scope _ r.1.table are.reader_is r.1.table_is))
 
 pub invariant_of-self-2 : goal.invariant_of-self-2
 invariant_of-self-2 c =
@@ -39,11 +41,13 @@ invariant_of-self-2 c =
 pub returns-clause-site : goal.returns-clause-site
 returns-clause-site c u found =
     let are = seen c.self.invariant c.self.view_is in
-    let r = site-read _ _ _ c.args.unit c.args.index u c.index-stored.result.now _
-    (object-units _ _ c.self.view_is) are.stored_are found (c.requires.index u found)
-    c.index-stored.ensures c.index-place.ensures in
-    rw r.1 (
-      same-ok c.in-Ok.entry (scope_entry r.0.member.die r.0.kind)
-          (sym (c.in-Ok.ensures.scope _ r.3.table are.reader_is r.3.table_is) ∙ r.4),
-      r.2,
+    let p = element (sites_in u u.dies) c.args.index (c.requires.index u found) in
+    let k = c.index-stored.result.now in
+    let r = site-read _ _ c.args.unit c.args.index u p.0 k _ (object-units _ _ c.self.view_is)
+    (stored-there _ _ are.stored_are _ k u found c.index-stored.ensures) found p.1
+    c.index-place.ensures in
+    rw p.1 (
+      same-ok c.in-Ok.entry (scope_entry p.0.member.die p.0.kind)
+          (sym (c.in-Ok.ensures.scope _ r.1.table are.reader_is r.1.table_is) ∙ r.2),
+      r.0,
     )
