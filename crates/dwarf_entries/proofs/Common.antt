@@ -86,8 +86,8 @@ pub use walk.declared.unit_entries.ScopeEntry.{ScopeEntry}
 pub use walk.declared.unit_entries.ScopePlace.{ScopePlace}
 pub use walk.declared.unit_entries.UnitEntries.{UnitEntries}
 pub use Rattle.std.proofs.Common.{All, Bool, Contains, Err, IfSome, List, None, Ok, Option, Result}
-pub use Rattle.std.proofs.Common.{Some, Vec, [], ap, append-nil, append_assoc, arith, cond}
-pub use Rattle.std.proofs.Common.{count_by, drop, drop-cons, eq-eqb, false, filter, flat_map}
+pub use Rattle.std.proofs.Common.{Some, Vec, [], add-one, ap, append-nil, append_assoc, arith}
+pub use Rattle.std.proofs.Common.{cond, count_by, drop, drop-cons, eq-eqb, false, filter, flat_map}
 pub use Rattle.std.proofs.Common.{get_or, if◌then◌else◌, inl, inr, is_some, length, length-append}
 pub use Rattle.std.proofs.Common.{length-take, map, min, nat_le, nat_lt, ok_or, option_map}
 pub use Rattle.std.proofs.Common.{option_to_list, refl, rules, slice_get, subst, subst₂, suc}

@@ -1,7 +1,7 @@
 -- The entry at an offset of .debug_info is found by its bit, in the unit that contains the offset.
 use Rattle.dwarf_entries.proofs.Common
 use Common.{slice_get_past, ◌≡◌, ◌⊎◌, inl, inr, ℕ, zero, suc, ◌+◌, ◌<◌, ◌≤◌, List, [], ◌∷◌, length}
-use Common.{map, get_or, Bool, true, ◌==◌, refl, sym, ap, ◌∙◌, arith, Option, Some, None, Err, find}
+use Common.{map, get_or, Bool, true, ◌==◌, refl, sym, ap, arith, Option, Some, None, Err, find}
 use Common.{slice_get, option_map, option_or, slice_get-get_or, slice_get_within, AttributeValue}
 use Common.{Die, RiseWithin, UnitEntries, StoredUnit, Sections, CompilationUnit, Member, target_of}
 use Common.{AreStored, member_in, Reference, ok_or, cases_lt, IsNonDecreasingBy, IsPartitionPoint}
@@ -44,19 +44,13 @@ pub find-units : (u : CompilationUnit) (us : List CompilationUnit) (offset : ℕ
     → find (is_at_offset offset) (members_of (u ∷ us))
     ≡ option_or (option_map (member_of u) (die_at u offset))
     (find (is_at_offset offset) (members_of us))
-find-units u us offset = rw (
-  find-append (is_at_offset offset) (map (member_of u) u.dies) (members_of us),
-  find-map (is_at_offset offset) (member_of u) u.dies,
-) refl
-
-or-none : {X : Type 0} (o : Option X) → option_or o None ≡ o
-or-none o = grind arith
+find-units u us offset = rw (find-append, find-map) refl
 
 -- The entry at an offset, in the unit at an index.
 pub member-is : (us : List CompilationUnit) (n offset : ℕ) (u : CompilationUnit)
     → slice_get us n ≡ Some u → member_in us n offset
     ≡ ok_or (option_map (member_of u) (die_at u offset)) Reference
-member-is us n offset u is = rw (is, find-units u [] offset, or-none) refl
+member-is us n offset u is = grind (arith, is, find-units u [] offset)
 
 -- ---- the unit that contains an offset
 
@@ -95,10 +89,11 @@ module _ {s : Sections} {us : List CompilationUnit} (are : AreUnitsIn s us) wher
   pub in-own : (n offset : ℕ) (u : CompilationUnit) → slice_get us n ≡ Some u
       → u.header.start ≤ offset → offset < u.header.end
       → find (is_at_offset offset) (members_of us) ≡ option_map (member_of u) (die_at u offset)
-  in-own n offset u is low high = only-in us n offset (λ i v found differs.
+  in-own n offset u is low high =
+      let only = only-in us n offset (λ i v found differs.
       none-outside v.header.start v.header.end v.dies offset (dies-rise (are.each_is i v found))
-      (grind (arith, are.apart i n v u found is, are.apart n i u v is found)))
-      ∙ rw (is, find-units u [] offset, or-none) refl
+      (grind (arith, are.apart i n v u found is, are.apart n i u v is found))) in
+      grind (arith, only, is, find-units u [] offset)
 
   -- ---- the stored units
 
@@ -122,13 +117,9 @@ module _ {s : Sections} {us : List CompilationUnit} (are : AreUnitsIn s us) wher
         let all : member_at (members_of us) offset ≡ member_in us n offset =
         ap (λ (o : Option Member). ok_or o Reference) (first-past n offset
         (λ i v found lt. let k = stored-for stored us same i v found in
-        let place = slice_get_within stored i k.0 k.1 in
-        let here = get_or_from_slice_get stored i k.0 k.0 k.1 in
-        grind (arith, parts.0 i k.0, k.2))
+        grind (arith, parts.0 i k.0, k, slice_get_within, get_or_from_slice_get))
         (λ i v found le. let k = stored-for stored us same i v found in
-        let place = slice_get_within stored i k.0 k.1 in
-        let here = get_or_from_slice_get stored i k.0 k.0 k.1 in
-        grind (arith, parts.1 i k.0, k.2))) in
+        grind (arith, parts.1 i k.0, k, slice_get_within, get_or_from_slice_get))) in
         let is : (reference.form == DW_FORM_REF_ADDR) ≡ true =
         eq-eqb reference.form DW_FORM_REF_ADDR form in
         sym (rw (is, number) all)

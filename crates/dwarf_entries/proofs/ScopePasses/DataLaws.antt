@@ -2,10 +2,10 @@
 -- scopes of a result share, to which one more scope is appended.
 use Rattle.dwarf_entries.proofs.Common
 use Common.{Global, Vec, ◌≡◌, ℕ, zero, suc, ◌-◌, List, [], ◌∷◌, length, take, drop, refl, ap, sym}
-use Common.{◌∙◌, arith, ◌+◌, ◌≤◌, ◌++◌, length-append, slice_get, option_map, None, Range, Root}
-use Common.{take_all, CallSite, scopes_from, facts_of, IsPushed, ScopeFacts, ScopeLists}
-use Common.{common_steps, length-drop, scope_of, call_site, scopes_of, wide_index, ranges_start}
-use Common.{IsInList, AreConsecutive, Calls, take-append-le, drop-append-le, get_or_append_left}
+use Common.{◌∙◌, arith, ◌+◌, ◌≤◌, ◌++◌, length-append, slice_get, option_map, Range, Root, take_all}
+use Common.{CallSite, scopes_from, facts_of, IsPushed, ScopeFacts, ScopeLists, common_steps}
+use Common.{length-drop, scope_of, call_site, scopes_of, wide_index, ranges_start, IsInList}
+use Common.{AreConsecutive, Calls, take-append-le, drop-append-le, get_or_append_left}
 use Common.{unwrap_or-slice_get, drop-append_seam, Some, map, slice_get-map, Scope, Own, own}
 use Common.{own_of, AreNumbered, AreInOrder, HasDataOf}
 use Rattle.dwarf_entries.specs.declared.scope.Scope.{Scope as StoredScope}
@@ -75,14 +75,9 @@ call-stays : (wide more : List CallSite) (c : Calls) (file line : ℕ)
     → IsInList (length wide) c file line
     → call_site (wide ++ more) c file line ≡ call_site wide c file line
 call-stays wide more c file line in_list =
-    let d : CallSite = record { file = None; line = None } in
     let index : ℕ = wide_index file line in
-    grind (
-      arith,
-      get_or_append_left wide more d index,
-      unwrap_or-slice_get (wide ++ more) index d,
-      unwrap_or-slice_get wide index d,
-    )
+    let left = get_or_append_left wide more in
+    grind (arith, left, unwrap_or-slice_get (wide ++ more) index, unwrap_or-slice_get wide index)
 
 pub scopes-push : (roots : List Root) (wide more : List CallSite) (ranges new : List Range)
     (first : ℕ) (ss : List StoredScope) (s : StoredScope) → AreConsecutive (length wide) first
@@ -92,12 +87,8 @@ pub scopes-push : (roots : List Root) (wide more : List CallSite) (ranges new : 
     ≡ scopes_from roots wide ranges first ss ++ scope_of roots (wide ++ more) new s ∷ []
 scopes-push roots wide more ranges new first [] s in_list ends =
     let size : s.ranges_end - first ≡ length new = omega (arith, in_list, ends) in
-    rw (
-      size,
-      in_list,
-      drop-append_seam ranges new,
-      take_all (length new) new (omega arith),
-    ) refl
+    let whole = take_all (length new) new (omega arith) in
+    rw (size, in_list, drop-append_seam ranges new, whole) refl
 scopes-push roots wide more ranges new first (t ∷ ts) s in_list ends =
     let past = in_list-within (length wide) t.ranges_end (length ranges) ts in_list.2 in
     let size = length-drop first ranges in

@@ -1,13 +1,12 @@
 -- The roots of units: the loop that returns them, their order, and the root of a scope.
 use Rattle.dwarf_entries.proofs.Common
 use Common.{◌≡◌, ℕ, zero, suc, ◌+◌, ◌<◌, ◌≤◌, List, [], ◌∷◌, ◌++◌, length, take, get_or, ap, ◌∙◌}
-use Common.{arith, Bool, Option, Some, None, count_by, slice_get, nat_lt, sum_by-cons}
-use Common.{slice_get_within, get_or_from_slice_get, UnitEntries, is_scope, Root, CompilationUnit}
-use Common.{roots_from, stmt_list_of, number_of_scopes, first_number, find, take_more}
-use Common.{sum_by-take-le, find_at, IsNonDecreasingBy, IsPartitionPoint, ArePartsFrom}
-use Common.{stmt_list_by_number, position_or_len_is, lt-ltb, le-ltb, RootEntry, root_in}
-use Common.{common_steps, ◌-◌}
-use Rattle.dwarf_entries.proofs.ScopePasses.SiteLaws.{sites-count, first-next}
+use Common.{arith, Bool, Option, Some, None, count_by, slice_get, nat_lt, slice_get_within}
+use Common.{get_or_from_slice_get, UnitEntries, is_scope, Root, CompilationUnit, roots_from}
+use Common.{stmt_list_of, number_of_scopes, first_number, find, take_more, sum_by-take-le, find_at}
+use Common.{IsNonDecreasingBy, IsPartitionPoint, ArePartsFrom, stmt_list_by_number}
+use Common.{position_or_len_is, lt-ltb, le-ltb, RootEntry, root_in, common_steps, ◌-◌}
+use Rattle.dwarf_entries.proofs.ScopePasses.SiteLaws.{sites-count, first-next, number-cons}
 use Rattle.dwarf_entries.proofs.UnitPasses.RereadLaws.{sites-stored}
 use Rattle.dwarf_entries.proofs.UnitPasses.UnitLaws.{StoredFor}
 
@@ -24,21 +23,16 @@ roots-push : (number : ℕ) (us : List CompilationUnit) (u : CompilationUnit) (f
     ≡ roots_from number us ++ root_list first past (root_in u.dies)
 roots-push number [] u first past first_is past_is = grind arith
 roots-push number (v ∷ us) u first past first_is past_is =
-    let sum = sum_by-cons (λ (w : CompilationUnit). count_by is_scope w.dies) v us in
     let rest = roots-push (number + count_by is_scope v.dies) us u first past in
-    grind (arith, sum, rest)
+    grind (arith, number-cons v us, rest)
 
 module _ {us : List CompilationUnit} {index : ℕ} {unit : UnitEntries}
     (here : StoredFor us index unit) (first past : ℕ) (first_is : first ≡ first_number us index)
     (past_is : past ≡ first + unit.scopes.len) where
   ends : past ≡ first + count_by is_scope here.unit.dies
-  ends = omega (
-    arith,
-    past_is,
-    sites-stored unit here.unit here.stored,
-    sites-count here.unit here.unit.dies,
-    unit.scopes.ok.0,
-  )
+  ends =
+      let size = sites-stored unit here.unit here.stored in
+      omega (arith, past_is, size, sites-count here.unit here.unit.dies, unit.scopes.ok.0)
 
   -- The number of the first scope of the next unit, which is at most the number of all scopes.
   pub past-is : (past ≡ first_number us (index + 1)) × (past ≤ number_of_scopes us)
@@ -71,11 +65,10 @@ pub roots-part : (number : ℕ) (units : List CompilationUnit)
 roots-part number [] = omega arith
 roots-part number (unit ∷ units) =
     let past : ℕ = number + count_by is_scope unit.dies in
-    let sum = sum_by-cons (λ (u : CompilationUnit). count_by is_scope u.dies) unit units in
     let end : past + number_of_scopes units ≡ number + number_of_scopes (unit ∷ units) =
-    omega (arith, sum) in
-    let rest = roots-part past units in
-    grind (arith, rw end at rest)
+    omega (arith, number-cons unit units) in
+    let rest = rw end at (roots-part past units) in
+    grind arith
 
 pub ends-rise : (us : List CompilationUnit) (roots : List Root) → roots ≡ roots_from 0 us
     → IsNonDecreasingBy (λ r. r.past) roots
@@ -107,6 +100,5 @@ by_number first (v ∷ vs) u zero number found after inside =
     grind (arith, lt-ltb number (first + count_by is_scope v.dies))
 by_number first (v ∷ vs) u (suc index) number found after inside =
     let past : ℕ = first + count_by is_scope v.dies in
-    let count = sum_by-cons (λ (w : CompilationUnit). count_by is_scope w.dies) v (take index vs) in
     let later = by_number past vs u index number found in
-    grind (arith, le-ltb number past, count, later)
+    grind (arith, le-ltb number past, number-cons v (take index vs), later)

@@ -4,7 +4,7 @@ use Common.{◌≡◌, ℕ, zero, suc, ◌+◌, ◌-◌, ◌≤◌, inl, inr, co
 use Common.{drop, refl, ap, sym, ◌∙◌, arith, length-append, take_all, Some, count_by, slice_get}
 use Common.{sum_by-cons, slice_get_within, get_or_from_slice_get, Die, below, ScopeKind, kind_of}
 use Common.{is_scope, CompilationUnit, ScopeSite, sites_in, number_of_scopes, first_number}
-use Common.{all_sites, cases_lt, sum_by_more}
+use Common.{all_sites, cases_lt, sum_by_more, add-one}
 use Rattle.dwarf_entries.proofs.UnitPasses.PassLaws.{element}
 
 -- ---- the sites of a unit
@@ -45,9 +45,7 @@ pub site-in : (u : CompilationUnit) (dies : List Die) (n : ℕ) (p : ScopeSite)
 site-in u [] n p h = cc
 site-in u (die ∷ rest) zero p h =
     let later = site-in u rest zero p in
-    let sum = sum_by-cons (λ x. cond (is_scope x) 1 0) die (take (index_of rest zero) rest) in
-    let next : suc (index_of rest zero) + 1 ≡ suc (index_of rest zero + 1) = omega arith in
-    grind arith
+    grind (arith, add-one, sum_by-cons (λ x. cond (is_scope x) 1 0) die)
 site-in u (die ∷ rest) (suc n) p h =
     let later = site-in u rest n p in
     let same = site-in u rest (suc n) p in
@@ -72,15 +70,15 @@ site-of u (d ∷ rest) (suc k) die kind h is =
 
 -- ---- the sites of all units
 
+pub number-cons : (u : CompilationUnit) (us : List CompilationUnit)
+    → number_of_scopes (u ∷ us) ≡ count_by is_scope u.dies + number_of_scopes us
+number-cons = sum_by-cons (λ (v : CompilationUnit). count_by is_scope v.dies)
+
 pub all-sites-count : (us : List CompilationUnit) → length (all_sites us) ≡ number_of_scopes us
 all-sites-count [] = refl
-all-sites-count (u ∷ us) = omega (
-  arith,
-  sum_by-cons (λ (v : CompilationUnit). count_by is_scope v.dies) u us,
-  sites-count u u.dies,
-  all-sites-count us,
-  length-append (sites_in u u.dies) (all_sites us),
-)
+all-sites-count (u ∷ us) =
+    let sizes = length-append (sites_in u u.dies) (all_sites us) in
+    omega (arith, sizes, number-cons u us, sites-count u u.dies, all-sites-count us)
 
 pub first-all : (us : List CompilationUnit) (i : ℕ) → length us ≤ i
     → first_number us i ≡ length (all_sites us)
@@ -113,10 +111,9 @@ all-sites-at (v ∷ us) zero m n u p found here is =
     let none : first_number (v ∷ us) zero ≡ 0 = refl in
     grind (arith, at-left (sites_in v v.dies) (all_sites us) n p)
 all-sites-at (v ∷ us) (suc i) m n u p found here is =
-    let sum = sum_by-cons (λ (w : CompilationUnit). count_by is_scope w.dies) v (take i us) in
     let rest = all-sites-at us i m (first_number us i + m) u p found here refl in
-    at-right (sites_in v v.dies) (all_sites us) n (first_number us i + m)
-    (omega (arith, is, sum, sites-count v v.dies)) ∙ rest
+    let place = number-cons v (take i us) in
+    grind (arith, at-right (sites_in v v.dies) (all_sites us) n, sites-count v v.dies)
 
 -- A site is that of the entry at an index of the unit at an index.
 pub record IsSiteAt (us : List CompilationUnit) (unit index n : ℕ) (p : ScopeSite) : Type 0 where
@@ -141,9 +138,8 @@ site-at (u ∷ us) n p h = elim (cases_lt n (length (sites_in u u.dies))) [
       let m : ℕ = n - length (sites_in u u.dies) in
       let at = site-at us m p
       (sym (at-right (sites_in u u.dies) (all_sites us) n m (omega (arith, ge))) ∙ h) in
-      let sum = sum_by-cons (λ (w : CompilationUnit). count_by is_scope w.dies) u
-      (take at.0 us) in
-      (suc at.0, at.1, grind (arith, at.2, sum, sites-count u u.dies)))
+      let place = number-cons u (take at.0 us) in
+      (suc at.0, at.1, grind (arith, at.2, place, sites-count u u.dies)))
 ]
 
 -- The site of an entry of a unit.

@@ -24,14 +24,10 @@ pub record HasBounds (size : ℕ) (header : UnitHeader) : Type 0 where
 unit_at-bounds : (info : List ℕ) (at : ℕ) (header : UnitHeader) → unit_at info at ≡ Ok header
     → (header.start ≡ at) × HasBounds (length info) header
 unfolding unit_at
-unit_at-bounds info at header h = grind (
-  arith,
-  initial_length_at-moves info at,
-  header_in-places,
-  header_in-first,
-  unit_at-moves info at,
-  length-take,
-)
+unit_at-bounds info at header h =
+    let start = initial_length_at-moves info at in
+    let moves = unit_at-moves info at in
+    grind (arith, start, moves, header_in-places, header_in-first, length-take)
 
 -- ---- contiguous units
 

@@ -1,9 +1,9 @@
 use Rattle.dwarf_entries.proofs
 use proofs.{◌≡◌, ℕ, zero, suc, ◌+◌, List, [], ◌∷◌, length, take, refl, arith, Some, All, slice_get}
-use proofs.{count_by, All-nil, All-cons, All-weaker, sum_by-cons, Die, is_scope, Root}
-use proofs.{CompilationUnit, stmt_list_of, root_of, roots_from, first_number, number_of_scopes}
-use proofs.{All-contains, first-rises, before-later, tree-parts, scope-at, contained, first-next}
-use proofs.{all-sites-count, dies-rise, roots-part, root_in, scopes-count, rise-order}
+use proofs.{count_by, All-nil, All-cons, All-weaker, Die, is_scope, Root, CompilationUnit}
+use proofs.{stmt_list_of, root_of, roots_from, first_number, number_of_scopes, All-contains}
+use proofs.{first-rises, before-later, tree-parts, scope-at, contained, first-next, all-sites-count}
+use proofs.{dies-rise, roots-part, root_in, scopes-count, rise-order, number-cons}
 use Rattle.dwarf_entries.proofs.tree_laws.roots_partition_scopes.Goals as goal
 
 -- A root is that of a unit with entries.
@@ -24,8 +24,7 @@ roots-of : (number : ℕ) (us : List CompilationUnit) → All (HasUnit us number
 roots-of number [] = All-nil (HasUnit [] number)
 roots-of number (u ∷ us) =
     by_dies u.dies refl (All-weaker (HasUnit us past) (HasUnit (u ∷ us) number) (λ root at.
-    let sum = sum_by-cons (λ (v : CompilationUnit). count_by is_scope v.dies) u (take at.0 us) in
-    (suc at.0, at.1, at.2, grind (arith, at.3, sum))) (roots_from past us) (roots-of past us))
+    (suc at.0, at.1, at.2, grind (arith, at.3, number-cons u (take at.0 us)))) (roots_from past us) (roots-of past us))
   where
     past : ℕ
     past = number + count_by is_scope u.dies
