@@ -78,12 +78,9 @@ number dies place = count_by is_scope (take place dies)
 pub ends-are : (dies : List Die) (i : ℕ) (outer : Die) → slice_get dies i ≡ Some outer
     → is_scope outer ≡ true → number dies i + 1 + count_by is_scope
     (below outer (drop (i + 1) dies)) ≡ number dies (past_below dies i outer)
-ends-are dies i outer is scope = omega (
-  arith,
-  counted-one is_scope dies i outer is scope,
-  counted-add is_scope dies (i + 1)
-      (prefix_len (λ d. nat_lt outer.depth d.depth) (drop (i + 1) dies)),
-)
+ends-are dies i outer is scope =
+    let more = counted-one is_scope dies i outer is scope in
+    grind (arith, more, counted-add is_scope dies (i + 1))
 
 pub scopes-between : (dies : List Die) (i j : ℕ) (outer inner : Die) → slice_get dies i ≡ Some outer
     → slice_get dies j ≡ Some inner → is_scope outer ≡ true → is_scope inner ≡ true
@@ -117,15 +114,10 @@ pub ends-within : (dies : List Die) (i j : ℕ) (outer inner : Die) → slice_ge
 ends-within dies i j outer inner outer_is inner_is outer_scope inner_scope under =
     let k : ℕ = past_below dies i outer in
     let before = (from-below dies i j outer outer_is under).1 in
-    let less = counted-rises is_scope dies (past_below dies j inner) k (grind (
-      arith,
-      to-below dies j k inner inner_is before,
-      below-trans dies i j k under,
-      from-below dies i k outer outer_is,
-    )) in
-    omega (
-      arith,
-      ends-are dies i outer outer_is outer_scope,
-      ends-are dies j inner inner_is inner_scope,
-      less,
-    )
+    let deeper = to-below dies j k inner inner_is before in
+    let later = below-trans dies i j k under in
+    let less = counted-rises is_scope dies (past_below dies j inner) k
+    (grind (arith, deeper, later, from-below dies i k outer outer_is)) in
+    let first = ends-are dies i outer outer_is outer_scope in
+    let second = ends-are dies j inner inner_is inner_scope in
+    omega (arith, first, second, less)

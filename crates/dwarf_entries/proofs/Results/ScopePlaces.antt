@@ -25,15 +25,12 @@ pub before-later : {us : List CompilationUnit} {i k n : ℕ} {p : ScopeSite}
     → IsSiteAt us i k n p → (j : ℕ) → i < j → n + 1 + p.inside ≤ first_number us j
 before-later {us} {i} {k} {p = p} at j lt =
     let dies : List Die = p.member.unit.dies in
-    omega (
-      arith,
-      at.number_is,
-      at.inside_is,
-      ends-are dies k p.member.die at.there (ap is_some at.kind_is),
-      sum_by-take-le (λ (x : Die). cond (is_scope x) 1 0) dies (past_below dies k p.member.die),
-      first-next us i p.member.unit at.unit_is,
-      first-rises us (i + 1) j (omega (arith, lt)),
-    )
+    let ends = ends-are dies k p.member.die at.there (ap is_some at.kind_is) in
+    let few = sum_by-take-le (λ (x : Die). cond (is_scope x) 1 0) dies
+    (past_below dies k p.member.die) in
+    let next = first-next us i p.member.unit at.unit_is in
+    let rises = first-rises us (i + 1) j (omega (arith, lt)) in
+    omega (arith, at.number_is, at.inside_is, ends, few, next, rises)
 
 -- ---- the order of offsets
 

@@ -124,16 +124,11 @@ pushed roots old new ranges found facts in_list grown is =
     let sum = length-append old.ranges.items found in
     let ends : is.s.ranges_end ≡ length old.ranges.items + length found =
     is.packs.ends ∙ rw grown sum in
-    let described = rw is.packs.added at is.packs.tells roots found in (
-      rw (
-        is.packs.added,
-        all,
-        is.scopes,
-        scopes-push roots old.wide.items is.packs.more old.ranges.items found 0 old.scopes.items
-            is.s in_list ends,
-        described,
-      ) refl,
-      rw (is.packs.added, all, is.scopes, added, sum) (in_list-push (length old.wide.items)
-          (length is.packs.more) 0 (length old.ranges.items) (length found) old.scopes.items is.s
-          in_list ends (rw (is.packs.added, added) at is.packs.in_list)),
+    let described = rw is.packs.added at is.packs.tells roots found in
+    let push = scopes-push roots old.wide.items is.packs.more old.ranges.items found 0
+    old.scopes.items is.s in_list ends in
+    let inside = rw (is.packs.added, added) at is.packs.in_list in (
+      rw (is.packs.added, all, is.scopes, push, described) refl,
+      rw (is.packs.added, all, is.scopes, added, sum)
+          (in_list-push _ _ 0 _ _ old.scopes.items is.s in_list ends inside),
     )

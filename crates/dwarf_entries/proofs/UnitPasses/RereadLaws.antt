@@ -6,8 +6,7 @@ use Common.{Result, Ok, slice_get, Cause, UnitHeader, Die, ScopeKind, Sections, 
 use Common.{CompilationUnit, Member, UnitEntries, AreStored, stored_unit_of, kind_of, StoredUnit}
 use Common.{stored_of, length-map, slice_get_within, get_or_from_slice_get, ScopeSite, sites_in}
 use Common.{IsPlaceOf, named_entry, scope_entry, scope_places, scope_entry_at, used_at}
-use Common.{named_entry_at, ScopePlace, DW_AT_CALL_FILE, DW_AT_CALL_LINE, DW_AT_HIGH_PC}
-use Common.{DW_AT_LOW_PC, DW_AT_RANGES, uleb-moves, Attribute, entry_at, stored_attributes}
+use Common.{named_entry_at, ScopePlace, uleb-moves, Attribute, entry_at, stored_attributes}
 use Common.{entries-again, value-stored, names_at-stored, without_place, inside-is, get_or-map}
 use Rattle.dwarf_entries.proofs.UnitPasses.UnitLaws.{stored-index, IsUnitIn, AreUnitsIn}
 use Rattle.dwarf_entries.proofs.ScopePasses.SiteLaws.{site-in}
@@ -35,17 +34,7 @@ module _ (s : Sections) (header : UnitHeader) (dies : List Die) (k : ℕ) (die :
       → scope_entry_at header.format read.table (bytes_in s header) die.offset
       ≡ Ok (scope_entry die kind)
   scope-there kind is =
-      let value = value-stored die.attributes in
-      rw (
-        used-there,
-        is,
-        names_at-stored die,
-        value DW_AT_LOW_PC refl,
-        value DW_AT_HIGH_PC refl,
-        value DW_AT_RANGES refl,
-        value DW_AT_CALL_FILE refl,
-        value DW_AT_CALL_LINE refl,
-      ) refl
+      grind (arith, used-there, names_at-stored die, value-stored die.attributes)
 
   -- The names and the reference of an entry of a unit can be re-read.
   pub names_at-there : named_entry_at header.format read.table (bytes_in s header) die.offset
@@ -100,10 +89,9 @@ pub site-read : (s : Sections) (us : List CompilationUnit) (n i : ℕ) (u : Comp
 site-read s us n i u p k x are same is found here =
     let at = site-in u u.dies i p found in
     let read = stored-in s u k same (are.each_is n u is) in
-    let place : x ≡ place_in p = here ∙ rw (ap (λ (y : StoredUnit). y.scopes) same
-    ∙ places-are u u.dies) (get_or-map place_in (sites_in u u.dies) i p x
-    (slice_get_within (sites_in u u.dies) i p found)
-    ∙ ap place_in (get_or_from_slice_get (sites_in u u.dies) i p p found)) in
+    let places = places-are u u.dies in
+    let item = get_or-map place_in (sites_in u u.dies) i p x in
+    let place : x ≡ place_in p = grind (arith, same, slice_get_within, get_or_from_slice_get) in
     rw place (
       refl,
       read,
