@@ -94,16 +94,6 @@ module _ {units : List CompilationUnit} {remaining : ℕ} {m : Member} {left : �
     followed-deep none =
         grind (arith, so_far.rest, next-is, stopped units so_far.last reference)
 
-    -- The chain after the last entry, given the target of its reference.
-    followed-on : (after : ℕ) (target : Result Member Cause) → after + 1 ≡ left
-        → target_of units so_far.last.unit reference ≡ target
-        → chain_within remaining units m ≡ prepend so_far.before
-        (target >>= λ next. in_front so_far.last (chain_within after units next))
-    followed-on after target left_is target_is =
-        let one : left ≡ suc after = omega (arith, left_is) in
-        let step = stepped units after so_far.last reference (next-is ∙ is) in
-        so_far.rest ∙ rw (one, ← target_is) (ap (prepend so_far.before) step)
-
     module _ (to : Option UnitPlace) (finds : (u : CompilationUnit) → slice_get units found.unit
         ≡ Some u → Finds units to (target_of units u reference)) where
       -- The member at the target.
@@ -114,8 +104,10 @@ module _ {units : List CompilationUnit} {remaining : ℕ} {m : Member} {left : �
 
       pub followed-lost : (left ≡ 0 → ⊥) → to ≡ None
           → chain_within remaining units m ≡ Err Reference
-      followed-lost some none = followed-on (left - 1) (Err Reference) (omega (arith, some))
-          ((rw none at finds) so_far.last.unit so_far.at.unit_is)
+      followed-lost some none =
+          let lost = (rw none at finds) so_far.last.unit so_far.at.unit_is in
+          let step = stepped units (left - 1) so_far.last reference in
+          grind (arith, so_far.rest, next-is)
 
       pub followed-next : (after : ℕ) (place : UnitPlace) (next : UnitEntry) (more : FirstNames)
           → after + 1 ≡ left → to ≡ Some place
@@ -125,12 +117,12 @@ module _ {units : List CompilationUnit} {remaining : ℕ} {m : Member} {left : �
           → Followed units remaining m after next more
       followed-next after place next more left_is there again longer =
           let n = target-there place there in
+          let step = stepped units after so_far.last reference in
           record {
             before = so_far.before ++ so_far.last ∷ [];
             last = n.0;
             at = again n.0 n.2;
-            rest = followed-on after (Ok n.0) left_is n.1 ∙ prepend-append so_far.before so_far.last
-                (chain_within after units n.0);
+            rest = grind (arith, so_far.rest, next-is, n.1, append_assoc);
             stored = longer (so_far.before ++ so_far.last ∷ []) n.0 so_far.stored (again n.0 n.2);
           }
 

@@ -105,11 +105,10 @@ pub in_list-push : (many more first past new : ℕ) (ss : List StoredScope) (s :
     → AreConsecutive many first past ss → s.ranges_end ≡ past + new
     → IsInList (many + more) s.calls s.call_file s.call_line
     → AreConsecutive (many + more) first (past + new) (ss ++ s ∷ [])
-in_list-push many more first past new [] s in_list ends inside =
-    (omega (arith, in_list, ends), inside, ends)
+in_list-push many more first past new [] s in_list ends inside = grind (arith, in_list, inside)
 in_list-push many more first past new (t ∷ ts) s in_list ends inside =
     let rest = in_list-push many more t.ranges_end past new ts s in_list.2 ends inside in
-    (in_list.0, grind arith, rest)
+    grind (arith, in_list)
 
 -- The contents of the lists after one more scope.
 pub pushed : (roots : List Root) (old new : ScopeLists) (ranges : Vec Range Global)

@@ -82,9 +82,7 @@ module _ {X Y : Type 0} {make : List Y → X → Result Y At} {xs : List X} {ind
   -- The element at the index, after those before it.
   then : (more : List X) → each make (take index xs ++ more)
       ≡ (each_from make made more >>= λ ys. Ok (made ++ ys))
-  then more = each-append make [] (take index xs) more
-      ∙ ap (λ (r : Result (List Y) At). r >>= λ ys. each_from make ys more >>= λ zs. Ok (ys ++ zs))
-      passed.read
+  then more = rw (each-append make [] (take index xs) more, passed.read) refl
 
   pub pass-next : (x : X) (y : Y) → slice_get xs index ≡ Some x → make made x ≡ Ok y
       → PassedTo make xs (index + 1) (made ++ y ∷ [])
@@ -108,9 +106,9 @@ module _ {X Y : Type 0} {make : List Y → X → Result Y At} {xs : List X} {ind
   unfolding each_from
   pass-refused x e found is =
       let within = slice_get_within xs index x found in
-      ap (each make) (sym (take-append-drop index xs))
-      ∙ rw (drop-cons xs index x, get_or_from_slice_get xs index x x found)
-      (then (x ∷ drop (suc index) xs) ∙ rw is refl)
+      let here = get_or_from_slice_get xs index x x found in
+      let rest = then (x ∷ drop (suc index) xs) in
+      grind (arith, take-append-drop index xs, drop-cons xs index x)
 
   pub pass-fault : {fault : LoadFault} (x : X) → slice_get xs index ≡ Some x
       → Faults fault (make made x) → Faults fault (each make xs)

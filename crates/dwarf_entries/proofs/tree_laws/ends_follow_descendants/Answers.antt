@@ -43,8 +43,6 @@ returns c s tree us outer inner i j p q h us_are outer_in inner_in outer_at inne
     let a = numbers-are outer_at t outer_in in
     let b = numbers-are inner_at t inner_in in
     let below = sites-below (site-of outer_at) (site-of inner_at) in (
-      λ under. let numbers = below.0 under in
-          (omega (arith, numbers.0, a.0, b.0), omega (arith, numbers.1, a.1, b.0)),
-      λ numbers. below.1
-          (omega (arith, numbers.0, a.0, b.0), omega (arith, numbers.1, a.1, b.0)),
+      λ under. grind (arith, below.0 under, a, b),
+      λ numbers. below.1 (grind (arith, numbers, a, b)),
     )
