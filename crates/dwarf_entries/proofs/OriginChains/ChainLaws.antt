@@ -1,15 +1,14 @@
 -- The loop that follows an origin chain, the names that it finds, and the cache of the names of
 -- reference targets.
 use Rattle.dwarf_entries.proofs.Common
-use Common.{◌≡◌, ℕ, zero, suc, ◌+◌, List, [], ◌∷◌, ◌++◌, refl, sym, ap, ◌∙◌, arith, Option, Some}
-use Common.{None, Result, Ok, Err, slice_get, option_map, ◌-◌, option_or, Cause, ◌>>=◌}
-use Common.{AttributeValue, NamedEntry, UnitPlace, CompilationUnit, Member, target_of, chain_within}
-use Common.{IsMember, Reference, first_on, IsPlaceOf, Finds, same_Some, ◌==◌, DW_AT_LINKAGE_NAME}
-use Common.{DW_AT_NAME, EntryNames, Sections, names_of, member_in, name_on, references_limit}
-use Common.{slot_at, IsCacheOf, NameCache, attribute, append_assoc, ◌&&◌, if◌then◌else◌, of_member}
-use Common.{IsFirst, AreFirst, FindsFirst, LeadsTo, UnitAttribute, UnitEntry, FirstNames}
-use Common.{CachedNames, slot_of, second_names, target_names, are_narrow, or_else, next_of}
-use Common.{OriginDepth, chosen}
+use Common.{◌≡◌, ℕ, suc, ◌+◌, List, [], ◌∷◌, ◌++◌, refl, sym, ap, ◌∙◌, arith, Option, Some, None}
+use Common.{Result, Ok, Err, slice_get, option_map, ◌-◌, option_or, Cause, ◌>>=◌, AttributeValue}
+use Common.{NamedEntry, UnitPlace, CompilationUnit, Member, target_of, chain_within, IsMember}
+use Common.{Reference, first_on, IsPlaceOf, Finds, same_Some, ◌==◌, DW_AT_LINKAGE_NAME, DW_AT_NAME}
+use Common.{EntryNames, Sections, names_of, member_in, name_on, references_limit, slot_at}
+use Common.{IsCacheOf, NameCache, attribute, append_assoc, ◌&&◌, if◌then◌else◌, of_member, IsFirst}
+use Common.{AreFirst, FindsFirst, LeadsTo, UnitAttribute, UnitEntry, FirstNames, CachedNames}
+use Common.{slot_of, second_names, target_names, are_narrow, or_else, next_of, OriginDepth, chosen}
 
 -- ---- the first attribute with a name
 
@@ -47,10 +46,6 @@ pub record Followed (units : List CompilationUnit) (remaining : ℕ) (m : Member
 abbrev pub in_front : Member → Result (List Member) Cause → Result (List Member) Cause
 in_front m r = r >>= λ rest. Ok (m ∷ rest)
 
-prepend-append : (before : List Member) (last : Member) (r : Result (List Member) Cause)
-    → prepend before (in_front last r) ≡ prepend (before ++ last ∷ []) r
-prepend-append before last r = grind (arith, append_assoc)
-
 -- The origin chain of an entry with a reference, if one more reference may be followed.
 pub stepped : (units : List CompilationUnit) (after : ℕ) (last : Member)
     (reference : AttributeValue) → next_of last.die ≡ Some reference
@@ -59,16 +54,6 @@ pub stepped : (units : List CompilationUnit) (after : ℕ) (last : Member)
     >>= λ next. in_front last (chain_within after units next))
 unfolding chain_within
 stepped units after last reference is = rw (is, chain_within) refl
-
-pub ended : (units : List CompilationUnit) (left : ℕ) (last : Member) → next_of last.die ≡ None
-    → chain_within left units last ≡ Ok (last ∷ [])
-unfolding chain_within
-ended units left last is = grind (arith, chain_within)
-
-pub stopped : (units : List CompilationUnit) (last : Member) (reference : AttributeValue)
-    → next_of last.die ≡ Some reference → chain_within zero units last ≡ Err OriginDepth
-unfolding chain_within
-stopped units last reference is = rw (is, chain_within) refl
 
 pub followed-none : {units : List CompilationUnit} {remaining : ℕ} {m : Member}
     {found : UnitEntry} {firsts : FirstNames} → IsMember units found.unit found.entry m
@@ -83,16 +68,16 @@ module _ {units : List CompilationUnit} {remaining : ℕ} {m : Member} {left : �
 
   pub followed-end : found.entry.next ≡ None
       → FindsFirst units (Ok firsts) (chain_within remaining units m)
-  followed-end is = (
-    so_far.before ++ so_far.last ∷ [],
-    grind (arith, so_far.rest, next-is, ended units left so_far.last),
-    so_far.stored,
-  )
+  unfolding chain_within
+  followed-end is =
+      let all : chain_within remaining units m ≡ Ok (so_far.before ++ so_far.last ∷ []) =
+      grind (arith, so_far.rest, next-is, chain_within) in
+      (so_far.before ++ so_far.last ∷ [], all, so_far.stored)
 
   module _ (reference : AttributeValue) (is : found.entry.next ≡ Some reference) where
     pub followed-deep : left ≡ 0 → chain_within remaining units m ≡ Err OriginDepth
-    followed-deep none =
-        grind (arith, so_far.rest, next-is, stopped units so_far.last reference)
+    unfolding chain_within
+    followed-deep none = grind (arith, so_far.rest, next-is, chain_within)
 
     module _ (to : Option UnitPlace) (finds : (u : CompilationUnit) → slice_get units found.unit
         ≡ Some u → Finds units to (target_of units u reference)) where

@@ -9,7 +9,7 @@ use Common.{UnitEntries, stored_of, DebugAbbrev, DebugInfo, slice_get_read, decl
 use Common.{declarations_limit, units_of, entries_of, table_is, with_bases, unit_of, all_entries}
 use Common.{each_from, IsReaderOf, EntryReader, AreUnitsOf, units_or_none, units_of_object, Inside}
 use Common.{all_bases, entries-rise}
-use Rattle.dwarf_entries.proofs.UnitPasses.HeaderLaws.{HasBounds, headers-in}
+use Rattle.dwarf_entries.proofs.UnitPasses.HeaderLaws.{HasBounds, headers-in, AreHeadersIn}
 use Rattle.dwarf_entries.proofs.UnitPasses.PassLaws.{each-at, from-map}
 
 -- ---- the headers and the entries of units, which their bases do not change
@@ -66,10 +66,19 @@ zip-at (x ∷ xs) [] i p h = cc
 zip-at (x ∷ xs) (y ∷ ys) zero p h = grind arith
 zip-at (x ∷ xs) (y ∷ ys) (suc i) p h = zip-at xs ys i p h
 
-module _ (s : Sections) (headers : List UnitHeader) (tables : List (List Declaration))
-    (us vs : List CompilationUnit) (headers_are : units_of s.debug_info ≡ Ok headers)
-    (tables_are : tables_of s.debug_abbrev headers ≡ Ok tables)
-    (us_are : all_entries s.debug_info headers tables ≡ Ok us) (vs_are : all_bases s us ≡ Ok vs)
+-- The units that the passes over headers, tables, entries and roots return.
+units-are-in : (s : Sections) (headers : List UnitHeader) (tables : List (List Declaration))
+    (us vs : List CompilationUnit) → AreHeadersIn (length s.debug_info) headers
+    → tables_of s.debug_abbrev headers ≡ Ok tables
+    → all_entries s.debug_info headers tables ≡ Ok us → all_bases s us ≡ Ok vs → AreUnitsIn s vs
+units-are-in s headers tables us vs headers_are tables_are us_are vs_are = record {
+  each_is = λ i v found. (unit-in i v found).1;
+  apart = λ i j u v first second lt.
+      let here = (unit-in i u first).0 in
+      let there = (unit-in j v second).0 in
+      let within = slice_get_within headers j v.header there in
+      grind (arith, headers_are.apart i j u.header lt within, get_or_from_slice_get);
+}
   where
     unit-in : (i : ℕ) (v : CompilationUnit) → slice_get vs i ≡ Some v
         → (slice_get headers i ≡ Some v.header) × IsUnitIn s v.header v.dies
@@ -80,9 +89,10 @@ module _ (s : Sections) (headers : List UnitHeader) (tables : List (List Declara
         let header : UnitHeader = from.0.0 in
         let at = zip-at headers tables i from.0 from.1 in
         let within = slice_get_within headers i header at.0 in
-        let bounds = (headers-in s.debug_info headers headers_are).bounded i header within in
+        let bounds = headers_are.bounded i header within in
         let here = get_or_from_slice_get headers i header header at.0 in
         let table = get_or_from_slice_get tables i from.0.1 [] at.1 in
+        let read = table_is s.debug_abbrev headers tables i header tables_are within in
         let same : (v.header ≡ header) × (entries_of s.debug_info header from.0.1 ≡ Ok v.dies) =
         grind (arith, with_bases-parts s of.0 v of.2, from.2) in
         rw same.0 (
@@ -90,27 +100,10 @@ module _ (s : Sections) (headers : List UnitHeader) (tables : List (List Declara
           record {
             bounds = rw here at bounds;
             table = from.0.1;
-            table_is = rw (here, table)
-                at (table_is s.debug_abbrev headers tables i header tables_are within);
+            table_is = rw (here, table) at read;
             dies_are = same.1;
           },
         )
-
-    units-are-in : AreUnitsIn s vs
-    units-are-in = record {
-      each_is = λ i v found. (unit-in i v found).1;
-      apart = λ i j u v first second lt.
-          let a = (unit-in i u first).0 in
-          let b = (unit-in j v second).0 in
-          let order = (headers-in s.debug_info headers headers_are).apart i j u.header lt
-          (slice_get_within headers j v.header b) in
-          grind (
-            arith,
-            order,
-            get_or_from_slice_get headers i u.header u.header a,
-            get_or_from_slice_get headers j v.header u.header b,
-          );
-    }
 
 pub units-in : (s : Sections) (us : List CompilationUnit) → units_read s ≡ Ok us → AreUnitsIn s us
 unfolding units_read
@@ -118,10 +111,9 @@ units-in s us h =
     let a = bind_ok (in_section DebugInfo (units_of s.debug_info)) _ us h in
     let b = bind_ok (in_section DebugAbbrev (tables_of s.debug_abbrev a.0)) _ us a.2 in
     let c = bind_ok (in_section DebugInfo (all_entries s.debug_info a.0 b.0)) _ us b.2 in
-    units-are-in s a.0 b.0 c.0 us (in_section-ok DebugInfo (units_of s.debug_info) a.0 a.1)
-    (in_section-ok DebugAbbrev (tables_of s.debug_abbrev a.0) b.0 b.1)
-    (in_section-ok DebugInfo (all_entries s.debug_info a.0 b.0) c.0 c.1)
-    (in_section-ok DebugInfo (all_bases s c.0) us c.2)
+    units-are-in s a.0 b.0 c.0 us (headers-in s.debug_info a.0 (in_section-ok DebugInfo _ a.0 a.1))
+    (in_section-ok DebugAbbrev _ b.0 b.1) (in_section-ok DebugInfo _ c.0 c.1)
+    (in_section-ok DebugInfo _ us c.2)
 
 pub object-units : (s : Sections) (object : ObjectUnits) → units_of_object s ≡ object
     → AreUnitsIn object.sections object.units
@@ -168,9 +160,8 @@ module _ (stored : List UnitEntries) (us : List CompilationUnit) (same : AreStor
   pub stored-there : (n : ℕ) (k : UnitEntries) (u : CompilationUnit) → slice_get us n ≡ Some u
       → k ≡ get_or stored n k → stored_of k ≡ stored_unit_of u
   stored-there n k u found is =
-      let within = slice_get_within us n u found in
-      let inside : n < length stored = omega (arith, stored-length, within) in
-      stored-index n k u (slice_get_read stored _ n k refl inside is) found
+      let here = stored-for n u found in
+      grind (arith, here, get_or_from_slice_get stored n here.0 k)
 
 -- ---- what the program stores for the units of an object
 

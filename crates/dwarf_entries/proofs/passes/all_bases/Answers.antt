@@ -1,6 +1,6 @@
 use Rattle.dwarf_entries.proofs
 use proofs.{sections_of, arith, ◌≡◌, [], ◌∷◌, ◌++◌, refl, ap, sym, ◌∙◌, map_push, in_section-ok}
-use proofs.{UnitEntries, Sections, StoredUnit, stored_of, CompilationUnit, stored_unit_of, bases_of}
+use proofs.{UnitEntries, Sections, StoredUnit, stored_of, CompilationUnit, stored_unit_of}
 use proofs.{DebugInfo, bases_in, bases_of_first, first-fault, pass-next, pass-fault, pass-none}
 use proofs.{exit, stored-item}
 use Rattle.dwarf_entries.proofs.passes.all_bases.Goals as goal
@@ -40,9 +40,5 @@ loop-unit-preserved c us same =
     record {
       made = so_far.made ++ v ∷ [];
       passed = pass-next so_far.passed u v here.is (rw found refl);
-      bases_are = rw (
-        c.in_ok-push.ensures.items,
-        so_far.bases_are,
-        map_push bases_of so_far.made v,
-      ) refl;
+      bases_are = grind (arith, c.in_ok-push.ensures.items, so_far.bases_are, map_push);
     }

@@ -3,11 +3,11 @@ use proofs.{bind_ok, ◌≡◌, ◌⊎◌, ℕ, ◌+◌, ◌<◌, List, [], ◌�
 use proofs.{arith, append-nil, inl, Some, Ok, Err, zip, slice_get, Result, map_push}
 use proofs.{slice_get-get_or, same_Some, slice_get_within, LoadFault, in_section, each-length}
 use proofs.{same-ok, Declaration, UnitHeader, tables_of, Die, in_section-ok, UnitEntries}
-use proofs.{EntryBitmap, AddsOffsets, offsets_of, stored_of, CompilationUnit, stored_unit_of}
-use proofs.{all_offsets, DebugAbbrev, DebugInfo, At, memory_fault, declarations_of}
-use proofs.{declarations_limit, entries_of, table_is, stored_unit, all_entries, table_for}
-use proofs.{stored_entries, flat_map-append, length-zip, get_or-zip, adds-none, adds-more, no_bases}
-use proofs.{Faults, pass-none, pass-next, pass-end, pass-fault, exit}
+use proofs.{EntryBitmap, AddsOffsets, offsets_of, stored_of, CompilationUnit, all_offsets}
+use proofs.{DebugAbbrev, DebugInfo, At, memory_fault, declarations_of, declarations_limit}
+use proofs.{entries_of, table_is, all_entries, table_for, stored_entries, flat_map-append}
+use proofs.{length-zip, get_or-zip, adds-none, adds-more, no_bases, Faults, pass-none, pass-next}
+use proofs.{pass-end, pass-fault, exit}
 use Rattle.dwarf_entries.proofs.passes.all_entries.Invariants.{EntriesSoFar}
 use Rattle.dwarf_entries.proofs.passes.all_entries.Goals as goal
 
@@ -57,12 +57,7 @@ module _ {info : List ℕ} {headers : List UnitHeader} {tables : List (List Decl
       record {
         made = made ++ u ∷ [];
         passed = pass-next so_far.passed (header, table) u there (grind (arith, found.1));
-        stored_are = rw (
-          map_push stored_of stored unit,
-          map_push stored_unit_of made u,
-          so_far.stored_are,
-          same-ok (stored_unit header found.0) (stored_of unit) found.2,
-        ) refl;
+        stored_are = grind (arith, map_push, so_far.stored_are, found.2);
         marked_so = rw (← offsets) (adds-more bitmap marked after (all_offsets made)
             (offsets_of found.0) so_far.marked_so (adds found.0 found.1));
       }
