@@ -1,14 +1,14 @@
 -- The entry at an offset of .debug_info is found by its bit, in the unit that contains the offset.
 use Rattle.dwarf_entries.proofs.Common
 use Common.{slice_get_past, ◌≡◌, ◌⊎◌, inl, inr, ℕ, zero, suc, ◌+◌, ◌<◌, ◌≤◌, List, [], ◌∷◌, length}
-use Common.{map, get_or, Bool, true, ◌==◌, refl, sym, ap, arith, Option, Some, None, Err, find}
+use Common.{map, get_or, Bool, true, ◌==◌, refl, ap, arith, Option, Some, None, Err, find}
 use Common.{slice_get, option_map, option_or, slice_get-get_or, slice_get_within, AttributeValue}
 use Common.{Die, RiseWithin, UnitEntries, StoredUnit, Sections, CompilationUnit, Member, target_of}
 use Common.{AreStored, member_in, Reference, ok_or, cases_lt, IsNonDecreasingBy, IsPartitionPoint}
-use Common.{members_of, IsWithin, member_at, eq-eqb, option_to_list, ne_eqb, find-append}
-use Common.{DW_FORM_REF_ADDR, get_or_from_slice_get}
+use Common.{members_of, IsWithin, eq-eqb, option_to_list, ne_eqb, find-append, DW_FORM_REF_ADDR}
+use Common.{get_or_from_slice_get}
 use Rattle.dwarf_entries.proofs.UnitPasses.PassLaws.{element}
-use Rattle.dwarf_entries.proofs.UnitPasses.UnitLaws.{stored-at, AreUnitsIn, dies-rise, stored-for}
+use Rattle.dwarf_entries.proofs.UnitPasses.UnitLaws.{AreUnitsIn, dies-rise, stored-at, stored-for}
 
 -- ---- the entry at an offset of a unit
 
@@ -71,20 +71,6 @@ only-in (u ∷ us) (suc n) offset none =
     grind (arith, find-units u us offset, none zero u refl (λ (e : zero ≡ suc n). cc))
 
 module _ {s : Sections} {us : List CompilationUnit} (are : AreUnitsIn s us) where
-  -- An entry of any unit is looked up in the first unit that ends after its offset.
-  first-past : (n offset : ℕ)
-      → ((i : ℕ) (u : CompilationUnit) → slice_get us i ≡ Some u → i < n → u.header.end ≤ offset)
-      → ((i : ℕ) (u : CompilationUnit) → slice_get us i ≡ Some u → n ≤ i → offset < u.header.end)
-      → find (is_at_offset offset) (members_of us)
-      ≡ find (is_at_offset offset) (members_of (option_to_list (slice_get us n)))
-  first-past n offset before from = only-in us n offset (λ i u found differs.
-      none-outside u.header.start u.header.end u.dies offset (dies-rise (are.each_is i u found))
-      (elim (cases_lt i n) [
-        | inl lt ↦ inr (before i u found lt)
-        | inr ge ↦ (let v = element us n (omega (arith, ge, slice_get_within us i u found)) in
-            inl (grind (arith, from n v.0 v.1, are.apart n i v.0 u v.1 found)))
-      ]))
-
   -- An entry at an offset within a unit is an entry of that unit.
   pub in-own : (n offset : ℕ) (u : CompilationUnit) → slice_get us n ≡ Some u
       → u.header.start ≤ offset → offset < u.header.end
@@ -114,15 +100,22 @@ module _ {s : Sections} {us : List CompilationUnit} (are : AreUnitsIn s us) wher
         → reference.number ≡ offset → member_in us n offset ≡ target_of us u reference
     anywhere n offset search_is u reference form number =
         let parts = search_is ends-rise in
-        let all : member_at (members_of us) offset ≡ member_in us n offset =
-        ap (λ (o : Option Member). ok_or o Reference) (first-past n offset
-        (λ i v found lt. let k = stored-for stored us same i v found in
-        grind (arith, parts.0 i k.0, k, slice_get_within, get_or_from_slice_get))
-        (λ i v found le. let k = stored-for stored us same i v found in
-        grind (arith, parts.1 i k.0, k, slice_get_within, get_or_from_slice_get))) in
+        let only = only-in us n offset (λ i v found differs.
+        let k = stored-for stored us same i v found in
+        let within = slice_get_within stored i k.0 k.1 in
+        let here = get_or_from_slice_get stored i k.0 k.0 k.1 in
+        none-outside v.header.start v.header.end v.dies offset (dies-rise (are.each_is i v found))
+        (elim (cases_lt i n) [
+          | inl lt ↦ inr (grind (arith, parts.0 i k.0, k.2))
+          | inr ge ↦ (let last = element stored n (omega (arith, ge, within)) in
+              let x = stored-at stored us same n last.0 last.1 in
+              let end = get_or_from_slice_get stored n last.0 last.0 last.1 in
+              let apart = are.apart n i x.unit v x.is found in
+              inl (grind (arith, parts.1 n last.0, x.stored)))
+        ])) in
         let is : (reference.form == DW_FORM_REF_ADDR) ≡ true =
         eq-eqb reference.form DW_FORM_REF_ADDR form in
-        sym (rw (is, number) all)
+        rw (is, number, only) refl
 
     pub outside : (n offset : ℕ) (k : UnitEntries) → slice_get stored n ≡ Some k
         → (offset < k.header.start) ⊎ (k.header.end ≤ offset)
@@ -130,11 +123,9 @@ module _ {s : Sections} {us : List CompilationUnit} (are : AreUnitsIn s us) wher
     outside n offset k found out =
         let at = stored-at stored us same n k found in
         let u = at.unit in
-        rw (
-          member-is us n offset u at.is,
-          none-outside u.header.start u.header.end u.dies offset (dies-rise (are.each_is n u at.is))
-              (rw (ap (λ (x : StoredUnit). x.header) at.stored) at out),
-        ) refl
+        let none = none-outside u.header.start u.header.end u.dies offset
+        (dies-rise (are.each_is n u at.is)) (rw (ap (λ (x : StoredUnit). x.header) at.stored) at out)
+        in rw (member-is us n offset u at.is, none) refl
 
     pub within-stored : (n offset : ℕ) (k : UnitEntries) → slice_get stored n ≡ Some k
         → k.header.start ≤ offset → offset < k.header.end

@@ -3,7 +3,8 @@ use Rattle.dwarf_entries.proofs.Common
 use Common.{◌≡◌, ◌↔◌, ℕ, ◌+◌, ◌-◌, ◌<◌, ◌≤◌, List, Bool, true, Some, take, drop, ap, ◌∙◌, arith}
 use Common.{nat_lt, count_by, slice_get, get_or_from_slice_get, slice_get_within, Die, below}
 use Common.{IsBelow, is_scope, prefix_len, count_by_more_yes, length-drop, sum_by-append}
-use Common.{prefix_len_passes, prefix_len_stops, prefix_len-le-length, get_or-drop, take-add}
+use Common.{prefix_len_passes, prefix_len_stops, prefix_len-le-length, get_or-drop, take-add, cond}
+use Common.{sum_by-take-le, take-take}
 
 module _ {X : Type 0} (p : X → Bool) (xs : List X) where
   -- The number of elements before an index that pass the test.
@@ -16,9 +17,7 @@ module _ {X : Type 0} (p : X → Bool) (xs : List X) where
 
   pub counted-rises : (a b : ℕ) → a ≤ b → counted a ≤ counted b
   counted-rises a b le =
-      let parts : a + (b - a) ≡ b = omega (arith, le) in
-      let sum = counted-add a (b - a) in
-      omega (arith, rw parts at sum)
+      rw (← take-take a b xs le) (sum_by-take-le (λ (x : X). cond (p x) 1 0) (take b xs) a)
 
   -- An element that passes is counted after its index, and not before.
   pub counted-one : (place : ℕ) (d : X) → slice_get xs place ≡ Some d → p d ≡ true

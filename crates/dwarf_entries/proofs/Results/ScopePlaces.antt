@@ -6,12 +6,12 @@ use Common.{Some, slice_get, is_some, count_by, slice_get_within, Die, below, Is
 use Common.{is_scope, Sections, CompilationUnit, ScopeSite, first_number, sum_by-take-le}
 use Common.{common_steps, length, get_or, refl, Ok, slice_get-get_or, Scope, Tree, tree_of}
 use Common.{AreNumbered, AreInOrder, take-take, recursion_from_All, AreNested}
-use Rattle.dwarf_entries.proofs.Results.BelowLaws.{counted-rises, scopes-between, ends-within}
-use Rattle.dwarf_entries.proofs.Results.BelowLaws.{ends-are, past_below}
 use Rattle.dwarf_entries.proofs.OriginChains.ReferenceLaws.{within-le}
-use Rattle.dwarf_entries.proofs.ScopePasses.SiteLaws.{IsSiteAt, first-next, first-all}
+use Rattle.dwarf_entries.proofs.Results.BelowLaws.{counted-rises, ends-are}
+use Rattle.dwarf_entries.proofs.Results.BelowLaws.{ends-within, past_below, scopes-between}
+use Rattle.dwarf_entries.proofs.Results.TreeParts.{scope-at, scopes-count, tree-parts}
+use Rattle.dwarf_entries.proofs.ScopePasses.SiteLaws.{IsSiteAt, first-all, first-next}
 use Rattle.dwarf_entries.proofs.UnitPasses.UnitLaws.{AreUnitsIn, dies-rise}
-use Rattle.dwarf_entries.proofs.Results.TreeParts.{tree-parts, scope-at, scopes-count}
 
 -- ---- the order of numbers
 

@@ -35,10 +35,6 @@ data_of scopes stored place k order same found =
 
 -- ---- the scope at an index
 
-start-next : (first : ℕ) (s : StoredScope) (ss : List StoredScope) (n : ℕ)
-    → ranges_start first (s ∷ ss) (suc n) ≡ ranges_start s.ranges_end ss n
-start-next first s ss n = grind (arith, common_steps)
-
 module _ (roots : List Root) (wide : List CallSite) (ranges : List Range) where
   pub scopes-at : (first : ℕ) (ss : List StoredScope) (n : ℕ)
       → slice_get (scopes_from roots wide ranges first ss) n
@@ -48,7 +44,7 @@ module _ (roots : List Root) (wide : List CallSite) (ranges : List Range) where
   scopes-at first [] n = refl
   scopes-at first (s ∷ ss) zero = refl
   scopes-at first (s ∷ ss) (suc n) =
-      let rest = scopes-at s.ranges_end ss n in rw (start-next first s ss n) rest
+      let rest = scopes-at s.ranges_end ss n in grind (arith, common_steps)
 
   pub scopes-length : (first : ℕ) (ss : List StoredScope)
       → length (scopes_from roots wide ranges first ss) ≡ length ss
@@ -94,12 +90,9 @@ scopes-push roots wide more ranges new first (t ∷ ts) s in_list ends =
     let size = length-drop first ranges in
     let rest = scopes-push roots wide more ranges new t.ranges_end ts s in_list.2 ends in
     let site = call-stays wide more t.calls t.call_file t.call_line in_list.1 in
-    grind (
-      arith,
-      in_list.0,
-      drop-append-le first ranges new,
-      take-append-le (t.ranges_end - first) (drop first ranges) new,
-    )
+    let front = drop-append-le first ranges new in
+    let part = take-append-le (t.ranges_end - first) (drop first ranges) new in
+    grind (arith, in_list.0)
 
 pub in_list-push : (many more first past new : ℕ) (ss : List StoredScope) (s : StoredScope)
     → AreConsecutive many first past ss → s.ranges_end ≡ past + new

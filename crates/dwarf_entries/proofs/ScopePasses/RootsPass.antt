@@ -6,9 +6,8 @@ use Common.{get_or_from_slice_get, UnitEntries, is_scope, Root, CompilationUnit,
 use Common.{stmt_list_of, number_of_scopes, first_number, find, take_more, sum_by-take-le, find_at}
 use Common.{IsNonDecreasingBy, IsPartitionPoint, ArePartsFrom, stmt_list_by_number}
 use Common.{position_or_len_is, lt-ltb, le-ltb, RootEntry, root_in, common_steps, ◌-◌}
-use Rattle.dwarf_entries.proofs.ScopePasses.SiteLaws.{sites-count, first-next, number-cons}
-use Rattle.dwarf_entries.proofs.UnitPasses.RereadLaws.{sites-stored}
-use Rattle.dwarf_entries.proofs.UnitPasses.UnitLaws.{StoredFor}
+use Rattle.dwarf_entries.proofs.ScopePasses.SiteLaws.{first-next, number-cons, sites-count}
+use Rattle.dwarf_entries.proofs.UnitPasses.{RereadLaws.sites-stored, UnitLaws.StoredFor}
 
 -- The root of a unit, if there is one.
 abbrev pub root_list : ℕ → ℕ → Option RootEntry → List Root

@@ -8,8 +8,8 @@ use Common.{stored_of, length-map, slice_get_within, get_or_from_slice_get, Scop
 use Common.{IsPlaceOf, named_entry, scope_entry, scope_places, scope_entry_at, used_at}
 use Common.{named_entry_at, ScopePlace, uleb-moves, Attribute, entry_at, stored_attributes}
 use Common.{entries-again, value-stored, names_at-stored, without_place, inside-is, get_or-map}
-use Rattle.dwarf_entries.proofs.UnitPasses.UnitLaws.{stored-index, IsUnitIn, AreUnitsIn}
 use Rattle.dwarf_entries.proofs.ScopePasses.SiteLaws.{site-in}
+use Rattle.dwarf_entries.proofs.UnitPasses.UnitLaws.{AreUnitsIn, IsUnitIn, stored-index}
 
 -- ---- the entries that were read before
 

@@ -9,7 +9,7 @@ use Common.{UnitEntries, stored_of, DebugAbbrev, DebugInfo, slice_get_read, decl
 use Common.{declarations_limit, units_of, entries_of, table_is, with_bases, unit_of, all_entries}
 use Common.{each_from, IsReaderOf, EntryReader, AreUnitsOf, units_or_none, units_of_object, Inside}
 use Common.{all_bases, entries-rise}
-use Rattle.dwarf_entries.proofs.UnitPasses.HeaderLaws.{HasBounds, headers-in, AreHeadersIn}
+use Rattle.dwarf_entries.proofs.UnitPasses.HeaderLaws.{AreHeadersIn, HasBounds, headers-in}
 use Rattle.dwarf_entries.proofs.UnitPasses.PassLaws.{each-at, from-map}
 
 -- ---- the headers and the entries of units, which their bases do not change

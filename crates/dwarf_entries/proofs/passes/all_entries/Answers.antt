@@ -29,13 +29,9 @@ pair-at section headers tables index d table all within table_read =
     (declarations_of declarations_limit section (get_or headers index d).abbreviations) table
     table_read) in
     let sizes = each-length (table_for section) [] headers tables all in
-    grind (
-      arith,
-      sizes,
-      length-zip headers tables,
-      slice_get-get_or (zip headers tables) index (d, []),
-      get_or-zip headers tables index (d, []),
-    )
+    let item = slice_get-get_or (zip headers tables) index (d, []) in
+    let parts = get_or-zip headers tables index (d, []) in
+    grind (arith, sizes, length-zip headers tables)
 
 module _ {info : List ℕ} {headers : List UnitHeader} {tables : List (List Declaration)}
     {bitmap marked : EntryBitmap} {index : ℕ} {stored : List UnitEntries} {header : UnitHeader}

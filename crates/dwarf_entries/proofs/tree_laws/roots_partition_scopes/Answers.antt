@@ -57,14 +57,8 @@ returns-clause-scopes c s tree root scope h root_in scope_in from until =
     let x = scope-at t.1 j.0 scope j.1 in
     let next = first-next us found.0 found.1 r.of_is in
     let later = before-later x.place found.0 in
-    let e : x.unit ≡ found.0 = grind (
-      arith,
-      first-rises us (found.0 + 1) x.unit,
-      x.number_is,
-      x.place.number_is,
-      r.first_is,
-      r.past_is,
-    ) in
+    let rises = first-rises us (found.0 + 1) x.unit in
+    let e : x.unit ≡ found.0 = grind (arith, x.number_is, x.place, r) in
     let same : x.site.member.unit ≡ found.1 = grind (arith, x.place.unit_is, r.of_is) in
     let last = before-later x.place (found.0 + 1) (omega (arith, e)) in
     let there = rw same at x.place.there in

@@ -8,14 +8,10 @@ roots-requires c =
     let us = c.in_ok-units.units.units in
     let lists = c.in_ok-lists.lists in
     let parsed = c.in_ok-lists.ensures.scopes in
-    rw c.in_ok-lists.ensures.same (omega (
-      arith,
-      all-sites-count us,
-      each-length (parse_scope c.in_ok-units.units.sections us) [] (all_sites us) parsed.0 parsed.1,
-      ap (λ (ss : List Scope). length ss) parsed.2,
-      length-map parsed.0 (λ (j : ParsedScope). j.scope),
-      scopes-length (roots_from 0 us) lists.wide.items lists.ranges.items 0 lists.scopes.items,
-      lists.scopes.ok.0,
-      lists.scopes.ok.1,
-      lists.scopes.small,
-    ))
+    let made = each-length (parse_scope c.in_ok-units.units.sections us) [] (all_sites us) parsed.0
+    parsed.1 in
+    let mapped = ap (λ (ss : List Scope). length ss) parsed.2 in
+    let size = length-map parsed.0 (λ (j : ParsedScope). j.scope) in
+    let stored = scopes-length (roots_from 0 us) lists.wide.items lists.ranges.items 0
+    lists.scopes.items in
+    rw c.in_ok-lists.ensures.same (omega (arith, all-sites-count us, made, mapped, size, stored))
