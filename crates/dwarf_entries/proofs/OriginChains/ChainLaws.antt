@@ -90,7 +90,6 @@ module _ {units : List CompilationUnit} {remaining : ℕ} {m : Member} {left : �
       pub followed-lost : (left ≡ 0 → ⊥) → to ≡ None
           → chain_within remaining units m ≡ Err Reference
       followed-lost some none =
-          let lost = (rw none at finds) so_far.last.unit so_far.at.unit_is in
           let step = stepped units (left - 1) so_far.last reference in
           grind (arith, so_far.rest, next-is)
 

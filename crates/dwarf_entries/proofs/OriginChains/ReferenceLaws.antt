@@ -90,7 +90,6 @@ module _ {s : Sections} {us : List CompilationUnit} (are : AreUnitsIn s us) wher
         (slice_get-get_or stored i d (omega (arith, le, lt))) in
         let b = stored-at stored us same j (get_or stored j d) (slice_get-get_or stored j d lt) in
         let bounds = (are.each_is j b.unit b.is).bounds in
-        let apart = are.apart i j a.unit b.unit a.is b.is in
         grind (arith, a.stored, b.stored, a.is, b.is, bounds.first, bounds.last)
 
     pub anywhere : (n offset : ℕ) → (IsNonDecreasingBy (λ (k : UnitEntries). k.header.end) stored
@@ -110,7 +109,6 @@ module _ {s : Sections} {us : List CompilationUnit} (are : AreUnitsIn s us) wher
           | inr ge ↦ (let last = element stored n (omega (arith, ge, within)) in
               let x = stored-at stored us same n last.0 last.1 in
               let end = get_or_from_slice_get stored n last.0 last.0 last.1 in
-              let apart = are.apart n i x.unit v x.is found in
               inl (grind (arith, parts.1 n last.0, x.stored)))
         ])) in
         let is : (reference.form == DW_FORM_REF_ADDR) ≡ true =

@@ -1,8 +1,8 @@
 -- The order of scope sites, of their entries, and of the scopes of an object: the number of each is
 -- its index, and a scope that starts inside another one also ends inside it.
 use Rattle.dwarf_entries.proofs.Common
-use Common.{◌≡◌, ◌⊎◌, ℕ, zero, suc, ◌+◌, ◌<◌, ◌≤◌, cond, List, [], ◌∷◌, take, drop, ap, arith, ◌↔◌}
-use Common.{Some, slice_get, is_some, count_by, slice_get_within, Die, below, IsBelow, RiseWithin}
+use Common.{◌≡◌, ◌⊎◌, ℕ, zero, suc, ◌+◌, ◌<◌, ◌≤◌, cond, List, [], ◌∷◌, take, ap, arith, ◌↔◌, Some}
+use Common.{slice_get, is_some, count_by, slice_get_within, Die, below, IsBelow, RiseWithin}
 use Common.{is_scope, Sections, CompilationUnit, ScopeSite, first_number, sum_by-take-le}
 use Common.{common_steps, length, get_or, refl, Ok, slice_get-get_or, Scope, Tree, tree_of}
 use Common.{AreNumbered, AreInOrder, take-take, recursion_from_All, AreNested}
@@ -64,14 +64,9 @@ site-within {i = i} {k} {p = p} are a =
 
 module _ {us : List CompilationUnit} {i j k l n m : ℕ} {p q : ScopeSite}
     (a : IsSiteAt us i k n p) (b : IsSiteAt us j l m q) where
-  -- A site of the same unit as another: its entry, its number, and the number of scopes below it.
-  pub in-unit-of : i ≡ j → let dies : List Die = p.member.unit.dies in
-      (slice_get dies l ≡ Some q.member.die)
-      × (m ≡ first_number us i + count_by is_scope (take l dies))
-      × (q.inside ≡ count_by is_scope (below q.member.die (drop (l + 1) dies)))
-  in-unit-of e =
-      let same : p.member.unit ≡ q.member.unit = grind (arith, a.unit_is, b.unit_is) in
-      rw (same, e) (b.there, b.number_is, b.inside_is)
+  -- A site of the same unit as another is at its index there.
+  there-too : i ≡ j → slice_get p.member.unit.dies l ≡ Some q.member.die
+  there-too e = grind (arith, a.unit_is, b.unit_is, b.there)
 
   -- A site is below another in the same unit if and only if its number is between the other's
   -- number and end.
@@ -81,12 +76,10 @@ module _ {us : List CompilationUnit} {i j k l n m : ℕ} {p q : ScopeSite}
       let past = before-later a j in
       let before = before-later b i in
       let between = λ (e : i ≡ j). scopes-between p.member.unit.dies k l p.member.die q.member.die
-      a.there (in-unit-of e).0 (ap is_some a.kind_is) (ap is_some b.kind_is) in
-      let inside = a.inside_is in (
-        λ below. let numbers = (between below.0).0 below.1 in
-            omega (arith, a.number_is, inside, (in-unit-of below.0).1, numbers.0, numbers.1),
+      a.there (there-too e) (ap is_some a.kind_is) (ap is_some b.kind_is) in (
+        λ below. let numbers = (between below.0).0 below.1 in grind (arith, a, b, below.0),
         λ numbers. let e : i ≡ j = grind (arith, a.number_is, b.number_is) in
-            (e, (between e).1 (grind (arith, a.number_is, inside, (in-unit-of e).1))),
+            (e, (between e).1 (grind (arith, a, b))),
       )
 
   -- A scope with a lower number is in an earlier unit, or earlier in the same unit.
@@ -138,10 +131,9 @@ sites-nest : {us : List CompilationUnit} {i j k l n m : ℕ} {p q : ScopeSite}
     → m + 1 + q.inside ≤ n + 1 + p.inside
 sites-nest {k = k} {l} {p = p} {q = q} a b lt within =
     let under = (sites-below a b).1 (lt, within) in
-    let there = in-unit-of a b under.0 in
-    let ends = ends-within p.member.unit.dies k l p.member.die q.member.die a.there there.0
-    (ap is_some a.kind_is) (ap is_some b.kind_is) under.1 in
-    omega (arith, ends, a.number_is, a.inside_is, there.1, there.2)
+    let ends = ends-within p.member.unit.dies k l p.member.die q.member.die a.there
+    (there-too a b under.0) (ap is_some a.kind_is) (ap is_some b.kind_is) under.1 in
+    grind (arith, a, b, under.0)
 
 pub scopes-in-order : (s : Sections) (tree : Tree) → tree_of s ≡ Ok tree → AreInOrder tree.scopes
 scopes-in-order s tree h =

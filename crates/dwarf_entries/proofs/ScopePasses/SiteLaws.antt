@@ -64,7 +64,6 @@ site-of u [] k die kind h is = cc
 site-of u (d ∷ rest) zero die kind h is = grind arith
 site-of u (d ∷ rest) (suc k) die kind h is =
     let later = site-of u rest k die kind h is in
-    let next : suc k + 1 ≡ suc (k + 1) = omega arith in
     let sum = sum_by-cons (λ x. cond (is_scope x) 1 0) d (take k rest) in
     grind arith
 
@@ -108,7 +107,6 @@ pub all-sites-at : (us : List CompilationUnit) (i m n : ℕ) (u : CompilationUni
     → n ≡ first_number us i + m → slice_get (all_sites us) n ≡ Some p
 all-sites-at [] i m n u p found here is = cc
 all-sites-at (v ∷ us) zero m n u p found here is =
-    let none : first_number (v ∷ us) zero ≡ 0 = refl in
     grind (arith, at-left (sites_in v v.dies) (all_sites us) n p)
 all-sites-at (v ∷ us) (suc i) m n u p found here is =
     let rest = all-sites-at us i m (first_number us i + m) u p found here refl in

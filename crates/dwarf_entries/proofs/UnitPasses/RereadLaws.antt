@@ -2,12 +2,12 @@
 -- data.
 use Rattle.dwarf_entries.proofs.Common
 use Common.{◌≡◌, ℕ, ◌≤◌, List, length, take, true, refl, ap, ◌∙◌, arith, [], ◌∷◌, get_or, map, Some}
-use Common.{Result, Ok, slice_get, Cause, UnitHeader, Die, ScopeKind, Sections, UnitPlace}
-use Common.{CompilationUnit, Member, UnitEntries, AreStored, stored_unit_of, kind_of, StoredUnit}
-use Common.{stored_of, length-map, slice_get_within, get_or_from_slice_get, ScopeSite, sites_in}
-use Common.{IsPlaceOf, named_entry, scope_entry, scope_places, scope_entry_at, used_at}
-use Common.{named_entry_at, ScopePlace, uleb-moves, Attribute, entry_at, stored_attributes}
-use Common.{entries-again, value-stored, names_at-stored, without_place, inside-is, get_or-map}
+use Common.{Result, Ok, slice_get, Cause, UnitHeader, Die, Sections, UnitPlace, CompilationUnit}
+use Common.{Member, UnitEntries, AreStored, stored_unit_of, StoredUnit, stored_of, length-map}
+use Common.{slice_get_within, get_or_from_slice_get, ScopeSite, sites_in, IsPlaceOf, named_entry}
+use Common.{scope_entry, scope_places, scope_entry_at, used_at, named_entry_at, ScopePlace}
+use Common.{uleb-moves, Attribute, entry_at, stored_attributes, entries-again, value-stored}
+use Common.{names_at-stored, without_place, inside-is, get_or-map}
 use Rattle.dwarf_entries.proofs.ScopePasses.SiteLaws.{site-in}
 use Rattle.dwarf_entries.proofs.UnitPasses.UnitLaws.{AreUnitsIn, IsUnitIn, stored-index}
 
@@ -17,29 +17,17 @@ use Rattle.dwarf_entries.proofs.UnitPasses.UnitLaws.{AreUnitsIn, IsUnitIn, store
 abbrev pub bytes_in : Sections → UnitHeader → List ℕ
 bytes_in s header = take header.end s.debug_info
 
-module _ (s : Sections) (header : UnitHeader) (dies : List Die) (k : ℕ) (die : Die)
-    (read : IsUnitIn s header dies) (there : slice_get dies k ≡ Some die) where
-  used-there : used_at header.format read.table (bytes_in s header) die.offset
-      ≡ Ok (die.tag, stored_attributes true die.attributes)
-  unfolding entry_at
-  used-there =
-      let again = entries-again s.debug_info header read.table dies read.dies_are k die there in
-      let within : die.offset ≤ length (bytes_in s header) =
-      grind (arith, again.1, uleb-moves (bytes_in s header) die.offset) in
-      inside-is header.format read.table (bytes_in s header) die.offset within
-      ∙ ap (λ (r : Result ((ℕ × List Attribute) × ℕ) Cause). without_place r) again.1
-
-  -- A scope of a unit can be re-read.
-  pub scope-there : (kind : ScopeKind) → kind_of die.tag ≡ Some kind
-      → scope_entry_at header.format read.table (bytes_in s header) die.offset
-      ≡ Ok (scope_entry die kind)
-  scope-there kind is =
-      grind (arith, used-there, names_at-stored die, value-stored die.attributes)
-
-  -- The names and the reference of an entry of a unit can be re-read.
-  pub names_at-there : named_entry_at header.format read.table (bytes_in s header) die.offset
-      ≡ Ok (named_entry die)
-  names_at-there = rw (used-there, names_at-stored die) refl
+used-there : (s : Sections) (header : UnitHeader) (dies : List Die) (k : ℕ) (die : Die)
+    (read : IsUnitIn s header dies) → slice_get dies k ≡ Some die
+    → used_at header.format read.table (bytes_in s header) die.offset
+    ≡ Ok (die.tag, stored_attributes true die.attributes)
+unfolding entry_at
+used-there s header dies k die read there =
+    let again = entries-again s.debug_info header read.table dies read.dies_are k die there in
+    let within : die.offset ≤ length (bytes_in s header) =
+    grind (arith, again.1, uleb-moves (bytes_in s header) die.offset) in
+    inside-is header.format read.table (bytes_in s header) die.offset within
+    ∙ ap (λ (r : Result ((ℕ × List Attribute) × ℕ) Cause). without_place r) again.1
 
 -- A unit has the header that is stored for it.
 pub stored-in : (s : Sections) (u : CompilationUnit) (k : UnitEntries)
@@ -57,11 +45,9 @@ pub reread : (s : Sections) (us : List CompilationUnit) (stored : List UnitEntri
 reread s us stored place m k are same found at =
     let read = stored-in s m.unit k
     (stored-index stored us same place.unit k m.unit found at.unit_is)
-    (are.each_is place.unit m.unit at.unit_is) in (
-      read,
-      rw (← at.offset_is)
-          (names_at-there s k.header m.unit.dies at.index m.die read at.there),
-    )
+    (are.each_is place.unit m.unit at.unit_is) in
+    let used = used-there s k.header m.unit.dies at.index m.die read at.there in
+    (read, rw (← at.offset_is, used, names_at-stored m.die) refl)
 
 abbrev place_in : ScopeSite → ScopePlace
 place_in p = record { offset = p.member.die.offset; inside = p.inside }
@@ -92,8 +78,7 @@ site-read s us n i u p k x are same is found here =
     let places = places-are u u.dies in
     let item = get_or-map place_in (sites_in u u.dies) i p x in
     let place : x ≡ place_in p = grind (arith, same, slice_get_within, get_or_from_slice_get) in
-    rw place (
-      refl,
-      read,
-      scope-there s k.header u.dies _ p.member.die read at.there p.kind at.kind_is,
-    )
+    let used = used-there s k.header u.dies _ p.member.die read at.there in
+    let values = value-stored p.member.die.attributes in
+    let names = names_at-stored p.member.die in
+    rw place (refl, read, grind (arith, used, values, names, at.kind_is))

@@ -1,16 +1,13 @@
 use Rattle.dwarf_entries.proofs
-use proofs.{sections_of, arith, ◌≡◌, [], ◌∷◌, ◌++◌, refl, ap, sym, ◌∙◌, map_push, in_section-ok}
-use proofs.{UnitEntries, Sections, StoredUnit, stored_of, CompilationUnit, stored_unit_of}
-use proofs.{DebugInfo, bases_in, bases_of_first, first-fault, pass-next, pass-fault, pass-none}
-use proofs.{exit, stored-item}
+use proofs.{sections_of, arith, ◌≡◌, [], ◌∷◌, ◌++◌, refl, sym, ◌∙◌, map_push, in_section-ok}
+use proofs.{UnitEntries, Sections, stored_of, CompilationUnit, stored_unit_of, DebugInfo, bases_in}
+use proofs.{bases_of_first, first-fault, pass-next, pass-fault, pass-none, exit, stored-item}
 use Rattle.dwarf_entries.proofs.passes.all_bases.Goals as goal
 
 bases-same : (s : Sections) (u : CompilationUnit) (unit : UnitEntries)
     → stored_of unit ≡ stored_unit_of u
     → bases_in s unit.header.format unit.root ≡ bases_of_first s u.header.format u.dies
 bases-same s u unit same =
-    let header = ap (λ (x : StoredUnit). x.header) same in
-    let root = ap (λ (x : StoredUnit). x.root) same in
     grind arith
 
 pub loop-unit-init : goal.loop-unit-init

@@ -1,31 +1,26 @@
 use Rattle.dwarf_entries.proofs
 use proofs.{◌≡◌, ℕ, suc, ◌+◌, ◌<◌, ◌≤◌, List, [], ◌∷◌, length, map, refl, arith, get_or, Some}
 use proofs.{slice_get, slice_get-get_or, Die, RiseWithin, Sections, CompilationUnit, Scope}
-use proofs.{roots_from, All-map, IsStrictlyIncreasing, within-le, sites-rise, site-within}
-use proofs.{tree-parts, scope-at, AreUnitsIn, dies-rise, units-after, from-map, count_by, flat_map}
-use proofs.{increasing, is_scope, rise-at, take, ◌++◌}
+use proofs.{roots_from, All-map, within-le, sites-rise, site-within, tree-parts, scope-at}
+use proofs.{AreUnitsIn, dies-rise, units-after, from-map, count_by, flat_map, increasing, is_scope}
+use proofs.{rise-at, take, ◌++◌}
 use Rattle.dwarf_entries.proofs.tree_laws.offsets_rise.Goals as goal
-
-increasing-by : {X : Type 0} (key : X → ℕ) (xs : List X) → ((i j : ℕ) (x y : X)
-    → slice_get xs i ≡ Some x → slice_get xs j ≡ Some y → i < j → key x < key y)
-    → IsStrictlyIncreasing (map key xs)
-increasing-by key xs rise k lt =
-    let keys : List ℕ = map key xs in
-    let a = from-map key xs k _ (slice_get-get_or keys k 0 (omega (arith, lt))) in
-    let b = from-map key xs (k + 1) _ (slice_get-get_or keys (k + 1) 0 lt) in
-    grind (arith, rise k (k + 1) a.0 b.0 a.1 b.1, a.2, b.2)
 
 -- ---- scopes
 
 pub returns-clause-scopes : goal.returns-clause-scopes
 returns-clause-scopes c s tree h =
     let t = (tree-parts s tree h).1 in
-    let at = scope-at t in (
-      increasing-by (λ (scope : Scope). scope.offset) tree.scopes (λ i j x y x_is y_is lt.
-          let first = at i x x_is in
-          let second = at j y y_is in
-          let less = sites-rise first.place second.place t.are lt in
-          omega (arith, less, first.offset_is, second.offset_is)),
+    let at = scope-at t in
+    let key : Scope → ℕ = λ scope. scope.offset in
+    let keys : List ℕ = map key tree.scopes in (
+      λ k lt.
+          let a = from-map key tree.scopes k _ (slice_get-get_or keys k 0 (omega (arith, lt))) in
+          let b = from-map key tree.scopes (k + 1) _ (slice_get-get_or keys (k + 1) 0 lt) in
+          let first = at k a.0 a.1 in
+          let second = at (k + 1) b.0 b.1 in
+          let less = sites-rise first.place second.place t.are (omega arith) in
+          grind (arith, a.2, b.2, first.offset_is, second.offset_is),
       All-map (λ (offset : ℕ). offset < length s.debug_info) (λ (scope : Scope). scope.offset)
           tree.scopes (λ k d lt.
           let one = at k (get_or tree.scopes k d) (slice_get-get_or tree.scopes k d lt) in
