@@ -108,13 +108,10 @@ numbered : (m total : ℕ) (ss : List Scope) → m + length ss ≡ total
     → (s.number ≡ m + i) × (s.number < s.«end») × (s.«end» ≤ total)) → AreNumbered m total ss
 numbered m total [] size at = omega (arith, size)
 numbered m total (s ∷ ss) size at =
-    let here = at 0 s refl in (
-      omega (arith, here.0),
-      omega (arith, here.0, here.1),
-      here.2,
-      numbered (suc m) total ss (omega (arith, size))
-          (λ i t found. grind (arith, at (suc i) t found)),
-    )
+    let here = at 0 s refl in
+    let rest = numbered (suc m) total ss (omega (arith, size))
+    (λ i t found. grind (arith, at (suc i) t found)) in
+    grind (arith, here)
 
 nested : (ss : List Scope) → ((i j : ℕ) (s t : Scope) → slice_get ss i ≡ Some s
     → slice_get ss j ≡ Some t → i < j → t.number < s.«end» → t.«end» ≤ s.«end») → AreNested ss

@@ -15,7 +15,7 @@ use Rattle.dwarf_entries.proofs.UnitPasses.PassLaws.{from-map}
 number-at : (first total i : ℕ) (ss : List Scope) (s : Scope) → AreNumbered first total ss
     → slice_get ss i ≡ Some s → s.number ≡ first + i
 number-at first total i [] s are found = cc
-number-at first total zero (t ∷ ss) s are found = let e = are.0 in grind arith
+number-at first total zero (t ∷ ss) s are found = grind (arith, are.0)
 number-at first total (suc i) (t ∷ ss) s are found =
     let e = number-at (suc first) total i ss s are.3 found in omega (arith, e)
 

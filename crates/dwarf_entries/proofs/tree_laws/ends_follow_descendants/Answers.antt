@@ -1,8 +1,7 @@
 use Rattle.dwarf_entries.proofs
-use proofs.{◌≡◌, ℕ, ◌+◌, List, take, drop, refl, ap, sym, ◌∙◌, arith, Contains, count_by, same_Some}
-use proofs.{is_scope, Sections, CompilationUnit, Scope, ScopeSite, first_number, IsEntry}
-use proofs.{sites-rise, sites-below, tree-with, scope-at, contained, IsSiteAt, site_at}
-use proofs.{site-of-entry, IsReadFrom, Tree}
+use proofs.{◌≡◌, ℕ, ◌+◌, List, take, drop, arith, Contains, count_by, is_scope, Sections}
+use proofs.{CompilationUnit, Scope, ScopeSite, first_number, IsEntry, sites-rise, sites-below}
+use proofs.{tree-with, scope-at, contained, IsSiteAt, site_at, site-of-entry, IsReadFrom, Tree}
 use Rattle.dwarf_entries.proofs.tree_laws.ends_follow_descendants.Goals as goal
 
 module _ {us : List CompilationUnit} {i k : ℕ} {scope : Scope} (at : IsEntry us i k scope) where
@@ -14,13 +13,7 @@ module _ {us : List CompilationUnit} {i k : ℕ} {scope : Scope} (at : IsEntry u
   entry_number = first_number us i + count_by is_scope (take k at.of.dies)
 
   site-of : IsSiteAt us i k entry_number entry_site
-  site-of = record {
-    unit_is = at.of_is;
-    there = at.die_is;
-    kind_is = at.kind_is;
-    number_is = refl;
-    inside_is = refl;
-  }
+  site-of = grind (arith, at.of_is, at.die_is, at.kind_is)
 
   -- The number and the end of the scope of the entry.
   numbers-are : {s : Sections} {tree : Tree} → IsReadFrom s us tree → Contains tree.scopes scope
@@ -31,13 +24,10 @@ module _ {us : List CompilationUnit} {i k : ℕ} {scope : Scope} (at : IsEntry u
       let before = sites-rise x.place site-of t.are in
       let after = sites-rise site-of x.place t.are in
       let e : j.0 ≡ entry_number = grind (arith, x.offset_is, at.offset_is) in
-      let same = same_Some x.site entry_site (sym x.there ∙ rw e
-      (site-of-entry us i k at.of at.die scope.kind at.of_is at.die_is at.kind_is)) in
-      let insides = ap (λ (p : ScopeSite). p.inside) same in
-      (omega (arith, x.number_is, e), omega (arith, x.end_is, e, insides))
+      let there = site-of-entry us i k at.of at.die scope.kind at.of_is at.die_is at.kind_is in
+      grind (arith, x.number_is, x.end_is, x.there)
 
 pub returns : goal.returns
-unfolding site-of
 returns c s tree us outer inner i j p q h us_are outer_in inner_in outer_at inner_at =
     let t = tree-with s us tree us_are h in
     let a = numbers-are outer_at t outer_in in

@@ -65,8 +65,4 @@ returns-clause-scopes c s tree root scope h root_in scope_in from until =
     let rise = rise-order found.1.header.start found.1.header.end found.1.dies 0 x.index found.2
     x.site.member.die (dies-rise (t.1.are.each_is found.0 found.1 r.of_is)) r.die_is
     there in
-    record {
-      stmt_list_is = rw (x.stmt_list_is, r.stmt_list_is, same) refl;
-      ends = omega (arith, x.end_is, last, next, r.first_is, r.past_is);
-      starts = grind (arith, x.offset_is, r.offset_is, r.die_is);
-    }
+    grind (arith, x.stmt_list_is, x.end_is, x.offset_is, r)
