@@ -9,6 +9,7 @@ pub use Rattle.dwarf_bytes.proofs.Numbers.Advance.{bind_ok, chosen, reading-ok}
 pub use Rattle.dwarf_bytes.proofs.Numbers.{LengthLaws.initial_length_at-moves, Moves.same-ok}
 pub use Rattle.dwarf_bytes.proofs.{Numbers.Moves.uleb-moves, Strings.SectionNames.before-all}
 pub use Rattle.dwarf_bytes.proofs.Strings.{SectionNames.string-after-end, StringLaws.text-encoded}
+pub use Rattle.dwarf_forms.proofs.Elements.{at-front}
 pub use Rattle.dwarf_forms.specs.{Declarations.Declaration, Tables.declarations_of}
 pub use Rattle.dwarf_ranges.proofs.ScopeBudget.{Fits, budget-left, covers-fits}
 pub use Rattle.dwarf_ranges.specs.Bases.{item_at, no_bases, optional}

@@ -35,7 +35,7 @@ pub fn scopes_are_in_order()
 
 /// If scopes are in order, the scope that the program stores at an index returns all data of the
 /// scope at that index.
-#[tactic(auto, using(crate::proofs::ScopePasses::DataLaws::data_of))]
+#[tactic(auto, using(crate::proofs::ScopePasses::DataLaws::stored_data))]
 pub fn scopes_have_their_data()
     ensures { (scopes : List Scope) (stored : List StoredScope) (place : ℕ) (k : StoredScope)
         → AreInOrder scopes → map own_of stored ≡ map own scopes → slice_get stored place ≡ Some k

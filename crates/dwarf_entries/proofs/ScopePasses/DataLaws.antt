@@ -19,11 +19,11 @@ number-at first total zero (t ∷ ss) s are found = grind (arith, are.0)
 number-at first total (suc i) (t ∷ ss) s are found =
     let e = number-at (suc first) total i ss s are.3 found in omega (arith, e)
 
-pub data_of : (scopes : List Scope) (stored : List StoredScope) (place : ℕ) (k : StoredScope)
+pub data-of : (scopes : List Scope) (stored : List StoredScope) (place : ℕ) (k : StoredScope)
     → AreInOrder scopes
     → map own_of stored ≡ map own scopes → slice_get stored place ≡ Some k
     → (s : Scope) × (slice_get scopes place ≡ Some s) × HasDataOf scopes k s
-data_of scopes stored place k order same found =
+data-of scopes stored place k order same found =
     let there = from-map own scopes place (own_of k)
     (rw (← same, slice_get-map own_of stored place, found) refl) in
     let s = there.0 in
@@ -32,6 +32,8 @@ data_of scopes stored place k order same found =
     ∙ (number-at 0 (length scopes) place scopes s order.numbered there.1 ∙ omega arith) in
     let at : slice_get scopes (own_of k).number ≡ Some s =
     ap (slice_get scopes) number ∙ there.1 in (s, there.1, grind (arith, own_is, at))
+
+pub ruleset stored_data = (data-of)
 
 -- ---- the scope at an index
 

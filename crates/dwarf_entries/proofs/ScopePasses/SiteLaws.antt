@@ -4,7 +4,7 @@ use Common.{◌≡◌, ℕ, zero, suc, ◌+◌, ◌-◌, ◌≤◌, inl, inr, co
 use Common.{drop, refl, ap, sym, ◌∙◌, arith, length-append, take_all, Some, count_by, slice_get}
 use Common.{sum_by-cons, slice_get_within, get_or_from_slice_get, Die, below, ScopeKind, kind_of}
 use Common.{is_scope, CompilationUnit, ScopeSite, sites_in, number_of_scopes, first_number}
-use Common.{all_sites, cases_lt, sum_by_more, add-one}
+use Common.{all_sites, cases_lt, sum_by_more, add-one, at-front}
 use Rattle.dwarf_entries.proofs.UnitPasses.PassLaws.{element}
 
 -- ---- the sites of a unit
@@ -90,12 +90,6 @@ first-next us i u found =
     sum_by_more (λ (v : CompilationUnit). count_by is_scope v.dies) us i u
     (slice_get_within us i u found) ∙ rw (get_or_from_slice_get us i u u found) refl
 
-at-left : {X : Type 0} (xs ys : List X) (n : ℕ) (x : X) → slice_get xs n ≡ Some x
-    → slice_get (xs ++ ys) n ≡ Some x
-at-left [] ys n x h = cc
-at-left (y ∷ xs) ys zero x h = h
-at-left (y ∷ xs) ys (suc n) x h = at-left xs ys n x h
-
 at-right : {X : Type 0} (xs ys : List X) (n m : ℕ) → n ≡ length xs + m
     → slice_get (xs ++ ys) n ≡ slice_get ys m
 at-right [] ys n m is = grind arith
@@ -107,7 +101,7 @@ pub all-sites-at : (us : List CompilationUnit) (i m n : ℕ) (u : CompilationUni
     → n ≡ first_number us i + m → slice_get (all_sites us) n ≡ Some p
 all-sites-at [] i m n u p found here is = cc
 all-sites-at (v ∷ us) zero m n u p found here is =
-    grind (arith, at-left (sites_in v v.dies) (all_sites us) n p)
+    grind (arith, at-front (sites_in v v.dies) (all_sites us) n p)
 all-sites-at (v ∷ us) (suc i) m n u p found here is =
     let rest = all-sites-at us i m (first_number us i + m) u p found here refl in
     let place = number-cons v (take i us) in
@@ -129,7 +123,7 @@ site-at (u ∷ us) n p h = elim (cases_lt n (length (sites_in u u.dies))) [
   | inl lt ↦ (
       let q = element (sites_in u u.dies) n lt in
       let is = site-in u u.dies n p (q.1
-      ∙ (sym (at-left (sites_in u u.dies) (all_sites us) n q.0 q.1) ∙ h)) in
+      ∙ (sym (at-front (sites_in u u.dies) (all_sites us) n q.0 q.1) ∙ h)) in
       let none : first_number (u ∷ us) zero ≡ 0 = refl in
       (zero, index_of u.dies n, grind (arith, is, none)))
   | inr ge ↦ (

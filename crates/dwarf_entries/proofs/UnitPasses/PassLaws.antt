@@ -90,10 +90,8 @@ module _ {X Y : Type 0} {make : List Y → X → Result Y At} {xs : List X} {ind
   pass-next x y found is =
       let more = take_more xs index x (slice_get_within xs index x found) in
       let here = get_or_from_slice_get xs index x x found in
-      record {
-        len = omega (arith, passed.len, length-append made (y ∷ []));
-        read = rw (more, here, then (x ∷ []), is) refl;
-      }
+      let joined = then (x ∷ []) in
+      grind (arith, passed.len, length-append made (y ∷ []))
 
   pub pass-end : length xs ≤ index → each make xs ≡ Ok made
   pass-end past = ap (each make) (sym (take_all index xs past)) ∙ passed.read

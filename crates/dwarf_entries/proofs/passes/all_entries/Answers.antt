@@ -2,12 +2,12 @@ use Rattle.dwarf_entries.proofs
 use proofs.{bind_ok, ◌≡◌, ◌⊎◌, ℕ, ◌+◌, ◌<◌, List, [], ◌∷◌, ◌++◌, length, get_or, refl, sym, ◌∙◌}
 use proofs.{arith, append-nil, inl, Some, Ok, Err, zip, slice_get, Result, map_push}
 use proofs.{slice_get-get_or, same_Some, slice_get_within, LoadFault, in_section, each-length}
-use proofs.{same-ok, Declaration, UnitHeader, tables_of, Die, in_section-ok, UnitEntries}
-use proofs.{EntryBitmap, AddsOffsets, offsets_of, stored_of, CompilationUnit, all_offsets}
-use proofs.{DebugAbbrev, DebugInfo, At, memory_fault, declarations_of, declarations_limit}
-use proofs.{entries_of, table_is, all_entries, table_for, stored_entries, flat_map-append}
-use proofs.{length-zip, get_or-zip, adds-none, adds-more, no_bases, Faults, pass-none, pass-next}
-use proofs.{pass-end, pass-fault, exit}
+use proofs.{Declaration, UnitHeader, tables_of, Die, in_section-ok, UnitEntries, EntryBitmap}
+use proofs.{AddsOffsets, offsets_of, stored_of, CompilationUnit, all_offsets, DebugAbbrev}
+use proofs.{DebugInfo, At, memory_fault, declarations_of, declarations_limit, entries_of, table_is}
+use proofs.{all_entries, table_for, stored_entries, flat_map-append, length-zip, get_or-zip}
+use proofs.{adds-none, adds-more, no_bases, Faults, pass-none, pass-next, pass-end, pass-fault}
+use proofs.{exit}
 use Rattle.dwarf_entries.proofs.passes.all_entries.Invariants.{EntriesSoFar}
 use Rattle.dwarf_entries.proofs.passes.all_entries.Goals as goal
 
@@ -24,10 +24,9 @@ pair-at : (section : List ℕ) (headers : List UnitHeader) (tables : List (List 
     → slice_get (zip headers tables) index ≡ Some (get_or headers index d, table)
 unfolding tables_of
 pair-at section headers tables index d table all within table_read =
-    let same : get_or tables index [] ≡ table = same-ok {E = At} (get_or tables index []) table
-    (sym (table_is section headers tables index d all within) ∙ in_section-ok DebugAbbrev
-    (declarations_of declarations_limit section (get_or headers index d).abbreviations) table
-    table_read) in
+    let same = table_is section headers tables index d all within in
+    let read = in_section-ok DebugAbbrev (declarations_of declarations_limit section
+    (get_or headers index d).abbreviations) table table_read in
     let sizes = each-length (table_for section) [] headers tables all in
     let item = slice_get-get_or (zip headers tables) index (d, []) in
     let parts = get_or-zip headers tables index (d, []) in

@@ -1,6 +1,6 @@
 use Rattle.dwarf_entries.proofs
-use proofs.{◌>>=◌, Cause, Bool, cond, Result, bind_ok, ◌≡◌, ℕ, ◌+◌, List, length, refl, arith}
-use proofs.{Option, Some, None, Ok, All, DW_AT_LINKAGE_NAME, DW_AT_NAME, same-ok, AttributeValue}
+use proofs.{◌>>=◌, Cause, Bool, cond, Result, bind_ok, ◌≡◌, ℕ, ◌+◌, List, length, arith, Option}
+use proofs.{Some, None, Ok, All, DW_AT_LINKAGE_NAME, DW_AT_NAME, same-ok, AttributeValue}
 use proofs.{EntryNames, Sections, CompilationUnit, Member, chain_within, names_of, Scope, Tree}
 use proofs.{tree_of, DebugInfo, first_on, name_on, references_limit, TextOffset, text_in, text_of}
 use proofs.{section_bytes, IsTextOf, reading-ok, text-encoded, IfSome, Section, StrOffsets, reading}
@@ -15,15 +15,16 @@ found-encoded : (bytes : List ℕ) (at : ℕ) (found : List ℕ) → text_at byt
 unfolding text_at cstr_at
 found-encoded bytes at found h = grind arith
 
-text_in-is_text : (s : Sections) (name : Section) (bytes : List ℕ) (at : ℕ) (found : TextOffset)
-    → section_bytes s name ≡ bytes → text_in name bytes at ≡ Ok found → IsTextOf s found
-text_in-is_text s name bytes at found bytes_are h =
+text_in-is_text : (s : Sections) (name : Section) (at : ℕ) (found : TextOffset)
+    → text_in name (section_bytes s name) at ≡ Ok found → IsTextOf s found
+text_in-is_text s name at found h =
+    let bytes : List ℕ = section_bytes s name in
     let content = bind_ok (reading (text_at bytes at)) _ found h in
     rw (← same-ok _ found content.2) (
       content.0,
       at + length content.0 + 1,
-      rw bytes_are (text-encoded bytes at content.0 _ (found-encoded bytes at content.0
-          (reading-ok (text_at bytes at) content.0 content.1))),
+      text-encoded bytes at content.0 _ (found-encoded bytes at content.0
+          (reading-ok (text_at bytes at) content.0 content.1)),
     )
 
 -- ---- the names of a scope
@@ -41,10 +42,8 @@ text_of-is_text s str_offsets value found h =
     of-text (IsTextOf s found) _ _ _ _ _ _
     (item_at StrOffsets s.debug_str_offsets str_offsets value.number)
     (text_in DebugStr s.debug_str) found h
-    (text_in-is_text s DebugInfo s.debug_info value.number found refl)
-    (text_in-is_text s DebugStr s.debug_str value.number found refl)
-    (text_in-is_text s DebugLineStr s.debug_line_str value.number found refl)
-    (λ at. text_in-is_text s DebugStr s.debug_str at found refl)
+    (text_in-is_text s DebugInfo value.number found) (text_in-is_text s DebugStr value.number found)
+    (text_in-is_text s DebugLineStr value.number found) (λ at. text_in-is_text s DebugStr at found)
 
 first-is_text : (s : Sections) (first : Option (CompilationUnit × AttributeValue))
     (found : Option TextOffset) → optional (λ at. text_of s at.0.bases.str_offsets at.1) first
