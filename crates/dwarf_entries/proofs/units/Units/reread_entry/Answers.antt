@@ -1,5 +1,5 @@
-use Rattle.dwarf_entries.proofs.{refl, sym, ◌∙◌, same-ok, named_entry, again-memory, seen}
-use Rattle.dwarf_entries.proofs.{seen-units, with-parts, found-at, exit, reread, object-units}
+use Rattle.dwarf_entries.proofs.{refl, named_entry, again-memory, seen, seen-units, with-parts}
+use Rattle.dwarf_entries.proofs.{found-at, exit, reread, object-units, arith}
 use Rattle.dwarf_entries.proofs.units.Units.reread_entry.Goals as goal
 
 pub invariant_of-self : goal.invariant_of-self
@@ -9,14 +9,12 @@ invariant_of-self c =
 
 pub returns-in_err-entry-clause-member : goal.returns-in_err-entry-clause-member
 returns-in_err-entry-clause-member c m at =
-    let object = c.args.self.now in
-    let r = reread object.sections object.units c.deref.result.now c.args.place m
-    c.in-Some.stored.now (object-units _ _ c.self.view_is)
+    let r = reread _ _ _ c.args.place m c.in-Some.stored.now (object-units _ _ c.self.view_is)
     (seen-units c.self.invariant c.self.view_is c.deref.ensures.value)
     (found-at _ _ c.args.place.unit _ refl c.in-Some.ensures.lookup.3) at in
     rw (exit _ c.from_residual.ensures.1)
     (again-memory c.in_err-entry.field-0.0 _ (named_entry m.die) r.1
-    (c.in_err-entry.ensures.names_at object.sections r.0.table
+    (c.in_err-entry.ensures.names_at _ r.0.table
     (seen c.self.invariant c.self.view_is).reader_is r.0.table_is))
 
 pub invariant_of-self-2 : goal.invariant_of-self-2
@@ -26,14 +24,9 @@ invariant_of-self-2 c =
 
 pub returns-clause-member : goal.returns-clause-member
 returns-clause-member c m at =
-    let object = c.args.self.now in
-    let r = reread object.sections object.units c.deref.result.now c.args.place m
-    c.in-Some.stored.now (object-units _ _ c.self.view_is)
+    let r = reread _ _ _ c.args.place m c.in-Some.stored.now (object-units _ _ c.self.view_is)
     (seen-units c.self.invariant c.self.view_is c.deref.ensures.value)
     (found-at _ _ c.args.place.unit _ refl c.in-Some.ensures.lookup.3) at in
-    record {
-      unit_is = at.unit_is;
-      entry_is = same-ok c.in_ok-entry.entry (named_entry m.die)
-          (sym (c.in_ok-entry.ensures.names_at object.sections r.0.table
-          (seen c.self.invariant c.self.view_is).reader_is r.0.table_is) ∙ r.1);
-    }
+    let again = c.in_ok-entry.ensures.names_at _ r.0.table
+    (seen c.self.invariant c.self.view_is).reader_is r.0.table_is in
+    grind (arith, at.unit_is, r.1, again)
