@@ -28,10 +28,8 @@ module _ {X : Type 0} (p : X → Bool) (xs : List X) where
   counted-before : (place : ℕ) (d : X) → slice_get xs place ≡ Some d → p d ≡ true → (end : ℕ)
       → (counted place < counted end) ↔ (place < end)
   counted-before place d is passes end =
-      let more = counted-one place d is passes in (
-        λ lt. grind (arith, counted-rises end place),
-        λ lt. grind (arith, counted-rises (place + 1) end),
-      )
+      let more = counted-one place d is passes in
+      grind (arith, counted-rises end place, counted-rises (place + 1) end)
 
 -- The index after the entries below an entry.
 abbrev pub past_below : List Die → ℕ → Die → ℕ

@@ -38,7 +38,7 @@ module _ {us : List CompilationUnit} {index : ℕ} {unit : UnitEntries}
   past-is =
       let next = first-next us index here.unit here.is in
       let fits = sum_by-take-le (λ (u : CompilationUnit). count_by is_scope u.dies) us (index + 1)
-      in (omega (arith, ends, first_is, next), omega (arith, ends, first_is, next, fits))
+      in grind (arith, ends, first_is)
 
   pub roots-next : (found : Option RootEntry) (roots : List Root) → unit.root ≡ found
       → roots ≡ roots_from 0 (take index us)

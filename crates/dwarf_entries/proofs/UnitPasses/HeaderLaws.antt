@@ -1,10 +1,10 @@
 -- The units of .debug_info are contiguous, and their headers have bounds.
 use Rattle.dwarf_entries.proofs.Common
-use Common.{◌≡◌, ℕ, ◌<◌, ◌≤◌, List, [], ◌∷◌, ◌++◌, length, arith, Ok, All, All-nil, All-cons}
-use Common.{All-weaker, Format, bind_ok, same-ok, UnitHeader, length-take, AllPairs, AllPairs-cons}
-use Common.{Lists, units_of, AllPairs-filter, filter, All-filter, items_from, is_read, header_in}
-use Common.{unit_at, header_at, headers_of, initial_length_at-moves, Lists-within, fixed-stays}
-use Common.{offset-stays, header_in-places, unit_at-moves, AreContiguous}
+use Common.{◌≡◌, ℕ, ◌≤◌, List, [], ◌∷◌, ◌++◌, length, arith, Ok, All, Format, bind_ok, same-ok}
+use Common.{UnitHeader, length-take, AllPairs, Lists, units_of, AllPairs-filter, filter, All-filter}
+use Common.{items_from, is_read, header_in, unit_at, header_at, headers_of, initial_length_at-moves}
+use Common.{Lists-within, fixed-stays, offset-stays, header_in-places, unit_at-moves, AreContiguous}
+use Common.{common_steps, ◌-◌}
 
 -- ---- the bounds of a unit
 
@@ -55,32 +55,31 @@ pub record AreHeadersIn (size : ℕ) (headers : List UnitHeader) : Type 0 where
   pub apart : AllPairs IsBefore headers
   pub bounded : All (HasBounds size) headers
 
-contiguous-headers : (info : List ℕ) (at : ℕ) (headers : List UnitHeader)
-    → AreContiguous info at headers
-    → All (λ header. at ≤ header.start) headers × AreHeadersIn (length info) headers
-contiguous-headers info at [] h =
-    (All-nil _, record { apart = λ i j d lt within. grind arith; bounded = All-nil _ })
-contiguous-headers info at (header ∷ headers) h =
-    let start : header.start ≡ at = h.1 in
-    let moves : at < header.end = h.2 in
-    let rest = contiguous-headers info header.end headers h.3 in (
-      All-cons (λ (g : UnitHeader). at ≤ g.start) header headers (omega (arith, start))
-          (All-weaker (λ (g : UnitHeader). header.end ≤ g.start) (λ (g : UnitHeader). at ≤ g.start)
-          (λ g after. omega (arith, after, moves)) headers rest.0),
-      record {
-        apart = AllPairs-cons IsBefore header headers rest.0 rest.1.apart;
-        bounded = All-cons (HasBounds (length info)) header headers
-            (unit_at-bounds info at header h.0).1 rest.1.bounded;
-      },
-    )
+-- The start and the bounds of a header of contiguous units.
+headers-at : (info : List ℕ) (at : ℕ) (headers : List UnitHeader) → AreContiguous info at headers
+    → All (λ header. (at ≤ header.start) × HasBounds (length info) header) headers
+headers-at info at [] h k d lt = absurd (omega (arith, lt))
+headers-at info at (header ∷ headers) h k d lt =
+    let here = unit_at-bounds info at header h.0 in
+    let later = headers-at info header.end headers h.3 (k - 1) d in
+    grind (arith, common_steps, h.1, h.2)
+
+headers-apart : (info : List ℕ) (at : ℕ) (headers : List UnitHeader)
+    → AreContiguous info at headers → AllPairs IsBefore headers
+headers-apart info at [] h i j d less lt = absurd (omega (arith, lt))
+headers-apart info at (header ∷ headers) h i j d less lt =
+    let later = headers-apart info header.end headers h.3 (i - 1) (j - 1) d in
+    let after = headers-at info header.end headers h.3 (j - 1) d in
+    grind (arith, common_steps)
 
 pub headers-in : (info : List ℕ) (headers : List UnitHeader) → units_of info ≡ Ok headers
     → AreHeadersIn (length info) headers
 unfolding units_of
 headers-in info headers h =
     let all = bind_ok (headers_of info) _ headers h in
-    let order = (contiguous-headers info 0 all.0 (units_contiguous info all.0 all.1)).1 in
+    let contiguous = units_contiguous info all.0 all.1 in
     rw (← same-ok (filter is_read all.0) headers all.2) (record {
-      apart = AllPairs-filter IsBefore is_read all.0 order.apart;
-      bounded = All-filter is_read (HasBounds (length info)) all.0 order.bounded;
+      apart = AllPairs-filter IsBefore is_read all.0 (headers-apart info 0 all.0 contiguous);
+      bounded = All-filter is_read (HasBounds (length info)) all.0
+          (λ k d lt. (headers-at info 0 all.0 contiguous k d lt).1);
     })

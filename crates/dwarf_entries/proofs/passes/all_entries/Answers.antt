@@ -85,8 +85,7 @@ table-table-requires c = slice_get_within c.number_of.new.self.tables c.in_ok-nu
 pub returns-in_err-unit-clause-units : goal.returns-in_err-unit-clause-units
 returns-in_err-unit-clause-units c tables all =
     let found = rw c.loop-header.invariant.section at c.in_ok-number.ensures.ok in
-    let same : c.table-table.result ≡ found.0 =
-    same_Some c.table-table.result found.0 (sym c.table-table.ensures ∙ found.1) in
+    let same = same_Some c.table-table.result found.0 (sym c.table-table.ensures ∙ found.1) in
     rw (exit _ c.from_residual-in_err-unit.ensures.1)
     (entries-fault (c.loop-header.invariant.so_far tables all)
     (pair-at _ _ tables _ _ _ all c.loop-header-test.true found.2)
@@ -95,8 +94,7 @@ returns-in_err-unit-clause-units c tables all =
 pub loop-header-preserved : goal.loop-header-preserved
 loop-header-preserved c =
     let found = rw c.loop-header.invariant.section at c.in_ok-number.ensures.ok in
-    let same : c.table-table.result ≡ found.0 =
-    same_Some c.table-table.result found.0 (sym c.table-table.ensures ∙ found.1) in
+    let same = same_Some c.table-table.result found.0 (sym c.table-table.ensures ∙ found.1) in
     record {
       so_far = λ tables all. rw c.in_ok-push.ensures.items (entries-next
           (c.loop-header.invariant.so_far tables all)
