@@ -1,7 +1,7 @@
 -- The order of scope sites, of their entries, and of the scopes of an object: the number of each is
 -- its index, and a scope that starts inside another one also ends inside it.
 use Rattle.dwarf_entries.proofs.Common
-use Common.{◌≡◌, ◌⊎◌, ℕ, zero, suc, ◌+◌, ◌<◌, ◌≤◌, cond, List, [], ◌∷◌, take, ap, arith, ◌↔◌, Some}
+use Common.{◌≡◌, ℕ, zero, suc, ◌+◌, ◌<◌, ◌≤◌, cond, List, [], ◌∷◌, take, ap, arith, ◌↔◌, Some}
 use Common.{slice_get, is_some, count_by, slice_get_within, Die, below, IsBelow, RiseWithin}
 use Common.{is_scope, Sections, CompilationUnit, ScopeSite, first_number, sum_by-take-le}
 use Common.{common_steps, length, get_or, refl, Ok, slice_get-get_or, Scope, Tree, tree_of}
@@ -82,24 +82,18 @@ module _ {us : List CompilationUnit} {i j k l n m : ℕ} {p q : ScopeSite}
             (e, (between e).1 (grind (arith, a, b))),
       )
 
-  -- A scope with a lower number is in an earlier unit, or earlier in the same unit.
-  pub site-order : n < m → (i < j) ⊎ ((p.member.unit ≡ q.member.unit) × (k < l))
-  site-order less =
-      let counts = counted-rises is_scope p.member.unit.dies l k in
-      let past = before-later b i in
-      grind (arith, a.unit_is, b.unit_is, a.number_is, b.number_is)
-
   -- The offsets of sites are strictly increasing.
   pub sites-rise : {s : Sections} → AreUnitsIn s us → n < m
       → p.member.die.offset < q.member.die.offset
   sites-rise are less =
       let rise = rise-order q.member.unit.header.start q.member.unit.header.end q.member.unit.dies
       k l p.member.die q.member.die (dies-rise (are.each_is j q.member.unit b.unit_is)) in
-      let order = site-order less in
+      let counts = counted-rises is_scope p.member.unit.dies l k in
+      let past = before-later b i in
       let first = site-within are a in
       let second = site-within are b in
       let apart = are.apart i j p.member.unit q.member.unit a.unit_is b.unit_is in
-      grind (arith, a.there, b.there)
+      grind (arith, a, b)
 
 -- ---- the order of scopes
 

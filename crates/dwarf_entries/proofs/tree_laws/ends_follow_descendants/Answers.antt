@@ -32,7 +32,5 @@ returns c s tree us outer inner i j p q h us_are outer_in inner_in outer_at inne
     let t = tree-with s us tree us_are h in
     let a = numbers-are outer_at t outer_in in
     let b = numbers-are inner_at t inner_in in
-    let below = sites-below (site-of outer_at) (site-of inner_at) in (
-      λ under. grind (arith, below.0 under, a, b),
-      λ numbers. below.1 (grind (arith, numbers, a, b)),
-    )
+    let below = sites-below (site-of outer_at) (site-of inner_at) in
+    grind (arith, below, a, b)
