@@ -1,9 +1,9 @@
 -- The entry at an offset of .debug_info is found by its bit, in the unit that contains the offset.
 use Rattle.dwarf_entries.proofs.Common
 use Common.{slice_get_past, ◌≡◌, ◌⊎◌, inl, inr, ℕ, zero, suc, ◌+◌, ◌<◌, ◌≤◌, List, [], ◌∷◌, length}
-use Common.{map, get_or, Bool, true, ◌==◌, refl, ap, arith, Option, Some, None, Err, find}
-use Common.{slice_get, option_map, option_or, slice_get-get_or, slice_get_within, AttributeValue}
-use Common.{Die, RiseWithin, UnitEntries, StoredUnit, Sections, CompilationUnit, Member, target_of}
+use Common.{map, get_or, Bool, ◌==◌, refl, ap, arith, Option, Some, None, Err, find, slice_get}
+use Common.{option_map, option_or, slice_get-get_or, slice_get_within, AttributeValue, Die}
+use Common.{RiseWithin, UnitEntries, StoredUnit, Sections, CompilationUnit, Member, target_of}
 use Common.{AreStored, member_in, Reference, ok_or, cases_lt, IsNonDecreasingBy, IsPartitionPoint}
 use Common.{members_of, IsWithin, eq-eqb, option_to_list, ne_eqb, find-append, DW_FORM_REF_ADDR}
 use Common.{get_or_from_slice_get}
@@ -111,8 +111,7 @@ module _ {s : Sections} {us : List CompilationUnit} (are : AreUnitsIn s us) wher
               let end = get_or_from_slice_get stored n last.0 last.0 last.1 in
               inl (grind (arith, parts.1 n last.0, x.stored)))
         ])) in
-        let is : (reference.form == DW_FORM_REF_ADDR) ≡ true =
-        eq-eqb reference.form DW_FORM_REF_ADDR form in
+        let is = eq-eqb reference.form DW_FORM_REF_ADDR form in
         rw (is, number, only) refl
 
     pub outside : (n offset : ℕ) (k : UnitEntries) → slice_get stored n ≡ Some k

@@ -88,11 +88,10 @@ scopes-between dies i j outer inner outer_is inner_is outer_scope inner_scope =
     let first = counted-before is_scope dies i outer outer_is outer_scope j in
     let last = counted-before is_scope dies j inner inner_is inner_scope
     (past_below dies i outer) in
-    let end = ends-are dies i outer outer_is outer_scope in (
-      λ h. let places = from-below dies i j outer outer_is h in
-          (first.1 places.0, rw end (last.1 places.1)),
-      λ h. to-below dies i j outer outer_is (first.0 h.0) (last.0 (rw end at h.1)),
-    )
+    let end = ends-are dies i outer outer_is outer_scope in
+    let from = from-below dies i j outer outer_is in
+    let to = to-below dies i j outer outer_is in
+    grind (arith, first, last, end)
 
 -- ---- the end of a scope below another
 

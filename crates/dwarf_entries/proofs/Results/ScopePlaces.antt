@@ -136,11 +136,8 @@ scopes-in-order s tree h =
           let x = at i scope found in
           let last = before-later x.place (length us)
           (slice_get_within us x.unit x.site.member.unit x.place.unit_is) in
-          let all = first-all us (length us) (omega arith) in (
-            omega (arith, x.number_is),
-            omega (arith, x.number_is, x.end_is),
-            omega (arith, x.end_is, last, all, scopes-count t.1),
-          ));
+          let all = first-all us (length us) (omega arith) in
+          grind (arith, x.number_is, x.end_is, scopes-count t.1));
       nested = nested tree.scopes (λ i j outer inner outer_is inner_is lt inside.
           let x = at i outer outer_is in
           let y = at j inner inner_is in

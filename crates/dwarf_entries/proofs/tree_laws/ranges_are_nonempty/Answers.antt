@@ -24,7 +24,7 @@ module _ {s : Sections} {us : List CompilationUnit} {tree : Tree} (t : IsReadFro
       let ranges = sum_by_more (λ (j : ParsedScope). length j.scope.ranges) t.parsed n j.0 within in
       let items = sum_by_more (λ (j : ParsedScope). j.items) t.parsed n j.0 within in
       let is = at.parsed_is in
-      rw one (grind (arith, at.fits.counted), grind (arith, at.fits.within))
+      rw one (grind (arith, at.fits))
 
 pub returns-clause-ranges : goal.returns-clause-ranges
 returns-clause-ranges c s tree h k d lt =
