@@ -1,8 +1,8 @@
 -- The data of scopes: in a scope itself, through the list of scopes, and in the lists that the
 -- scopes of a result share, to which one more scope is appended.
 use Rattle.dwarf_entries.proofs.Common
-use Common.{Global, Vec, ◌≡◌, ℕ, zero, suc, ◌-◌, List, [], ◌∷◌, length, take, drop, refl, ap, sym}
-use Common.{◌∙◌, arith, ◌+◌, ◌≤◌, ◌++◌, length-append, slice_get, option_map, Range, Root, take_all}
+use Common.{Global, Vec, ◌≡◌, ℕ, zero, suc, ◌-◌, List, [], ◌∷◌, length, take, drop, refl, ap, ◌∙◌}
+use Common.{arith, ◌+◌, ◌≤◌, ◌++◌, length-append, slice_get, option_map, Range, Root, take_all}
 use Common.{CallSite, scopes_from, facts_of, IsPushed, ScopeFacts, ScopeLists, common_steps}
 use Common.{length-drop, scope_of, call_site, scopes_of, wide_index, ranges_start, IsInList}
 use Common.{AreConsecutive, Calls, take-append-le, drop-append-le, get_or_append_left}
@@ -27,11 +27,8 @@ data-of scopes stored place k order same found =
     let there = from-map own scopes place (own_of k)
     (rw (← same, slice_get-map own_of stored place, found) refl) in
     let s = there.0 in
-    let own_is = sym there.2 in
-    let number : (own_of k).number ≡ place = ap (λ (o : Own). o.number) own_is
-    ∙ (number-at 0 (length scopes) place scopes s order.numbered there.1 ∙ omega arith) in
-    let at : slice_get scopes (own_of k).number ≡ Some s =
-    ap (slice_get scopes) number ∙ there.1 in (s, there.1, grind (arith, own_is, at))
+    let number = number-at 0 (length scopes) place scopes s order.numbered there.1 in
+    (s, there.1, grind (arith, there.1, there.2))
 
 pub ruleset stored_data = (data-of)
 

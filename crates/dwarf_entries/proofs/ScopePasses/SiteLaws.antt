@@ -122,8 +122,8 @@ site-at [] n p h = cc
 site-at (u ∷ us) n p h = elim (cases_lt n (length (sites_in u u.dies))) [
   | inl lt ↦ (
       let q = element (sites_in u u.dies) n lt in
-      let is = site-in u u.dies n p (q.1
-      ∙ (sym (at-front (sites_in u u.dies) (all_sites us) n q.0 q.1) ∙ h)) in
+      let front = at-front (sites_in u u.dies) (all_sites us) n q.0 q.1 in
+      let is = site-in u u.dies n q.0 q.1 in
       let none : first_number (u ∷ us) zero ≡ 0 = refl in
       (zero, index_of u.dies n, grind (arith, is, none)))
   | inr ge ↦ (
