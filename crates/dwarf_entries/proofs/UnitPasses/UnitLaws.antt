@@ -141,16 +141,16 @@ module _ (stored : List UnitEntries) (us : List CompilationUnit) (same : AreStor
       (rw (← same, slice_get-map stored_of stored n, found) refl) in
       record { unit = x.0; is = x.1; stored = sym x.2 }
 
+  -- The same for an element as a loop reads it.
+  pub stored-item : (n : ℕ) (k : UnitEntries) → n < length stored → k ≡ get_or stored n k
+      → StoredFor us n k
+  stored-item n k within is = stored-at n k (slice_get_read stored _ n k refl within is)
+
   -- The data that is stored for a unit.
   pub stored-for : (n : ℕ) (u : CompilationUnit) → slice_get us n ≡ Some u
       → (k : UnitEntries) × (slice_get stored n ≡ Some k) × (stored_of k ≡ stored_unit_of u)
   stored-for n u found = from-map stored_of stored n (stored_unit_of u)
       (rw (same, slice_get-map stored_unit_of us n, found) refl)
-
-  -- The same for an element as a loop reads it.
-  pub stored-item : (n : ℕ) (k : UnitEntries) → n < length stored → k ≡ get_or stored n k
-      → StoredFor us n k
-  stored-item n k within is = stored-at n k (slice_get_read stored _ n k refl within is)
 
   pub stored-index : (n : ℕ) (k : UnitEntries) (u : CompilationUnit) → slice_get stored n ≡ Some k
       → slice_get us n ≡ Some u → stored_of k ≡ stored_unit_of u

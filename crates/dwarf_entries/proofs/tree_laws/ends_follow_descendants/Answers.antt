@@ -23,7 +23,6 @@ module _ {us : List CompilationUnit} {i k : ℕ} {scope : Scope} (at : IsEntry u
       let x = scope-at t j.0 scope j.1 in
       let before = sites-rise x.place site-of t.are in
       let after = sites-rise site-of x.place t.are in
-      let e : j.0 ≡ entry_number = grind (arith, x.offset_is, at.offset_is) in
       let there = site-of-entry us i k at.of at.die scope.kind at.of_is at.die_is at.kind_is in
       grind (arith, x.number_is, x.end_is, x.there)
 
