@@ -120,9 +120,10 @@ module _ {s : Sections} {us : List CompilationUnit} (are : AreUnitsIn s us) wher
     outside n offset k found out =
         let at = stored-at stored us same n k found in
         let u = at.unit in
+        let header = ap (λ (x : StoredUnit). x.header) at.stored in
         let none = none-outside u.header.start u.header.end u.dies offset
-        (dies-rise (are.each_is n u at.is)) (rw (ap (λ (x : StoredUnit). x.header) at.stored) at out)
-        in rw (member-is us n offset u at.is, none) refl
+        (dies-rise (are.each_is n u at.is)) (rw header at out) in
+        rw (member-is us n offset u at.is, none) refl
 
     pub within-stored : (n offset : ℕ) (k : UnitEntries) → slice_get stored n ≡ Some k
         → k.header.start ≤ offset → offset < k.header.end

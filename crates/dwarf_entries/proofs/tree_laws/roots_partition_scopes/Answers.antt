@@ -24,7 +24,8 @@ roots-of : (number : ℕ) (us : List CompilationUnit) → All (HasUnit us number
 roots-of number [] = All-nil (HasUnit [] number)
 roots-of number (u ∷ us) =
     by_dies u.dies refl (All-weaker (HasUnit us past) (HasUnit (u ∷ us) number) (λ root at.
-    (suc at.0, at.1, at.2, grind (arith, at.3, number-cons u (take at.0 us)))) (roots_from past us) (roots-of past us))
+    (suc at.0, at.1, at.2, grind (arith, at.3, number-cons u (take at.0 us))))
+    (roots_from past us) (roots-of past us))
   where
     past : ℕ
     past = number + count_by is_scope u.dies
