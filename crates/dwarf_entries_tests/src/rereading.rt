@@ -8,16 +8,25 @@ use dwarf_units::{
 use std::process::Abort;
 use std::test::*;
 
-/// Validates the abbreviation table of a unit. Also returns its index.
-fn tables_of<'a>(
+/// A used attribute, and its form and number if the entry has it.
+type Value = (UsedName, Option<(u64, u64)>);
+
+/// Reads the subprogram of a unit, which is at offset 13, with attributes of these names and
+/// forms. Checks some values, the end of the entry, and whether its size is fixed.
+fn is_read(
     rt: &(impl Abort + AllocGlobal),
-    info: &[u8],
-    table: &'a [u8],
-) -> (Tables<'a>, usize) {
-    let Ok(headers) = units(rt.alloc(), info) else {
+    forms: &[u8],
+    bytes: &[u8],
+    values: &[Value],
+    end: usize,
+    fixed: bool,
+) {
+    let table = declarations(rt, (&[], &[]), (forms, &[]));
+    let info = one_scope(rt, (&[], &[]), (&[], bytes));
+    let Ok(headers) = units(rt.alloc(), &info) else {
         panic!(rt; "the unit is refused");
     };
-    let Ok(mut tables) = Tables::validate(rt.alloc(), table, &headers) else {
+    let Ok(mut tables) = Tables::validate(rt.alloc(), &table, &headers) else {
         panic!(rt; "the table is refused");
     };
     let Some(header) = headers.first() else {
@@ -26,36 +35,17 @@ fn tables_of<'a>(
     let Ok(number) = tables.number_of(rt.alloc(), header, 0) else {
         panic!(rt; "no table");
     };
-    (tables, number)
-}
-
-/// Reads the subprogram of a unit, which is at offset 13, with attributes of these names and
-/// forms. Checks the values of its name and its high_pc, the absence of low_pc, and the end of the
-/// entry. Checks that the null entry after it is refused.
-fn is_read(
-    rt: &(impl Abort + AllocGlobal),
-    forms: &[u8],
-    values: &[u8],
-    name: u64,
-    high_pc: u64,
-    end: usize,
-) {
-    let table = declarations(rt, (&[], &[]), (forms, &[]));
-    let info = one_scope(rt, (&[], &[]), (&[], values));
-    let (tables, number) = tables_of(rt, &info, &table);
-    is_entry(rt, &tables.table(number), &info, name, high_pc, end);
+    let table = tables.table(number);
+    is_entry(rt, &table, &info, values, end);
+    if fixed {
+        is_fixed(rt, &table, &info, values, end);
+    }
+    are_equal(rt, table.fixed_size_entry(&info, 13).is_some(), fixed);
 }
 
 /// Reads the entry at offset 13. Checks its values and its end, and that the null entry after it
 /// is refused.
-fn is_entry(
-    rt: &impl Abort,
-    table: &UnitTable<'_>,
-    info: &[u8],
-    name: u64,
-    high_pc: u64,
-    end: usize,
-) {
+fn is_entry(rt: &impl Abort, table: &UnitTable<'_>, info: &[u8], values: &[Value], end: usize) {
     let mut cursor = Cursor::new(info);
     if cursor.seek(13).is_err() {
         panic!(rt; "no entry");
@@ -63,17 +53,36 @@ fn is_entry(
     let mut found = UsedAttributes::none();
     let tag = table.read_entry(&mut cursor, &mut found);
     are_equal(rt, tag, Ok(0x2e));
-    are_equal(rt, number_of(found.value(UsedName::Name)), Some(name));
-    are_equal(rt, number_of(found.value(UsedName::HighPc)), Some(high_pc));
-    are_equal(rt, number_of(found.value(UsedName::LowPc)), None);
+    for (name, parts) in values {
+        are_equal(rt, parts_of(found.value(*name)), *parts);
+    }
     are_equal(rt, cursor.place(), end);
     let null = table.read_entry(&mut cursor, &mut found);
     are_equal(rt, null, Err(Cause::AbbrevCode));
 }
 
-fn number_of(value: Option<AttributeValue>) -> Option<u64> {
+/// Reads the values of the entry at offset 13 by their positions. Checks that it is not found if its
+/// last byte is missing, and that the null entry after it is not found.
+fn is_fixed(rt: &impl Abort, table: &UnitTable<'_>, info: &[u8], values: &[Value], end: usize) {
+    let Some(entry) = table.fixed_size_entry(info, 13) else {
+        panic!(rt; "no entry of a fixed size");
+    };
+    are_equal(rt, entry.tag, 0x2e);
+    are_equal(rt, entry.after, end);
+    for (name, parts) in values {
+        are_equal(rt, parts_of(entry.values.value(*name)), *parts);
+    }
+    let Some(part) = info.get(..end.saturating_sub(1)) else {
+        panic!(rt; "the unit ends before the entry");
+    };
+    are_equal(rt, table.fixed_size_entry(part, 13).is_some(), false);
+    are_equal(rt, table.fixed_size_entry(info, end).is_some(), false);
+}
+
+/// Returns the form and the number of a value.
+fn parts_of(value: Option<AttributeValue>) -> Option<(u64, u64)> {
     match value {
-        Some(value) => Some(value.number),
+        Some(value) => Some((value.form, value.number)),
         None => None,
     }
 }
@@ -82,7 +91,12 @@ fn number_of(value: Option<AttributeValue>) -> Option<u64> {
 fn entries_at_their_places(rt: HostRuntime) {
     // subprogram: decl_file as data1, name as string, high_pc as data1
     let forms = [0x3a, 0x0b, 0x03, 0x08, 0x12, 0x0b];
-    is_read(&rt, &forms, &[7, 0x66, 0, 9], 15, 9, 18);
+    let values = [
+        (UsedName::Name, Some((0x08, 15))),
+        (UsedName::HighPc, Some((0x0b, 9))),
+        (UsedName::LowPc, None),
+    ];
+    is_read(&rt, &forms, &[7, 0x66, 0, 9], &values, 18, false);
 }
 
 /// Reads an entry whose used attributes are after 70 others in its declaration. Most of the others
@@ -97,44 +111,27 @@ fn entry_of_a_long_list(rt: HostRuntime) {
     }
     // name as string, high_pc as data1
     put(&rt, &mut forms, &[0x03, 0x08, 0x12, 0x0b]);
-    is_read(&rt, &forms, &[7, 8, 0x66, 0, 9], 16, 9, 19);
+    let values = [
+        (UsedName::Name, Some((0x08, 16))),
+        (UsedName::HighPc, Some((0x0b, 9))),
+        (UsedName::LowPc, None),
+    ];
+    is_read(&rt, &forms, &[7, 8, 0x66, 0, 9], &values, 19, false);
 }
 
-/// Returns the form and the number of a value.
-fn parts_of(value: Option<AttributeValue>) -> Option<(u64, u64)> {
-    match value {
-        Some(value) => Some((value.form, value.number)),
-        None => None,
-    }
-}
-
-/// Checks whether the entry at an offset has a fixed size and is not truncated.
-fn is_fixed(rt: &impl Abort, table: &UnitTable<'_>, info: &[u8], place: usize, fixed: bool) {
-    are_equal(rt, table.fixed_size_entry(info, place).is_some(), fixed);
-}
-
-/// Reads the values of an entry of a fixed size by their names.
+/// Reads an entry of a fixed size, with numbers of all widths and a constant of its declaration.
 #[test]
-fn values_at_their_positions(rt: HostRuntime) {
+fn entry_of_a_fixed_size(rt: HostRuntime) {
     // subprogram: low_pc as addr, high_pc as data4, decl_file as data1, name as strp,
     // abstract_origin as ref4, call_file as implicit_const 3, call_line as data2
     let forms = [
         0x11, 0x01, 0x12, 0x06, 0x3a, 0x0b, 0x03, 0x0e, 0x31, 0x13, 0x58, 0x21, 3, 0x59, 0x05,
     ];
-    let values = [
+    let bytes = [
         0x10, 0x20, 0, 0, 0, 0, 0, 0, 0x44, 0x33, 0x22, 0x11, 7, 1, 2, 0, 0, 12, 0, 0, 0, 0x39,
         0x30,
     ];
-    let table = declarations(&rt, (&[], &[]), (&forms, &[]));
-    let info = one_scope(&rt, (&[], &[]), (&[], &values));
-    let (tables, number) = tables_of(&rt, &info, &table);
-    let table = tables.table(number);
-    let Some(entry) = table.fixed_size_entry(&info, 13) else {
-        panic!(rt; "no entry");
-    };
-    are_equal(&rt, entry.tag, 0x2e);
-    are_equal(&rt, entry.after, 37);
-    let wanted = [
+    let values = [
         (UsedName::LowPc, Some((0x01, 0x2010))),
         (UsedName::HighPc, Some((0x06, 0x1122_3344))),
         (UsedName::Name, Some((0x0e, 0x201))),
@@ -144,20 +141,5 @@ fn values_at_their_positions(rt: HostRuntime) {
         (UsedName::LinkageName, None),
         (UsedName::Ranges, None),
     ];
-    for (name, parts) in wanted {
-        are_equal(&rt, parts_of(entry.values.value(name)), parts);
-    }
-    is_fixed(&rt, &table, &info[..36], 13, false);
-    is_fixed(&rt, &table, &info, 37, false);
-    is_fixed(&rt, &table, &info, 39, false);
-}
-
-/// An entry with a string in it has no fixed size.
-#[test]
-fn no_values_of_an_entry_with_a_string(rt: HostRuntime) {
-    // subprogram: name as string, high_pc as data1
-    let table = declarations(&rt, (&[], &[]), (&[0x03, 0x08, 0x12, 0x0b], &[]));
-    let info = one_scope(&rt, (&[], &[]), (&[], &[0x66, 0, 9]));
-    let (tables, number) = tables_of(&rt, &info, &table);
-    is_fixed(&rt, &tables.table(number), &info, 13, false);
+    is_read(&rt, &forms, &bytes, &values, 37, true);
 }
