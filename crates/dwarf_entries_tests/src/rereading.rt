@@ -119,17 +119,20 @@ fn entry_of_a_long_list(rt: HostRuntime) {
     is_read(&rt, &forms, &[7, 8, 0x66, 0, 9], &values, 19, false);
 }
 
-/// Reads an entry of a fixed size, with numbers of all widths and a constant of its declaration.
+/// Reads an entry of a fixed size, with numbers of 1, 2, 3, 4 and 8 bytes and a constant of its
+/// declaration.
 #[test]
 fn entry_of_a_fixed_size(rt: HostRuntime) {
     // subprogram: low_pc as addr, high_pc as data4, decl_file as data1, name as strp,
-    // abstract_origin as ref4, call_file as implicit_const 3, call_line as data2
+    // abstract_origin as ref4, call_file as implicit_const 3, call_line as data2, linkage_name as
+    // strx3, specification as ref1
     let forms = [
         0x11, 0x01, 0x12, 0x06, 0x3a, 0x0b, 0x03, 0x0e, 0x31, 0x13, 0x58, 0x21, 3, 0x59, 0x05,
+        0x6e, 0x27, 0x47, 0x11,
     ];
     let bytes = [
         0x10, 0x20, 0, 0, 0, 0, 0, 0, 0x44, 0x33, 0x22, 0x11, 7, 1, 2, 0, 0, 12, 0, 0, 0, 0x39,
-        0x30,
+        0x30, 3, 2, 1, 13,
     ];
     let values = [
         (UsedName::LowPc, Some((0x01, 0x2010))),
@@ -138,8 +141,9 @@ fn entry_of_a_fixed_size(rt: HostRuntime) {
         (UsedName::AbstractOrigin, Some((0x13, 12))),
         (UsedName::CallFile, Some((0x21, 3))),
         (UsedName::CallLine, Some((0x05, 12_345))),
-        (UsedName::LinkageName, None),
+        (UsedName::LinkageName, Some((0x27, 0x01_0203))),
+        (UsedName::Specification, Some((0x11, 13))),
         (UsedName::Ranges, None),
     ];
-    is_read(&rt, &forms, &bytes, &values, 37, true);
+    is_read(&rt, &forms, &bytes, &values, 41, true);
 }
