@@ -2,13 +2,16 @@
 # answers.sh [MANY [FEW]] measures answers per second on three objects, for this program, plain C and
 # the installed peers: in a batch over a pipe and in ping-pong, with FILE:LINE alone and with
 # functions and inlined callers. The addresses are spread over an object in random order. For this
-# program it also measures sixteen addresses that are looked up repeatedly. MANY is the number of
-# addresses, and FEW is the number for slow peers. It fails if plain C answers differently.
+# program it also measures sixteen addresses that are looked up repeatedly. The fast programs run in
+# alternating turns, and the turn with the median rate is printed. MANY is the number of addresses,
+# and FEW is the number for slow peers. It fails if plain C answers differently.
 set -euo pipefail
 cd "$(dirname "$0")/.."
 program=${ADDR2LINE_LIVE:-crates/addr2line_live/out/addr2line_live}
 many=${1:-200000}
 few=${2:-200}
+turns=5
+questions=() address_files=() commands=()
 tools/build.sh addr2line_live program.log
 [ -f out/objects/large ] || tools/make_objects.sh out/objects
 gcc -O2 -o out/ask bench/ask.c
@@ -46,7 +49,39 @@ for line in sys.stdin.buffer:
 print(*lengths, sep="\n")'
 }
 
-# Prints one line: the question, the way of asking, and the result.
+# Prints one line: the question, and the result of the turn with the median rate.
+print_median() {
+    printf '  %-44s %s\n' "$1" "$(sort -n "$2" | sed -n "$((($(wc -l < "$2") + 1) / 2))p")"
+}
+
+# Adds a question for the fast programs.
+add() {
+    local what=$1 addresses=$2
+    shift 2
+    lengths "$addresses" "$@" > "out/lengths.${#questions[@]}"
+    questions+=("$what")
+    address_files+=("$addresses")
+    commands+=("$(printf '%s\n' "$@")")
+}
+
+# Asks all added questions in turn, several times, and prints their results.
+ask_in_turns() {
+    local how=$1 turn number words
+    rm -f out/turns.*
+    for ((turn = 0; turn < turns; turn++)); do
+        for number in "${!questions[@]}"; do
+            mapfile -t words <<< "${commands[number]}"
+            out/ask "$how" "${address_files[number]}" "out/lengths.$number" "${words[@]}" \
+                >> "out/turns.$number" || true
+        done
+    done
+    for number in "${!questions[@]}"; do
+        print_median "${questions[number]}" "out/turns.$number"
+    done
+    questions=() address_files=() commands=()
+}
+
+# Asks a slow program once and prints its result.
 show() {
     local what=$1 how=$2 addresses=$3
     shift 3
@@ -76,19 +111,20 @@ measure() {
     cmp <("$program" -e "$object" $options < out/spread) \
         <(out/replies -e "$object" $options < out/spread)
     for cache in 1024 0 65536; do
-        show "addr2line_live --cache $cache, spread" "$how" out/spread \
+        add "addr2line_live --cache $cache, spread" out/spread \
             "$program" -e "$object" $options --cache $cache
     done
-    show 'addr2line_live, sixteen addresses' "$how" out/hot "$program" -e "$object" $options
-    show 'plain C, spread' "$how" out/spread out/replies -e "$object" $options
+    add 'addr2line_live, sixteen addresses' out/hot "$program" -e "$object" $options
+    add 'plain C, spread' out/spread out/replies -e "$object" $options
+    if [ -n "${GIMLI_ADDR2LINE:-}" ]; then
+        add "addr2line of gimli, spread" out/spread "$GIMLI_ADDR2LINE" -e "$object" $options
+    fi
+    ask_in_turns "$how"
     if command -v llvm-symbolizer > /dev/null; then
         local style='--functions=none --no-inlines'
         [ -z "$options" ] || style='--functions=short --inlines'
         show 'llvm-symbolizer, spread' "$how" out/spread \
             llvm-symbolizer --output-style=GNU --no-demangle $style --obj="$object"
-    fi
-    if [ -n "${GIMLI_ADDR2LINE:-}" ]; then
-        show "addr2line of gimli, spread" "$how" out/spread "$GIMLI_ADDR2LINE" -e "$object" $options
     fi
     if command -v eu-addr2line > /dev/null; then
         show_slow eu-addr2line "$how" eu-addr2line -e "$object" $options
