@@ -1,10 +1,11 @@
 #!/usr/bin/env bash
-# answers.sh [MANY [FEW]] measures answers per second on three objects, for this program, plain C and
-# the installed peers: in a batch over a pipe and in ping-pong, with FILE:LINE alone and with
-# functions and inlined callers. The addresses are spread over an object in random order. For this
-# program it also measures sixteen addresses that are looked up repeatedly. The fast programs run in
-# alternating turns, and the turn with the median rate is printed. MANY is the number of addresses,
-# and FEW is the number for slow peers. It fails if plain C answers differently.
+# answers.sh [MANY [FEW]] measures answers per second on three objects, for this program, plain C
+# and the installed peers: in a batch over a pipe, in a batch from a file to a file (per second of
+# CPU time) and in ping-pong, with FILE:LINE alone and with functions and inlined callers. The
+# addresses are spread over an object in random order. For this program it also measures sixteen
+# addresses that are looked up repeatedly. The fast programs run in alternating turns, and the turn
+# with the median rate is printed. MANY is the number of addresses, and FEW is the number for slow
+# peers. It fails if plain C answers differently.
 set -euo pipefail
 cd "$(dirname "$0")/.."
 program=${ADDR2LINE_LIVE:-crates/addr2line_live/out/addr2line_live}
@@ -133,7 +134,7 @@ measure() {
 }
 
 for object in out/objects/small out/objects/program out/objects/large; do
-    for how in batch pingpong; do
+    for how in batch file pingpong; do
         for options in '' '-f -i'; do
             echo "$(basename "$object"), $how${options:+, }$options"
             measure "$object" "$how" "$options"

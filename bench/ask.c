@@ -1,16 +1,22 @@
 // Measures how fast a program answers addresses on its standard input.
 //
-// ask batch|pingpong ADDRESSES LENGTHS COMMAND.. sends the lines of the file ADDRESSES. Each line
-// of the file LENGTHS has the number of bytes of one answer. The first address is sent and answered
-// before the clock starts, so that loading is not measured. A batch is sent as fast as the program
-// reads it. In ping-pong the next address is sent when all bytes of an answer have arrived. If an
-// answer ends early or no byte arrives for two minutes, the result line starts with `failed`.
+// ask batch|pingpong|file ADDRESSES LENGTHS COMMAND.. sends the lines of the file ADDRESSES. Each
+// line of the file LENGTHS has the number of bytes of one answer. The first address is sent and
+// answered before the clock starts, so that loading is not measured. A batch is sent as fast as the
+// program reads it. In ping-pong the next address is sent when all bytes of an answer have arrived.
+// If an answer ends early or no byte arrives for two minutes, the result line starts with `failed`.
+//
+// With `file`, the program reads the addresses from a file and writes the answers to a file, and
+// what counts is its CPU time, less that of a run with the first address only.
 #define _GNU_SOURCE
+#include <fcntl.h>
 #include <signal.h>
 #include <stdint.h>
 #include <stdio.h>
 #include <stdlib.h>
 #include <string.h>
+#include <sys/resource.h>
+#include <sys/stat.h>
 #include <sys/wait.h>
 #include <time.h>
 #include <unistd.h>
@@ -147,6 +153,43 @@ static void batch(char *first, char *end, size_t wanted) {
     read_bytes(wanted);
 }
 
+// Runs a program with its standard input and output in files, and returns its CPU time in seconds.
+// Fails if its answers do not have `wanted` bytes.
+static double run_files(char **command, const char *from, const char *to, size_t wanted) {
+    pid_t program = fork();
+    if (program == 0) {
+        int in = open(from, O_RDONLY), out = open(to, O_WRONLY | O_CREAT | O_TRUNC, 0644);
+        if (in < 0 || out < 0) _exit(126);
+        dup2(in, 0);
+        dup2(out, 1);
+        execvp(command[0], command);
+        _exit(127);
+    }
+    struct rusage used;
+    int status;
+    if (wait4(program, &status, 0, &used) < 0) exit(1);
+    struct stat file;
+    answered = stat(to, &file) ? 0 : (size_t)file.st_size;
+    if (answered != wanted) fail("ended");
+    return used.ru_utime.tv_sec + used.ru_stime.tv_sec
+        + (used.ru_utime.tv_usec + used.ru_stime.tv_usec) / 1e6;
+}
+
+// Prints the rate of answers from a file to a file. `first` is the length of the first line.
+static void ask_files(char **command, const char *addresses, const char *text, size_t first) {
+    char one[4096], to[4096];
+    snprintf(one, sizeof one, "%s.first", addresses);
+    snprintf(to, sizeof to, "%s.answers", addresses);
+    FILE *file = fopen(one, "w");
+    if (!file || fwrite(text, 1, first, file) != first || fclose(file)) exit(1);
+    double loading = run_files(command, one, to, lengths[0]);
+    double all = run_files(command, addresses, to, bytes_from(0));
+    printf("%.0f answers a second of CPU time, %zu bytes\n",
+        (length_count - 1) / (all - loading), answered);
+    remove(one);
+    remove(to);
+}
+
 int main(int argc, char **argv) {
     if (argc < 5) return 2;
     FILE *file = fopen(argv[2], "r");
@@ -155,6 +198,10 @@ int main(int argc, char **argv) {
     char *end = text + fread(text, 1, sizeof text, file), *rest = strchr(text, '\n') + 1;
     read_lengths(argv[3]);
     if (length_count < 2) fail("no lengths of answers");
+    if (!strcmp(argv[1], "file")) {
+        ask_files(argv + 4, argv[2], text, rest - text);
+        return 0;
+    }
     size_t wanted = bytes_from(1);
     struct sigaction watch = {.sa_handler = check_progress, .sa_flags = SA_RESTART};
     sigaction(SIGALRM, &watch, NULL);

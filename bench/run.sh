@@ -1,7 +1,7 @@
 #!/usr/bin/env bash
 # Measures the readers and plain C programs that make the same checks, on the same bytes in one run.
-# MEASURE and ADDR2LINE_LIVE name programs that are built already. LTO_PROGRAM names a program of the
-# distribution that was built with link-time optimization, /usr/bin/python3.11 by default. It is
+# MEASURE and ADDR2LINE_LIVE name programs that are built already. LTO_PROGRAM names a program of
+# the distribution that was built with link-time optimization, /usr/bin/python3.11 by default. It is
 # measured if its debug file is installed (python3.11-dbg of Debian).
 set -euo pipefail
 cd "$(dirname "$0")/.."
@@ -58,6 +58,18 @@ compare() {
     }'
 }
 
+# Prints what is left of a whole load without its line programs and its scopes. Each argument has
+# the times of our reader, of plain C and of earlier plain C, as `compare` leaves them.
+compare_index() {
+    awk -v w="index of $1" -v lines="$2" -v scopes="$3" -v load="$4" 'BEGIN {
+        split(lines, l); split(scopes, s); split(load, all)
+        for (i = 1; i <= 3; i++) left[i] = all[i] - l[i] - s[i]
+        printf "%-40s %6d ms, plain C %6d ms", w, left[1], left[2]
+        printf ", earlier plain C %6d ms, ratio %.2f and %.2f\n", left[3],
+            left[2] / (left[1] > 0 ? left[1] : 1), left[3] / (left[1] > 0 ? left[1] : 1)
+    }'
+}
+
 # Prints the peak memory of a command in MiB, and the number of its page faults.
 peak() {
     python3 -c 'import resource, subprocess, sys
@@ -91,11 +103,14 @@ count_of() {
     sed -n "s/.*\\b\\([0-9][0-9]*\\) $1\\b.*/\\1/p" <<< "$2"
 }
 
-# Measures the scopes and the whole load of a program.
+# Measures the line programs, the scopes, the index and the whole load of a program.
 measure_program() {
-    local name=$1 object=$2 output
+    local name=$1 object=$2 output lines scopes
     output=$(out/entries "$object")
+    compare "line programs of $name" "$object" out/lines lines
+    lines="$ours $plain $earlier"
     compare "scopes of $name" "$object" out/entries scopes
+    scopes="$ours $plain $earlier"
     for what in entries scopes; do
         awk -v n="$(count_of $what "$output")" -v w="$what a second: $name" -v a="$ours" \
             -v b="$plain" -v c="$earlier" 'BEGIN {
@@ -107,6 +122,7 @@ measure_program() {
     echo "$output"
     compare_peaks "scopes of $name" "$object" entries scopes
     compare "whole load of $name" "$object" out/load module
+    compare_index "$name" "$lines" "$scopes" "$ours $plain $earlier"
     "$measure" module "$object"
     out/load "$object"
     compare_peaks "whole load of $name" "$object" load module
@@ -115,7 +131,6 @@ measure_program() {
 }
 
 compare 'LEB128, 100 MB' out/leb.bin out/leb leb
-compare 'line programs of a C++ program' out/objects/large out/lines lines
 compare 'line programs, 100 MB' out/objects/hundred out/lines lines
 measure_program 'a C++ program' out/objects/large
 measure_program 'a C++ program of 162 MB' out/objects/huge

@@ -36,12 +36,17 @@ FIGURES = re.compile(
 )
 OTHER = re.compile(rf"({NAMES}) +(\d+)")
 ANSWERS = re.compile(
-    r"  (?P<program>.*?) {2,}(?P<rate>\d+) answers a second(?:, [\d.]+ reads and writes an answer)?"
-    r", first answer after (?P<first>\d+) ms(?:, peak (?P<peak>\d+) MiB)?"
+    r"  (?P<program>.*?) {2,}(?P<rate>\d+) (?P<what>answers a second(?: of CPU time)?)"
+    r"(?:, [\d.]+ reads and writes an answer)?"
+    r"(?:, first answer after (?P<first>\d+) ms)?(?:, peak (?P<peak>\d+) MiB)?"
 )
-HEADING = re.compile(r"(?P<object>\w+), (?P<how>batch|pingpong)(?P<options>, .*)?")
+HEADING = re.compile(r"(?P<object>\w+), (?P<how>batch|pingpong|file)(?P<options>, .*)?")
 AGAIN = "sixteen addresses again and again"
-WAYS = {"batch": "a batch over a pipe", "pingpong": "ping-pong"}
+WAYS = {
+    "batch": "a batch over a pipe",
+    "pingpong": "ping-pong",
+    "file": "a batch from a file to a file",
+}
 
 
 def column(program):
@@ -79,12 +84,13 @@ def rows(lines):
             for program, figure in [(OURS, figures["ours"]), *OTHER.findall(figures["others"])]:
                 put(what, figures["unit"].strip(), better, program, figure)
         if answers and again(answers["program"]):
-            what = f"answers a second, {AGAIN}: {asked}"
+            what = f"{answers['what']}, {AGAIN}: {asked}"
             put(what, "", "more", OURS, answers["rate"])
         if answers and column(answers["program"]):
             program = column(answers["program"])
-            put(f"answers a second: {asked}", "", "more", program, answers["rate"])
-            put(f"first answer: {asked}", "ms", "less", program, answers["first"])
+            put(f"{answers['what']}: {asked}", "", "more", program, answers["rate"])
+            if answers["first"]:
+                put(f"first answer: {asked}", "ms", "less", program, answers["first"])
             if answers["peak"]:
                 put(f"memory: {asked}", "MiB", "less", program, answers["peak"])
     return table
