@@ -11,14 +11,14 @@ use Rattle.std.specs.Int.Digits.{digits_of}
 
 -- ---- a name by its bits
 
-pub is_in-zero : (bs : List Branch) (set : ℕ) → is_in bs set 0 ≡ (branch_at bs set).ends
+pub is_in_zero : (bs : List Branch) (set : ℕ) → is_in bs set 0 ≡ (branch_at bs set).ends
 unfolding is_in
-is_in-zero bs set = refl
+is_in_zero bs set = refl
 
-pub is_in-more : (bs : List Branch) (set name : ℕ) → 0 < name
+pub is_in_more : (bs : List Branch) (set name : ℕ) → 0 < name
     → is_in bs set name ≡ is_in bs (side (branch_at bs set) (name % 2)) (name / 2)
 unfolding is_in
-is_in-more bs set name more =
+is_in_more bs set name more =
     let bits : reverse (digits_of 2 name) ≡ name % 2 ∷ reverse (digits_of 2 (name / 2)) =
     ap reverse (digits_of_step 2 name (omega arith) more)
     ∙ reverse-append (digits_of 2 (name / 2)) (name % 2 ∷ []) in
@@ -40,9 +40,9 @@ along-stays bs more (bit ∷ bits) set sets lt =
     rw (get_or-append bs more no_names set lt)
     (along-stays bs more bits (side (branch_at bs set) bit) sets (side-within bs set bit sets))
 
-pub stay-more : (bs now more : List Branch) → AreSets bs → now ≡ bs ++ more → SetsStay bs now
+pub stay_more : (bs now more : List Branch) → AreSets bs → now ≡ bs ++ more → SetsStay bs now
 unfolding is_in
-stay-more bs now more sets is = rw is (record {
+stay_more bs now more sets is = rw is (record {
   longer = omega (arith, length-append bs more);
   same = λ set name lt. ap (λ (b : Branch). b.ends)
       (along-stays bs more (reverse (digits_of 2 name)) set sets lt);
@@ -69,10 +69,10 @@ more-bits old mid new set behind more name b turned there within some last is in
     others first second rest x = grind (
       arith,
       branch-last mid new more turned last is,
-      is_in-zero new more,
-      is_in-zero old set,
-      is_in-more new more x,
-      is_in-more old set x,
+      is_in_zero new more,
+      is_in_zero old set,
+      is_in_more new more x,
+      is_in_more old set x,
       others (x % 2),
       rest (x / 2),
       first.same (side b (x % 2)) (x / 2),

@@ -71,6 +71,7 @@ impl AbbreviationTable {
     }
 
     /// Returns the index of the declaration with a code, from 0.
+    #[tactic(auto, using(dwarf_forms::proofs::Elements::position_map))]
     pub fn position(&self, code: u64) -> Option<usize>
         ensures { result ≡ position (λ declaration. declaration.code == code) self.now }
     {
@@ -93,6 +94,7 @@ impl AbbreviationTable {
     }
 
     /// Appends a declaration.
+    #[tactic(auto, using(dwarf_forms::proofs::Elements::any_map))]
     fn push(&mut self, declaration: AbbreviationDeclaration) -> Result<(), AllocError>
         requires { list_any (λ other. other.code == declaration.code) self.old ≡ false }
         ensures ok { OnOk result (self.new ≡ self.old ++ declaration ∷ []) }

@@ -83,6 +83,7 @@ impl NameSets {
     }
 
     /// Whether a name is in a set.
+    #[tactic(auto, using(crate::proofs::SetLaws::is_in_zero, crate::proofs::SetLaws::is_in_more))]
     pub(crate) fn has(&self, set: u32, name: u64) -> bool
         ensures { result ≡ is_in self.now set name }
     {
@@ -126,6 +127,7 @@ impl NameSets {
     }
 
     /// Appends a node, and returns its index.
+    #[tactic(auto, using(crate::proofs::SetLaws::stay_more))]
     fn put(&mut self, branch: Branch) -> Result<u32, AllocError>
         requires { IsWithin (length self.old) branch }
         ensures ok { IfOk result (λ set. (set ≡ length self.old)

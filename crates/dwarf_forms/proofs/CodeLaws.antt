@@ -25,10 +25,10 @@ lacks xs code none i d at is = grind (
 -- ---- the position of a code
 
 -- a search finds an index if and only if some element satisfies the predicate
-pub is_some-position : {X : Type 0} (p : X → Bool) (xs : List X)
+pub is_some_position : {X : Type 0} (p : X → Bool) (xs : List X)
     → is_some (position p xs) ≡ list_any p xs
-is_some-position p [] = refl
-is_some-position p (x ∷ xs) = let rest = is_some-position p xs in grind (arith, common_steps)
+is_some_position p [] = refl
+is_some_position p (x ∷ xs) = let rest = is_some_position p xs in grind (arith, common_steps)
 
 -- a code that is at an index
 place-is : (xs : List ℕ) (i code : ℕ) → AllPairs (λ a b. a ≢ b) xs → slice_get xs i ≡ Some code

@@ -31,12 +31,12 @@ if-ok P Q (Err e) h f = tt
 
 -- ---- elements of a mapped list
 
-pub any-map : {X Y : Type 0} (f : X → Y) (p : Y → Bool) (xs : List X)
+pub any_map : {X Y : Type 0} (f : X → Y) (p : Y → Bool) (xs : List X)
     → list_any p (map f xs) ≡ list_any (λ x. p (f x)) xs
-any-map f p [] = refl
-any-map f p (x ∷ xs) = ap (λ (b : Bool). p (f x) || b) (any-map f p xs)
+any_map f p [] = refl
+any_map f p (x ∷ xs) = ap (λ (b : Bool). p (f x) || b) (any_map f p xs)
 
-pub position-map : {X Y : Type 0} (f : X → Y) (p : Y → Bool) (xs : List X)
+pub position_map : {X Y : Type 0} (f : X → Y) (p : Y → Bool) (xs : List X)
     → position p (map f xs) ≡ position (λ x. p (f x)) xs
-position-map f p [] = refl
-position-map f p (x ∷ xs) = let rest = position-map f p xs in grind (arith, common_steps)
+position_map f p [] = refl
+position_map f p (x ∷ xs) = let rest = position_map f p xs in grind (arith, common_steps)

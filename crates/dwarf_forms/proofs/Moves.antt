@@ -11,7 +11,7 @@ use Rattle.std.proofs.Common.{Err, IsSome, List, Ok, Option, Result, [], arith, 
 use Rattle.std.proofs.Common.{if◌then◌else◌, is_none, length, refl, suc, true, ℕ, ℤ, ◌&&◌, ◌-◌, ◌<◌}
 use Rattle.std.proofs.{Common.{◌==◌, ◌||◌, ◌≡◌, ◌≢◌, ◌≤◌}, lemmas.List.length-map}
 use Rattle.std.specs.List.{list_any}
-use Rattle.dwarf_forms.proofs.{Elements.any-map, Encodings.IsNew}
+use Rattle.dwarf_forms.proofs.{Elements.any_map, Encodings.IsNew}
 use Rattle.dwarf_bytes.specs.declared.fault.Cause.TheVariants as causes
 
 -- the conditions on an attribute that do not depend on the ones before it
@@ -153,7 +153,7 @@ module _ (budget : ℕ) (section : List ℕ) (before : List Declaration) (at : �
   pub declaration-fits : declaration_at budget section before at ≡ Ok (Item x next)
       → FitsAfter budget before x.code
   declaration-fits h =
-      let same = any-map (λ (d : Declaration). d.code) (λ (code : ℕ). code == x.code) before in
+      let same = any_map (λ (d : Declaration). d.code) (λ (code : ℕ). code == x.code) before in
       let len = length-map before (λ d. d.code) in
       record { some = grind arith; left = grind (arith, len); new = grind (arith, same) }
 
@@ -161,7 +161,7 @@ module _ (budget : ℕ) (section : List ℕ) (before : List Declaration) (at : �
   pub declaration-again : FitsAfter budget before x.code → DeclarationAt section at x next
       → declaration_at budget section before at ≡ Ok (Item x next)
   declaration-again fits s =
-      let same = any-map (λ (d : Declaration). d.code) (λ (code : ℕ). code == x.code) before in
+      let same = any_map (λ (d : Declaration). d.code) (λ (code : ℕ). code == x.code) before in
       grind (arith, same, length-map before (λ d. d.code))
 
 pub declaration_at-advances : (budget : ℕ) (section : List ℕ)

@@ -57,6 +57,7 @@ impl CodeIndex {
     }
 
     /// Whether the table has the code.
+    #[tactic(auto, using(crate::proofs::CodeLaws::is_some_position))]
     pub(crate) fn has(&self, code: u64) -> bool
         ensures { result ≡ list_any (λ other. other == code) self.now }
     {

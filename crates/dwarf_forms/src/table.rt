@@ -36,6 +36,7 @@ impl Abbrevs {
     /// Parses the table at `offset` from the start of `.debug_abbrev`, up to the code 0 that ends
     /// it. `left` is the number of declarations that may still be read; on success it decreases by
     /// the number of the table's declarations. A fault has the offset of its declaration.
+    #[tactic(auto, using(crate::proofs::TableTurns::outside))]
     pub fn read(
         alloc: Global,
         section: &[u8],
@@ -79,6 +80,7 @@ impl Abbrevs {
     }
 
     /// Appends a declaration.
+    #[tactic(auto, using(crate::proofs::Elements::any_map))]
     fn push(&mut self, decl: Decl) -> Result<(), AllocError>
         requires { list_any (λ declaration. declaration.code == decl.code) self.old ≡ false }
         ensures ok { OnOk result (self.new ≡ self.old ++ decl ∷ []) }

@@ -2,7 +2,7 @@ use Rattle.abbreviation_memo.specs.{Private.NameSets.side, declared.name_sets.Br
 use Rattle.dwarf_forms.proofs.Elements.{if-ok}
 use Rattle.std.proofs.Common.{[], arith, length, length-append, true, ℕ, ◌%◌, ◌++◌, ◌+◌, ◌/◌, ◌<◌}
 use Rattle.std.proofs.{Common.{◌∷◌, ◌≡◌, ◌≤◌}, lemmas.Int.Digits.length-digits_of_step}
-use Rattle.abbreviation_memo.proofs.SetLaws.{HasMore, branch-last, is_in-more, is_in-zero}
+use Rattle.abbreviation_memo.proofs.SetLaws.{HasMore, branch-last, is_in_more, is_in_zero}
 use Rattle.abbreviation_memo.proofs.SetLaws.{more-bits}
 use Rattle.abbreviation_memo.proofs.name_sets.NameSets.+with.Goals as goal
 
@@ -20,9 +20,9 @@ returns-then-name-eq0-clause-names t c =
       c.branch-branch.ensures.within,
       c.if-name-eq0.true,
       branch-last old new more ended made.0 made.1,
-      is_in-zero new more,
-      is_in-more new more x,
-      is_in-more old c.args.set x,
+      is_in_zero new more,
+      is_in_more new more x,
+      is_in_more old c.args.set x,
       c.put.ensures.stay.same (side b (x % 2)) (x / 2),
     ))
 
