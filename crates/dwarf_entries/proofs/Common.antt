@@ -15,9 +15,10 @@ pub use Rattle.dwarf_ranges.proofs.ScopeBudget.{Fits, budget-left, covers-fits}
 pub use Rattle.dwarf_ranges.specs.Bases.{item_at, no_bases, optional}
 pub use Rattle.dwarf_ranges.specs.Ranges.{AddsRanges, covers_by}
 pub use Rattle.dwarf_ranges.specs.declared.{bases.{Bases.Bases, Table.Table}, range.Range.Range}
-pub use Rattle.dwarf_units.proofs.{EntryMoves.{fixed-stays, offset-stays}, EntryOrder.entries-rise}
-pub use Rattle.dwarf_units.proofs.{EntryOrder.{increasing, list-in}, NodeLaws.node_at-facts}
-pub use Rattle.dwarf_units.proofs.{RereadLaws.entries-again, TableLaws.{in_section-ok, table_for}}
+pub use Rattle.dwarf_bytes.proofs.Numbers.Moves.{fixed_at-moves}
+pub use Rattle.dwarf_units.proofs.{EntryAdvances.node_at-advances, EntryOrder.entries-rise}
+pub use Rattle.dwarf_units.proofs.EntryOrder.{entries_again, increasing, list-in}
+pub use Rattle.dwarf_units.proofs.{TableLaws.{in_section-ok, table_for}}
 pub use Rattle.dwarf_units.proofs.{TableLaws.table_is, UnitLaws.{header_in-places, unit_at-moves}}
 pub use Rattle.dwarf_walk.proofs.BitmapLaws.{adds-more, adds-none}
 pub use Rattle.dwarf_walk.proofs.RereadLaws.{again-memory, inside-is, without_place}

@@ -25,12 +25,12 @@ pub use Rattle.dwarf_units.specs.Entries.{reading_value, value_of}
 pub use Rattle.dwarf_units.specs.Private.AbbreviationTables.{Table, table_size}
 pub use Rattle.dwarf_units.specs.Private.FixedSizes.{attribute_in, attributes_in, end_of}
 pub use Rattle.dwarf_units.specs.Private.FixedSizes.{layout_len, number_in, used_position}
-pub use Rattle.dwarf_units.specs.{Private.Links.IsLink, Private.Names.{name_of, named_attribute}}
+pub use Rattle.dwarf_units.specs.{Private.Links.IsLink, Private.Names.named_attribute, Used.name_of}
 pub use Rattle.dwarf_units.specs.{Private.Names.used_name, Private.NodeShapes.{AreShapes, shape_at}}
-pub use Rattle.dwarf_units.specs.{Private.Numbers.number_at, Private.Runs.{Run, Stretch}}
-pub use Rattle.dwarf_units.specs.Private.Runs.{all_at, last_at, own_runs, run_at, run_before}
+pub use Rattle.dwarf_units.specs.Private.Runs.{Run, Stretch}
+pub use Rattle.dwarf_units.specs.Private.Runs.{all_at, own_runs, run_at, run_before}
 pub use Rattle.dwarf_units.specs.Private.Runs.{runs_at, runs_of, stretch_at, then_read}
-pub use Rattle.dwarf_units.specs.Private.Slots.{index_in, slot_of}
+pub use Rattle.dwarf_units.specs.Private.{Names.slot_of, Slots.index_in}
 pub use Rattle.dwarf_units.specs.Private.StoredAttributes.{stored_attributes, stored_attributes_at}
 pub use Rattle.dwarf_units.specs.Private.Tables.{AreCached, CachedTables, IsCachedOrTooLarge}
 pub use Rattle.dwarf_units.specs.Private.Tables.{IsParsedFrom, with_table}
@@ -41,7 +41,6 @@ pub use Rattle.dwarf_units.specs.declared.attribute_run.LastAttribute.TheVariant
 pub use Rattle.dwarf_units.specs.declared.attribute_run.LastAttribute.TheVariants.{Unchecked}
 pub use Rattle.dwarf_units.specs.declared.attributes.Attribute.{Attribute}
 pub use Rattle.dwarf_units.specs.declared.attributes.AttributeValue.{AttributeValue}
-pub use Rattle.dwarf_units.specs.declared.numbers.Numbers.{Numbers}
 pub use Rattle.dwarf_units.specs.declared.unit_headers.UnitHeader.{UnitHeader}
 pub use Rattle.dwarf_units.specs.declared.used_name.UsedName.{UsedName}
 pub use Rattle.dwarf_units.specs.declared.used_position.UsedPosition.{UsedPosition}

@@ -7,8 +7,24 @@ use Common.{attribute_at, attributes_at, node_at}
 use Rattle.std.proofs.Common.{not}
 use Rattle.dwarf_bytes.proofs.{Numbers.Advance.after-test, Numbers.Moves.uleb-moves}
 use Rattle.dwarf_units.specs.Entries.{form_at, node_at_depth}
-use Rattle.dwarf_units.proofs.EntryMoves.{StaysWithin, value-stays}
+use Rattle.dwarf_forms.proofs.ValueEncodings.{value-decoded}
+use Rattle.std.proofs.Common.{length-drop}
+use Common.{ℤ, Option, Value, ap, form_of, length-append}
 use Rattle.dwarf_bytes.specs.declared.fault.Cause.TheVariants as causes
+
+-- A read of zero or more bytes does not move the offset back or beyond the end.
+abbrev StaysWithin : List ℕ → ℕ → ℕ → Type 0
+StaysWithin bytes at after = (at ≤ after) × (after ≤ length bytes)
+
+value-stays : (form : ℕ) (format : Format) (constant : Option ℤ) (bytes : List ℕ) (at : ℕ)
+    (x : Value × ℕ) → at ≤ length bytes → value_at form format constant bytes at ≡ Ok x
+    → StaysWithin bytes at x.1
+unfolding value_at
+value-stays form format constant bytes at x le h =
+    let s = (value-decoded form format (form_of form) constant bytes at x.0 x.1).0 h in
+    let size = length-drop at bytes in
+    let parts = length-append s.front s.rest in
+    (omega (arith, s.next_is), omega (arith, s.next_is, ap length s.parts))
 
 reading_value-ok : {A : Type 0} (r : Result A ValueFault) (x : A) → reading_value r ≡ Ok x
     → r ≡ Ok x

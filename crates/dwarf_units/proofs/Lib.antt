@@ -3,11 +3,8 @@
 pub mod Common
 pub mod UnitLaws
 pub mod TableLaws
-pub mod EntryMoves
 pub mod EntryAdvances
-pub mod NodeLaws
 pub mod EntryOrder
-pub mod RereadLaws
 pub mod FixedValues
 pub mod RunReads
 pub mod StoredReads
@@ -18,11 +15,8 @@ pub mod SlotLaws
 unfoldable pub use Common.*
 pub use UnitLaws.*
 pub use TableLaws.*
-pub use EntryMoves.*
 pub use EntryAdvances.*
-pub use NodeLaws.*
 pub use EntryOrder.*
-pub use RereadLaws.*
 pub use FixedValues.*
 pub use RunReads.*
 pub use StoredReads.*

@@ -1,6 +1,6 @@
 -- Links of shared lists: attributes that are unused and have no bytes change nothing.
 use Rattle.dwarf_units.proofs.Common
-use Common.{◌≡◌, ℕ, ◌+◌, ◌-◌, ◌≤◌, List, [], ◌∷◌, Bool, true, false, length, refl, sym, ◌∙◌, arith}
+use Common.{◌≡◌, ℕ, ◌+◌, ◌≤◌, List, [], ◌∷◌, Bool, true, false, length, refl, sym, ◌∙◌, arith}
 use Common.{Some, Result, Ok, Cause, Format, ◌>>=◌, form_of, Item, AttributeSpecification, IsListAt}
 use Common.{list_at, Attribute, ValueLayout, accepts, is_used, attributes_at, fixed_len, layout_len}
 use Common.{IsLink, stored_attributes_at}
@@ -28,10 +28,6 @@ no-bytes s Dwarf64 is =
     (λ layout fine found len. rw (fine, found, fixed_len) (no-width layout len))
     (λ fine found len. rw (fine, found, fixed_len) len)
 
-empty-is : (s : AttributeSpecification) → is_empty_unused s ≡ true
-    → (is_used s.name ≡ false) × (fixed_len Dwarf32 s ≡ Some 0)
-empty-is s is = grind arith
-
 -- Such an attribute is not stored, and no byte is read for it.
 empty-read : (keep : Bool) (format : Format) (s : AttributeSpecification)
     (ss : List AttributeSpecification) (bytes : List ℕ) (at : ℕ) → is_empty_unused s ≡ true
@@ -39,7 +35,7 @@ empty-read : (keep : Bool) (format : Format) (s : AttributeSpecification)
     ≡ stored_attributes_at keep format ss bytes at
 unfolding attributes_at
 empty-read keep format s ss bytes at is le =
-    let empty = empty-is s is in
+    let empty : (is_used s.name ≡ false) × (fixed_len Dwarf32 s ≡ Some 0) = grind arith in
     let first : at + 0 ≡ at = omega arith in
     let here = fixed-at format s bytes at 0 0 (no-bytes s format empty.1) (omega (arith, le)) in
     rw (rw first at here ∙ after-none bytes at _ le)

@@ -14,7 +14,7 @@ use Rattle.dwarf_units.specs.Private.FixedSizes.{number_or_zero}
 use Rattle.dwarf_units.proofs.{EntryAdvances.attributes-stay, FixedValues.{IsInLayout, after_bytes}}
 use Rattle.dwarf_units.proofs.FixedValues.{fixed-at, unchecked-read, with_number}
 use Rattle.dwarf_units.proofs.SlotLaws.{among-append, used-none, used-some}
-use Rattle.dwarf_units.proofs.StoredReads.{one-read, stored-append, used_all}
+use Rattle.dwarf_units.proofs.StoredReads.{one-read, stored-append}
 
 -- ---- two reads
 
@@ -46,9 +46,6 @@ then-same : (r : Result (List Attribute × ℕ) Cause) (next other : ℕ → Res
     Cause) → ((x : List Attribute × ℕ) → r ≡ Ok x → next x.1 ≡ other x.1)
     → then_read r next ≡ then_read r other
 then-same r next other same = grind (arith, same)
-
-ended : (n m end : ℕ) (b : Bool) → cond b (Some (n + m)) None ≡ Some end → n + m ≡ end
-ended n m end b is = grind arith
 
 -- ---- the attributes of a declaration
 
@@ -179,7 +176,8 @@ module _ (keep : Bool) (format : Format) (bytes : List ℕ) where
       by_end (Some end) some more rest =
           option_and_then_some (λ m. cond (nat_le (n + m) 65535) (Some (n + m)) None)
           (fixed_len format s) end some (λ m len small.
-          rw (← ended n m end (nat_le (n + m) 65535) small) (more (n + m) (used ++ position)
+          let same : n + m ≡ end = grind (arith, small) in
+          rw (← same) (more (n + m) (used ++ position)
           (fixed-one n m used s at len ∙ one-more done n used s at is) le))
 
   pub runs-read : (declared : List AttributeSpecification) (at : ℕ) → at ≤ length bytes
@@ -187,11 +185,6 @@ module _ (keep : Bool) (format : Format) (bytes : List ℕ) where
   runs-read declared at le = have-runs [] 0 [] declared at (no-stretch at le) le
 
 -- ---- an entry
-
--- Attributes that are added to an empty set are all of the result.
-used-first : (r : Result (List Attribute × ℕ) Cause) → used_after (used_among []) r
-    ≡ (r >>= used_all)
-used-first r = grind (arith, among-append [])
 
 -- The runs of the unshared attributes and then the shared attributes give all of a declaration.
 pub own-rest : (keep : Bool) (format : Format) (own rest : List AttributeSpecification)
@@ -201,4 +194,7 @@ pub own-rest : (keep : Bool) (format : Format) (own rest : List AttributeSpecifi
     ≡ used_attributes_at keep format (own ++ rest) bytes at
 own-rest keep format own rest bytes at le =
     rw (runs-read keep format bytes own at le, ← stored-append keep format own rest bytes at)
-    (used-first (stored_attributes_at keep format (own ++ rest) bytes at))
+    (grind (arith, among-append []))
+
+-- What the read of unshared attributes needs.
+pub ruleset own_reads = (runs-read, append-nil)

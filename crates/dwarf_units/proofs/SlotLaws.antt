@@ -8,7 +8,7 @@ use Common.{attributes_in, index_in}
 use Rattle.std.specs.List.{list_all}
 use Rattle.std.proofs.{lemmas.Bool.eqb-true, Math.ListN.set, lemmas.List.get_or-set_same}
 use Rattle.std.proofs.lemmas.List.{get_or-set_other, Folds.find_at}
-use Rattle.dwarf_units.specs.{Private.Used.used_by, Private.Slots.{in_slot, in_slots}}
+use Rattle.dwarf_units.specs.{Used.used_by, Private.Slots.{in_slot, in_slots}}
 use Rattle.dwarf_units.specs.{Private.Names.used_names, Attributes.used_attributes}
 use Rattle.std.specs.{Prelude.is_some, Option.option_or}
 
@@ -85,15 +85,15 @@ among-append xs ys = same-used _ _ (λ name. rw (
   value-append xs ys (name_of name),
 ) refl)
 
-pub with-none : (u : Used) → with_used u [] ≡ u
-with-none u = same-used _ _ (λ name. rw (with-named u [] name) (over (value_named name u)))
+pub with_none : (u : Used) → with_used u [] ≡ u
+with_none u = same-used _ _ (λ name. rw (with-named u [] name) (over (value_named name u)))
   where
     over : (x : Option AttributeValue) → option_or x None ≡ x
     over x = grind arith
 
-pub with-twice : (u : Used) (xs ys : List Attribute) → with_used (with_used u xs) ys
+pub with_twice : (u : Used) (xs ys : List Attribute) → with_used (with_used u xs) ys
     ≡ with_used u (xs ++ ys)
-with-twice u xs ys = same-used _ _ (λ name. grind (
+with_twice u xs ys = same-used _ _ (λ name. grind (
   arith,
   with-named (with_used u xs) ys name,
   with-named u xs name,
@@ -129,12 +129,12 @@ slot-named : (has : List Bool) (values : List AttributeValue) (name : UsedName)
 slot-named has values = by-named (λ name. in_slot has values (slot_of name))
 
 -- The slot is empty, so the attribute is stored.
-pub put-is : (has : List Bool) (values : List AttributeValue) (name : UsedName)
+pub put_is : (has : List Bool) (values : List AttributeValue) (name : UsedName)
     (value : AttributeValue) (slot : ℕ) → slot ≡ slot_of name → slot < length has
     → slot < length values → get_or has slot false ≡ false
     → in_slots (set has slot true) (set values slot value)
     ≡ with_used (in_slots has values) (named_attribute name value ∷ [])
-put-is has values name value slot at within place free = same-used _ _ (λ x. rw (
+put_is has values name value slot at within place free = same-used _ _ (λ x. rw (
   slot-named (set has slot true) (set values slot value) x,
   with-named (in_slots has values) (named_attribute name value ∷ []) x,
   slot-named has values x,
@@ -143,10 +143,10 @@ put-is has values name value slot at within place free = same-used _ _ (λ x. rw
     (rw (← at) at (same-slot name x))))
 
 -- The slot is occupied, so the attribute is ignored.
-pub stored-is : (has : List Bool) (values : List AttributeValue) (name : UsedName)
+pub stored_is : (has : List Bool) (values : List AttributeValue) (name : UsedName)
     (value : AttributeValue) (slot : ℕ) → slot ≡ slot_of name → get_or has slot false ≡ true
     → in_slots has values ≡ with_used (in_slots has values) (named_attribute name value ∷ [])
-stored-is has values name value slot at taken = same-used _ _ (λ x. rw
+stored_is has values name value slot at taken = same-used _ _ (λ x. rw
     (with-named (in_slots has values) (named_attribute name value ∷ []) x, slot-named has values x)
     (taken-slot has values value slot (slot_of x) (name_of name) (name_of x) taken
     (rw (← at) at (same-slot name x))))

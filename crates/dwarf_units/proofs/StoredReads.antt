@@ -1,11 +1,12 @@
 -- Reading the attributes of an entry one by one, and storing the used ones.
 use Rattle.dwarf_units.proofs.Common
 use Common.{arith, ◌≡◌, ℕ, List, [], ◌∷◌, ◌++◌, Bool, true, refl, sym, Some, Result, Ok, Cause}
+use Common.{common_steps, None-from-no-Some}
 use Common.{Format, ◌>>=◌, AttributeSpecification, Attribute, UsedName, is_used, attribute_at}
 use Common.{attributes_at, named_attribute, used_name, then_read, stored_attributes}
 use Common.{stored_attributes_at, Used, used_among, used_after, with_used}
 use Rattle.std.proofs.lemmas.List.Elements.{filter-append}
-use Rattle.dwarf_units.proofs.SlotLaws.{used-some, with-twice}
+use Rattle.dwarf_units.proofs.SlotLaws.{used-none, used-some, with_none, with_twice}
 
 -- ---- two lists of attributes
 
@@ -58,23 +59,28 @@ stored-append keep format xs ys bytes at =
     rw (attributes-append format xs ys bytes at) (grind (arith, stored-both keep))
 
 -- The used attributes of two reads, after those that are stored already.
-pub used-both : (u : Used) (r : Result (List Attribute × ℕ) Cause)
+pub used_both : (u : Used) (r : Result (List Attribute × ℕ) Cause)
     (next : ℕ → Result (List Attribute × ℕ) Cause) → used_after u (then_read r next)
     ≡ (used_after u r >>= λ first. used_after first.0 (next first.1))
-used-both u r next = grind (arith, with-twice u)
+used_both u r next = grind (arith, with_twice u)
 
 -- An attribute is read, and then the others.
-pub first-read : (keep : Bool) (format : Format) (s : AttributeSpecification)
+pub first_read : (keep : Bool) (format : Format) (s : AttributeSpecification)
     (others : List AttributeSpecification) (bytes : List ℕ) (place : ℕ) (u : Used)
     → used_after u (stored_attributes_at keep format (s ∷ others) bytes place)
     ≡ (used_after u (stored_attributes_at keep format (s ∷ []) bytes place)
     >>= λ first. used_after first.0 (stored_attributes_at keep format others bytes first.1))
-first-read keep format s others bytes place u =
+first_read keep format s others bytes place u =
     rw (stored-append keep format (s ∷ []) others bytes place)
-    (used-both u (stored_attributes_at keep format (s ∷ []) bytes place)
+    (used_both u (stored_attributes_at keep format (s ∷ []) bytes place)
     (stored_attributes_at keep format others bytes))
 
--- ---- one attribute
+-- ---- one attribute or none
+
+pub attributes_none : (format : Format) (bytes : List ℕ) (at : ℕ)
+    → attributes_at format [] bytes at ≡ Ok ([], at)
+unfolding attributes_at
+attributes_none format bytes at = refl
 
 -- One attribute is read, and is stored if it is used.
 pub one-read : (keep : Bool) (format : Format) (s : AttributeSpecification) (bytes : List ℕ)
@@ -92,3 +98,12 @@ pub one-stored : (keep : Bool) (format : Format) (s : AttributeSpecification) (b
     ≡ Ok (with_used used (named_attribute name a.0.value ∷ []), a.1)
 one-stored keep format s bytes at used name a kept is read =
     rw (kept, one-read true format s bytes at (Ok a) read, used-some a.0 name is) refl
+
+-- What the reads of an entry need.
+pub ruleset read_steps = (common_steps, used_both, with_none, with_twice)
+
+-- What the reads of a shared list need.
+pub ruleset list_reads = (attributes_none, first_read, with_none)
+
+-- What the read of one attribute needs.
+pub ruleset one_steps = (one-read, one-stored, used-none, with_none, None-from-no-Some)

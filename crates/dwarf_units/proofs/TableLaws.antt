@@ -84,11 +84,11 @@ table_is section headers tables index d all within =
     (each-place (table_for section) [] headers tables all index d [] within)).0
 
 -- A table that was parsed is the table at its offset.
-pub parsed-at : (section : List ℕ) (budget : ℕ) (table : Table) (offset : ℕ)
+pub parsed_at : (section : List ℕ) (budget : ℕ) (table : Table) (offset : ℕ)
     → table.section ≡ section → table.offset ≡ offset
     → in_section sections.DebugAbbrev (declarations_of budget section offset)
     ≡ Ok table.declarations → budget ≤ declarations_limit → IsParsedFrom section table
-parsed-at section budget table offset in_same same read few = grind (
+parsed_at section budget table offset in_same same read few = grind (
   arith,
   in_same,
   same,
@@ -103,10 +103,10 @@ all-at P xs i x all at = rw (get_or_from_slice_get xs i x x at)
     at (all i x (slice_get_within xs i x at))
 
 -- A parsed table is parsed again with any budget that is large enough.
-pub parsed-again : (section : List ℕ) (table : Table) (offset left : ℕ)
+pub parsed_again : (section : List ℕ) (table : Table) (offset left : ℕ)
     → IsParsedFrom section table → table.offset ≡ offset → length table.declarations ≤ left
     → in_section sections.DebugAbbrev (declarations_of left section offset) ≡ Ok table.declarations
-parsed-again section table offset left parsed same few = rw
+parsed_again section table offset left parsed same few = rw
     (table-again declarations_limit left section offset table.declarations (rw same at parsed.1)
     few) refl
 
@@ -137,14 +137,14 @@ own-first section list is = grind (
   take-append_seam list.own,
 )
 
-pub own-sum : (section : List ℕ) (ds : List SharedDeclaration) → AreShared section ds
+pub own_sum : (section : List ℕ) (ds : List SharedDeclaration) → AreShared section ds
     → sum_by (λ d. length (own_attributes d)) (full_declarations section ds)
     ≡ sum_by (λ d. length d.list.own) ds
-own-sum section [] are = refl
-own-sum section (d ∷ ds) are = grind (
+own_sum section [] are = refl
+own_sum section (d ∷ ds) are = grind (
   arith,
   own-first section d.list (are 0 d (omega arith)),
-  own-sum section ds (λ k e lt. are (suc k) e (omega (arith, lt))),
+  own_sum section ds (λ k e lt. are (suc k) e (omega (arith, lt))),
   sum_by-cons (λ (e : Declaration). length (own_attributes e)) (full_declaration section d)
       (full_declarations section ds),
   sum_by-cons (λ (e : SharedDeclaration). length e.list.own) d ds,

@@ -4,8 +4,6 @@ use Common.{◌≡◌, ℕ, ◌<◌, ◌≤◌, List, length, arith, length-take
 use Common.{header_at}
 use Rattle.dwarf_bytes.proofs.{Numbers.LengthLaws.initial_length_at-moves}
 use Rattle.dwarf_units.specs.Units.{header_in, unit_at}
-use Rattle.dwarf_bytes.specs.declared.fault.Cause.TheVariants as causes
-use Rattle.dwarf_bytes.specs.declared.fault.Section.TheVariants as sections
 
 -- A header contains the start of its unit, and the unit ends where the bytes end.
 pub header_in-places : (start : ℕ) (format : Format) (unit : List ℕ) (at : ℕ) (header : UnitHeader)

@@ -3,7 +3,6 @@ pub mod StoredAttributes
 pub mod Links
 pub mod Heads
 pub mod Rising
-pub mod Numbers
 pub mod Tables
 pub mod FixedSizes
 pub mod Runs

@@ -1,6 +1,6 @@
 -- The used attributes of an entry by name (DWARF 5, 2.2). If an attribute occurs twice, the first
 -- value counts.
-use Rattle.std.specs.Prelude.{List, Option}
+use Rattle.std.specs.Prelude.{ℕ, List, Option}
 use Rattle.dwarf_bytes.specs.declared.constants.TheConstants.{DW_AT_ABSTRACT_ORIGIN}
 use Rattle.dwarf_bytes.specs.declared.constants.TheConstants.{DW_AT_ADDR_BASE, DW_AT_CALL_FILE}
 use Rattle.dwarf_bytes.specs.declared.constants.TheConstants.{DW_AT_CALL_LINE, DW_AT_HIGH_PC}
@@ -36,24 +36,6 @@ pub record Used : Type 0 where
   pub addr_base : Option AttributeValue
   pub rnglists_base : Option AttributeValue
 
--- The used attributes of a list.
-abbrev pub used_among : List Attribute → Used
-used_among attributes = record {
-  name = value_of attributes DW_AT_NAME;
-  linkage_name = value_of attributes DW_AT_LINKAGE_NAME;
-  abstract_origin = value_of attributes DW_AT_ABSTRACT_ORIGIN;
-  specification = value_of attributes DW_AT_SPECIFICATION;
-  low_pc = value_of attributes DW_AT_LOW_PC;
-  high_pc = value_of attributes DW_AT_HIGH_PC;
-  ranges = value_of attributes DW_AT_RANGES;
-  call_file = value_of attributes DW_AT_CALL_FILE;
-  call_line = value_of attributes DW_AT_CALL_LINE;
-  stmt_list = value_of attributes DW_AT_STMT_LIST;
-  str_offsets_base = value_of attributes DW_AT_STR_OFFSETS_BASE;
-  addr_base = value_of attributes DW_AT_ADDR_BASE;
-  rnglists_base = value_of attributes DW_AT_RNGLISTS_BASE;
-}
-
 -- The value with a name.
 abbrev pub value_named : UsedName → Used → Option AttributeValue
 value_named Name used = used.name
@@ -69,3 +51,41 @@ value_named StmtList used = used.stmt_list
 value_named StrOffsetsBase used = used.str_offsets_base
 value_named AddrBase used = used.addr_base
 value_named RnglistsBase used = used.rnglists_base
+
+-- The code of an attribute name (DWARF 5, table 7.5).
+abbrev pub name_of : UsedName → ℕ
+name_of Name = DW_AT_NAME
+name_of LinkageName = DW_AT_LINKAGE_NAME
+name_of AbstractOrigin = DW_AT_ABSTRACT_ORIGIN
+name_of Specification = DW_AT_SPECIFICATION
+name_of LowPc = DW_AT_LOW_PC
+name_of HighPc = DW_AT_HIGH_PC
+name_of Ranges = DW_AT_RANGES
+name_of CallFile = DW_AT_CALL_FILE
+name_of CallLine = DW_AT_CALL_LINE
+name_of StmtList = DW_AT_STMT_LIST
+name_of StrOffsetsBase = DW_AT_STR_OFFSETS_BASE
+name_of AddrBase = DW_AT_ADDR_BASE
+name_of RnglistsBase = DW_AT_RNGLISTS_BASE
+
+-- The used attributes, built from a function of the name.
+abbrev pub used_by : (UsedName → Option AttributeValue) → Used
+used_by value = record {
+  name = value Name;
+  linkage_name = value LinkageName;
+  abstract_origin = value AbstractOrigin;
+  specification = value Specification;
+  low_pc = value LowPc;
+  high_pc = value HighPc;
+  ranges = value Ranges;
+  call_file = value CallFile;
+  call_line = value CallLine;
+  stmt_list = value StmtList;
+  str_offsets_base = value StrOffsetsBase;
+  addr_base = value AddrBase;
+  rnglists_base = value RnglistsBase;
+}
+
+-- The used attributes of a list.
+abbrev pub used_among : List Attribute → Used
+used_among attributes = used_by (λ name. value_of attributes (name_of name))

@@ -64,6 +64,7 @@ impl Stretch {
     /// if `keep` is set.
     // Inlined: called for each entry.
     #[inline(always)]
+    #[tactic(auto, using(crate::proofs::StoredReads::read_steps))]
     pub(crate) fn read(
         &self,
         keep: bool,
@@ -85,6 +86,7 @@ impl Stretch {
     /// Adds the used attributes of an entry whose first attribute of the stretch is at the cursor.
     // Inlined: called for each entry.
     #[inline(always)]
+    #[tactic(auto, using(crate::proofs::StoredReads::read_steps))]
     fn add_used(&self, format: Format, first: &Cursor, found: &mut UsedAttributes)
         ensures { found.new ≡ with_used found.old
             (attributes_in format first.now.bytes first.now.place self.now.used) }
@@ -120,6 +122,7 @@ impl AttributeRun {
     /// if `keep` is set.
     // Inlined: called for each entry.
     #[inline(always)]
+    #[tactic(auto, using(crate::proofs::StoredReads::read_steps))]
     pub(crate) fn read(
         &self,
         keep: bool,
@@ -140,6 +143,7 @@ impl LastAttribute {
     /// `keep` is set.
     // Inlined: called for each entry.
     #[inline(always)]
+    #[tactic(auto, using(crate::proofs::StoredReads::read_steps))]
     fn read(
         &self,
         keep: bool,
@@ -193,6 +197,7 @@ fn skip(layout: ValueLayout, format: Format, cursor: &mut Cursor) -> Result<(), 
 // Not inlined: it is rare. Its callers pass a copy of the cursor, which need not be in memory.
 #[cold]
 #[inline(never)]
+#[tactic(auto, using(crate::proofs::StoredReads::one_steps))]
 pub(crate) fn read_one(
     keep: bool,
     format: Format,

@@ -40,6 +40,7 @@ impl Model for AttributeRuns {
 
 impl AttributeRuns {
     /// Computes the runs of a list of attributes.
+    #[tactic(auto, unfolding(crate::specs::Private::Runs::runs_from))]
     fn of(
         alloc: Global,
         format: Format,
@@ -109,6 +110,7 @@ impl AttributeRuns {
     /// if `keep` is set.
     // Inlined: called for each entry.
     #[inline(always)]
+    #[tactic(auto, using(crate::proofs::StoredReads::read_steps))]
     pub(crate) fn read(
         &self,
         keep: bool,

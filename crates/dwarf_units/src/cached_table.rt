@@ -5,7 +5,8 @@ ghost use Rattle.std.specs.Prelude.{IsTrue, ◌↔◌, IfOk, IfNone, IfSome};
 ghost use Rattle.dwarf_bytes.specs.{declared.format.Format.Format, Refusals.{Decodes, in_section}};
 ghost use Rattle.dwarf_forms.specs.Tables.{declarations_of};
 ghost use Rattle.abbreviation_memo.specs.Declarations.{AreShared, full_declarations};
-ghost use Rattle.dwarf_units.specs.{Entries.declaration_of, Private.AbbreviationTables.table_size};
+ghost use Rattle.dwarf_units.specs.Entries.{declaration_of};
+ghost use Rattle.dwarf_units.specs.Private.AbbreviationTables.{table_key, table_size};
 ghost use Rattle.dwarf_units.specs.Private.Runs.{IsDeclaration, own_runs};
 ghost use Rattle.dwarf_units.specs.{Private.NodeShapes.shape_at, Private.Tables.IsAt};
 ghost use Rattle.dwarf_bytes.specs.declared.fault.Section.TheVariants as sections;
@@ -90,10 +91,11 @@ impl<'a> CachedTable<'a> {
         self.format
     }
 
-    pub(crate) fn offset(&self) -> u64
-        ensures { result ≡ self.now.offset }
+    /// Returns the key of the table in the map of the indexes.
+    pub(crate) fn key(&self) -> u128
+        ensures { result ≡ table_key self.now.format self.now.offset }
     {
-        self.offset
+        table_key(self.format, self.offset)
     }
 
     /// Returns the declaration of a code and its unshared attributes.
@@ -123,6 +125,7 @@ impl<'a> CachedTable<'a> {
 
     /// Returns the size of the table: its declarations, their unshared attributes, and a position
     /// for each of these.
+    #[tactic(auto, using(crate::proofs::TableLaws::own_sum))]
     pub(crate) fn size(&self) -> u128
         ensures { result ≡ table_size self.now }
     {
@@ -134,6 +137,16 @@ impl<'a> CachedTable<'a> {
         ensures { IsTrue result ↔ IsAt header.now.format header.now.abbreviations self.now }
     {
         self.offset == header.abbreviations && self.format == header.format
+    }
+}
+
+/// Returns the key of the table at an offset, for units of a format.
+pub(crate) fn table_key(format: Format, offset: u64) -> u128
+    ensures { result ≡ table_key format offset }
+{
+    match format {
+        Format::Dwarf32 => 2 * u128::from(offset),
+        Format::Dwarf64 => 2 * u128::from(offset) + 1,
     }
 }
 

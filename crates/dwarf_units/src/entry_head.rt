@@ -155,6 +155,7 @@ impl<'a> EntryHead<'a> {
     /// cursor. Returns `None` if their size is not fixed, or if bytes are missing.
     // Inlined: called for each scope and each reference.
     #[inline(always)]
+    #[tactic(auto, using(crate::proofs::RunReads::own_reads))]
     fn fixed_size_values(&self, cursor: &mut Cursor<'a>) -> Option<FixedSizeValues<'a>>
         ensures { IfSome result (λ values. (used_attributes_at true self.now.format
             self.now.declaration.attributes cursor.old.bytes cursor.old.place

@@ -10,6 +10,7 @@ ghost use Rattle.dwarf_units.specs.Entries.{entries_of};
 
 /// The depth of each entry or null entry is the number of entries with children before it, less
 /// the number of null entries before it that are at a depth above 0.
+#[tactic(auto, using(crate::proofs::EntryOrder::nodes_are_depths))]
 pub fn entries_are_at_counted_depths()
     ensures { (format : Format) (table : List Declaration) (unit : List ℕ) (end first : ℕ)
         (all : List LocatedNode) (after : ℕ)
@@ -17,6 +18,7 @@ pub fn entries_are_at_counted_depths()
 {}
 
 /// The offsets of the entries of a unit are strictly increasing.
+#[tactic(auto, using(crate::proofs::EntryOrder::offsets_rise))]
 pub fn offsets_of_entries_rise()
     ensures { (info : List ℕ) (header : UnitHeader) (table : List Declaration) (dies : List Die)
         → entries_of info header table ≡ Ok dies
@@ -25,6 +27,7 @@ pub fn offsets_of_entries_rise()
 
 /// Re-reading an entry at its offset, without regard to the entries before it, returns the same
 /// tag and attributes.
+#[tactic(auto, using(crate::proofs::EntryOrder::entries_again))]
 pub fn entries_are_reread()
     ensures { (info : List ℕ) (header : UnitHeader) (table : List Declaration) (dies : List Die)
         → entries_of info header table ≡ Ok dies

@@ -13,7 +13,6 @@ mod fixed_sizes;
 pub mod laws;
 mod linked_lists;
 mod node_shape;
-mod numbers;
 mod table_store;
 mod tables;
 mod unit_headers;

@@ -90,6 +90,7 @@ impl<'a> LinkedLists<'a> {
     /// They start at the cursor. Adds the used ones to `found` if `keep` is set.
     // Inlined: called for each entry.
     #[inline(always)]
+    #[tactic(auto, using(crate::proofs::StoredReads::list_reads))]
     pub(crate) fn read(
         &self,
         keep: bool,
@@ -114,6 +115,7 @@ impl<'a> LinkedLists<'a> {
     // Not inlined: compilers write no list that is long enough to be shared.
     #[cold]
     #[inline(never)]
+    #[tactic(auto, using(crate::proofs::StoredReads::list_reads))]
     fn read_list(
         &self,
         keep: bool,

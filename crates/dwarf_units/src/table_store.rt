@@ -1,15 +1,15 @@
 //! The cache of abbreviation tables, indexed by number.
 
-ghost use Rattle.std.specs.Prelude.{◌≡◌, ◌++◌, ◌∷◌, ◌<◌, [], Some, take, length, nat_lt, slice_get};
-ghost use Rattle.std.specs.Prelude.{IsTrue, IfOk, IfNone, IfSome, OnErr, ◌↔◌};
+ghost use Rattle.std.specs.Prelude.{◌≡◌, ◌<◌, [], Some, length, slice_get};
+ghost use Rattle.std.specs.Prelude.{IsTrue, IfOk, IfNone, IfSome};
 ghost use Rattle.dwarf_units.specs.Private.Tables.{AreElsewhere, IsCachedOrTooLarge, IsIndexOf};
 ghost use Rattle.dwarf_units.specs.Private.Tables.{IsTableAt, IsParsedFrom, IsWithinLimit};
 ghost use Rattle.dwarf_units.specs.Private.Tables.{with_table};
 
-use crate::cached_table::CachedTable;
-use crate::numbers::Numbers;
+use crate::cached_table::{CachedTable, table_key};
 use crate::unit_headers::UnitHeader;
 use std::alloc::{AllocError, Global};
+use std::collections::BTreeMap;
 use std::marker::Model;
 
 /// The cached tables that fit the budget, followed by at most one temporary table: the last table
@@ -23,7 +23,9 @@ pub(crate) struct TableStore<'a> {
     /// The remaining budget: the number of declarations, attributes and positions that can still be
     /// cached.
     budget: u128,
-    numbers: Numbers,
+    /// The indexes of the tables by their keys. An entry may be stale: its index may have been
+    /// reused for another table.
+    numbers: BTreeMap<u128, usize>,
 }
 
 impl<'a> Model for TableStore<'a> {
@@ -50,7 +52,7 @@ impl<'a> TableStore<'a> {
             tables: Vec::new(alloc),
             permanent: 0,
             budget: 3 * section.len() as u128 + 65_536,
-            numbers: Numbers::new(alloc),
+            numbers: BTreeMap::new(alloc),
         }
     }
 
@@ -90,7 +92,8 @@ impl<'a> TableStore<'a> {
         ensures stays { IfSome result (λ _. IsCachedOrTooLarge self.now unit.now) }
         ensures limit { IsWithinLimit self.now }
     {
-        let number = self.numbers.get(unit.format, unit.abbreviations)?;
+        let key = table_key(unit.format, unit.abbreviations);
+        let number = self.numbers.get(&key).copied()?;
         if self.is_index(unit, number) {
             return Some(number);
         }
@@ -124,8 +127,7 @@ impl<'a> TableStore<'a> {
         ensures limit { IsWithinLimit self.new }
     {
         let size = table.size();
-        self.numbers
-            .insert(table.format(), table.offset(), self.permanent)?;
+        self.numbers.insert(table.key(), self.permanent)?;
         self.tables.truncate(self.permanent);
         let number = self.tables.len();
         self.tables.push(table)?;

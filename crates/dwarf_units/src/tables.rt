@@ -73,6 +73,7 @@ impl<'a> Tables<'a> {
 
     /// Parses the table of a unit, unless it is cached. Subtracts its declarations from `left` in
     /// both cases.
+    #[tactic(auto, using(crate::proofs::IndexLaws::stays_parsed))]
     fn validate_unit(
         &mut self,
         alloc: Global,
@@ -99,6 +100,7 @@ impl<'a> Tables<'a> {
 
     /// Returns the number of declarations of the table of a unit, if the table is cached and has
     /// at most `left` declarations.
+    #[tactic(auto, using(crate::proofs::TableLaws::parsed_again))]
     fn cached_len(&self, unit: &UnitHeader, left: u64) -> Option<u64>
         requires { left ≤ declarations_limit }
         ensures none { IfNone result ((table : List Declaration)
@@ -178,6 +180,7 @@ impl<'a> Tables<'a> {
 
     /// Parses the table of a unit, which must not be cached, and caches it. Returns its index.
     /// Subtracts its declarations from `left`.
+    #[tactic(auto, using(crate::proofs::TableLaws::parsed_at))]
     fn add(&mut self, alloc: Global, unit: &UnitHeader, left: &mut u64) -> Result<usize, LoadFault>
         requires few { left.old ≤ declarations_limit }
         requires new { (table : List Declaration)

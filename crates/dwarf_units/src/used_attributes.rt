@@ -50,6 +50,7 @@ impl UsedAttributes {
 
     /// Adds an attribute. Has no effect if the entry already has an attribute of this name.
     #[inline(always)]
+    #[tactic(auto, using(crate::proofs::SlotLaws::put_is, crate::proofs::SlotLaws::stored_is))]
     pub(crate) fn add(&mut self, name: UsedName, value: AttributeValue)
         ensures { self.new ≡ with_used self.old (named_attribute name value ∷ []) }
     {

@@ -1,7 +1,7 @@
 //! The names of the used attributes (DWARF 5, 2.2 and 7.5.4).
 
 ghost use Rattle.std.specs.Prelude.{◌≡◌, ◌<◌};
-ghost use Rattle.dwarf_units.specs.{Private.Slots.slot_of, Private.Names.used_name};
+ghost use Rattle.dwarf_units.specs.Private.Names.{slot_of, used_name};
 
 use dwarf_bytes::constants::*;
 

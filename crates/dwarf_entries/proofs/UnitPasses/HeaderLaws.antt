@@ -3,17 +3,27 @@ use Rattle.dwarf_entries.proofs.Common
 use Common.{◌≡◌, ℕ, ◌≤◌, List, [], ◌∷◌, ◌++◌, length, arith, Ok, All, Format, bind_ok, same-ok}
 use Common.{UnitHeader, length-take, AllPairs, Lists, units_of, AllPairs-filter, filter, All-filter}
 use Common.{items_from, is_read, header_in, unit_at, header_at, headers_of, initial_length_at-moves}
-use Common.{Lists-within, fixed-stays, offset-stays, header_in-places, unit_at-moves, AreContiguous}
+use Common.{Lists-within, fixed_at-moves, header_in-places, unit_at-moves, AreContiguous}
 use Common.{common_steps, ◌-◌}
+use Rattle.dwarf_bytes.specs.Numbers.{fixed_at, offset_at}
 
 -- ---- the bounds of a unit
+
+fixed-stays : (n : ℕ) (bytes : List ℕ) (at : ℕ) (x : ℕ × ℕ) → fixed_at n bytes at ≡ Ok x
+    → (at ≤ x.1) × (x.1 ≤ length bytes)
+fixed-stays n bytes at x h = grind (arith, fixed_at-moves n bytes at x h)
+
+offset-stays : (format : Format) (bytes : List ℕ) (at : ℕ) (x : ℕ × ℕ)
+    → offset_at format bytes at ≡ Ok x → (at ≤ x.1) × (x.1 ≤ length bytes)
+offset-stays format bytes at x h =
+    grind (arith, fixed-stays 4 bytes at x, fixed-stays 8 bytes at x)
 
 -- The first entry is not before the start of its unit and not after its end.
 header_in-first : (start : ℕ) (format : Format) (unit : List ℕ) (at : ℕ) (header : UnitHeader)
     → header_in start format unit at ≡ Ok header
     → (at ≤ header.first) × (header.first ≤ length unit)
 header_in-first start format unit at header h =
-    grind (arith, fixed-stays 2 unit, fixed-stays 1 unit, offset-stays format unit)
+    grind (arith, fixed-stays 1 unit, fixed-stays 2 unit, offset-stays format unit)
 
 -- The bounds in a header are in order, within the section.
 pub record HasBounds (size : ℕ) (header : UnitHeader) : Type 0 where

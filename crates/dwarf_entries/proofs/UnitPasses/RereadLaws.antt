@@ -6,7 +6,7 @@ use Common.{Result, Ok, slice_get, Cause, UnitHeader, Die, Sections, UnitPlace, 
 use Common.{Member, UnitEntries, AreStored, stored_unit_of, StoredUnit, stored_of, length-map}
 use Common.{slice_get_within, get_or_from_slice_get, ScopeSite, sites_in, IsPlaceOf, named_entry}
 use Common.{scope_entry, scope_places, scope_entry_at, used_at, named_entry_at, ScopePlace}
-use Common.{uleb-moves, Attribute, entry_at, stored_attributes, entries-again, value-stored}
+use Common.{uleb-moves, Attribute, entry_at, stored_attributes, entries_again, value-stored}
 use Common.{names_at-stored, without_place, inside-is, get_or-map}
 use Rattle.dwarf_entries.proofs.ScopePasses.SiteLaws.{site-in}
 use Rattle.dwarf_entries.proofs.UnitPasses.UnitLaws.{AreUnitsIn, IsUnitIn, stored-index}
@@ -23,7 +23,7 @@ used-there : (s : Sections) (header : UnitHeader) (dies : List Die) (k : ℕ) (d
     ≡ Ok (die.tag, stored_attributes true die.attributes)
 unfolding entry_at
 used-there s header dies k die read there =
-    let again = entries-again s.debug_info header read.table dies read.dies_are k die there in
+    let again = entries_again s.debug_info header read.table dies read.dies_are k die there in
     let within : die.offset ≤ length (bytes_in s header) =
     grind (arith, again.1, uleb-moves (bytes_in s header) die.offset) in
     inside-is header.format read.table (bytes_in s header) die.offset within

@@ -1,6 +1,7 @@
 -- Abbreviation tables for units of a format.
 use Rattle.std.specs.Prelude.{ℕ, ◌+◌, ◌*◌, List, length, take, sum_by}
 use Rattle.dwarf_bytes.specs.declared.format.Format.{Format}
+use Rattle.dwarf_bytes.specs.declared.format.Format.TheVariants.{Dwarf32, Dwarf64}
 use Rattle.dwarf_forms.specs.declared.attribute.AttributeSpecification.{AttributeSpecification}
 use Rattle.dwarf_forms.specs.Declarations.{Declaration}
 use Rattle.abbreviation_memo.specs.declared.shared.TheConstants.{UNSHARED}
@@ -11,6 +12,11 @@ pub record Table : Type 0 where
   pub offset : ℕ
   pub format : Format
   pub declarations : List Declaration
+
+-- The key of the table at an offset, for units of a format, in the map of the indexes.
+abbrev pub table_key : Format → ℕ → ℕ
+table_key Dwarf32 offset = 2 * offset
+table_key Dwarf64 offset = 2 * offset + 1
 
 -- The first attributes of a declaration, which are stored with it. The attributes after them are
 -- shared.

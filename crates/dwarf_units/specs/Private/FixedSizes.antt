@@ -4,8 +4,7 @@ use Rattle.std.specs.{Prelude.{if◌then◌else◌, option_and_then, option_map}
 use Rattle.dwarf_bytes.specs.{declared.fault.Cause.Cause, declared.format.Format.Format}
 use Rattle.dwarf_bytes.specs.declared.form.ValueLayout.{ValueLayout}
 use Rattle.dwarf_bytes.specs.declared.form.ValueLayout.TheVariants.{Fixed, Offset, Present}
-use Rattle.dwarf_bytes.specs.declared.form.ValueLayout.TheVariants.{Unsigned, Text, Sixteen, Block}
-use Rattle.dwarf_bytes.specs.declared.form.ValueLayout.TheVariants.{LongBlock}
+use Rattle.dwarf_bytes.specs.declared.form.ValueLayout.TheVariants.{Sixteen}
 use Rattle.dwarf_bytes.specs.declared.form.Form.TheVariants.{Direct, ImplicitConst, Indirect}
 use Rattle.dwarf_bytes.specs.{Bind.◌>>=◌, Contents.{Signed, content_at}, Forms.{form_of, byte_len}}
 use Rattle.dwarf_bytes.specs.{Items.reading, Numbers.{block_at, offset_len}}
@@ -16,7 +15,6 @@ use Rattle.dwarf_units.specs.declared.used_position.UsedValue.{UsedValue}
 use Rattle.dwarf_units.specs.declared.used_position.UsedValue.TheVariants.{Constant, At}
 use Rattle.dwarf_units.specs.Attributes.{accepts, is_negative_count, number_of}
 use Rattle.dwarf_units.specs.Private.Names.{named_attribute, used_name}
-use Rattle.dwarf_bytes.specs.declared.form.ValueLayout.TheVariants as layouts
 
 -- ---- sizes of attributes
 
@@ -26,12 +24,8 @@ abbrev pub layout_len : Format → ValueLayout → Option ℕ
 layout_len format (Fixed width) = Some (byte_len width)
 layout_len format Offset = Some (offset_len format)
 layout_len format Present = Some 0
-layout_len format layouts.Signed = None
-layout_len format Unsigned = None
-layout_len format Text = None
 layout_len format Sixteen = Some 16
-layout_len format (Block width) = None
-layout_len format LongBlock = None
+layout_len format layout = None
 
 -- The size of a valid value that is in the declaration.
 abbrev pub constant_len : AttributeSpecification → Option ℕ

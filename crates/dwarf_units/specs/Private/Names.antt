@@ -1,14 +1,6 @@
--- The names of the used attributes (DWARF 5, 2.2 and 7.5.4).
+-- The names of the used attributes (DWARF 5, 2.2 and 7.5.4), and their slots.
 use Rattle.std.specs.Prelude.{ℕ, List, [], ◌∷◌, Option, ◌==◌, find}
-use Rattle.dwarf_bytes.specs.declared.constants.TheConstants.{DW_AT_ABSTRACT_ORIGIN}
-use Rattle.dwarf_bytes.specs.declared.constants.TheConstants.{DW_AT_ADDR_BASE, DW_AT_CALL_FILE}
-use Rattle.dwarf_bytes.specs.declared.constants.TheConstants.{DW_AT_CALL_LINE, DW_AT_HIGH_PC}
-use Rattle.dwarf_bytes.specs.declared.constants.TheConstants.{DW_AT_LINKAGE_NAME, DW_AT_LOW_PC}
-use Rattle.dwarf_bytes.specs.declared.constants.TheConstants.{DW_AT_NAME, DW_AT_RANGES}
-use Rattle.dwarf_bytes.specs.declared.constants.TheConstants.{DW_AT_RNGLISTS_BASE}
-use Rattle.dwarf_bytes.specs.declared.constants.TheConstants.{DW_AT_SPECIFICATION, DW_AT_STMT_LIST}
-use Rattle.dwarf_bytes.specs.declared.constants.TheConstants.{DW_AT_STR_OFFSETS_BASE}
-use Rattle.dwarf_units.specs.declared.attributes.Attribute.{Attribute}
+use Rattle.dwarf_units.specs.{declared.attributes.Attribute.Attribute, Used.name_of}
 use Rattle.dwarf_units.specs.declared.attributes.AttributeValue.{AttributeValue}
 use Rattle.dwarf_units.specs.declared.used_name.UsedName.{UsedName}
 use Rattle.dwarf_units.specs.declared.used_name.UsedName.TheVariants.{Name, LinkageName, LowPc}
@@ -17,22 +9,6 @@ use Rattle.dwarf_units.specs.declared.used_name.UsedName.TheVariants.{Specificat
 use Rattle.dwarf_units.specs.declared.used_name.UsedName.TheVariants.{CallFile, CallLine, StmtList}
 use Rattle.dwarf_units.specs.declared.used_name.UsedName.TheVariants.{StrOffsetsBase, AddrBase}
 use Rattle.dwarf_units.specs.declared.used_name.UsedName.TheVariants.{RnglistsBase}
-
--- The code of an attribute name (DWARF 5, table 7.5).
-abbrev pub name_of : UsedName → ℕ
-name_of Name = DW_AT_NAME
-name_of LinkageName = DW_AT_LINKAGE_NAME
-name_of AbstractOrigin = DW_AT_ABSTRACT_ORIGIN
-name_of Specification = DW_AT_SPECIFICATION
-name_of LowPc = DW_AT_LOW_PC
-name_of HighPc = DW_AT_HIGH_PC
-name_of Ranges = DW_AT_RANGES
-name_of CallFile = DW_AT_CALL_FILE
-name_of CallLine = DW_AT_CALL_LINE
-name_of StmtList = DW_AT_STMT_LIST
-name_of StrOffsetsBase = DW_AT_STR_OFFSETS_BASE
-name_of AddrBase = DW_AT_ADDR_BASE
-name_of RnglistsBase = DW_AT_RNGLISTS_BASE
 
 abbrev pub used_names : List UsedName
 used_names = Name ∷ LinkageName ∷ AbstractOrigin ∷ Specification ∷ LowPc ∷ HighPc ∷ Ranges
@@ -45,3 +21,19 @@ used_name number = find (λ name. name_of name == number) used_names
 -- The attribute with a name and a value.
 abbrev pub named_attribute : UsedName → AttributeValue → Attribute
 named_attribute name value = record { name = name_of name; value = value }
+
+-- The slot of a name.
+abbrev pub slot_of : UsedName → ℕ
+slot_of Name = 0
+slot_of LinkageName = 1
+slot_of AbstractOrigin = 2
+slot_of Specification = 3
+slot_of LowPc = 4
+slot_of HighPc = 5
+slot_of Ranges = 6
+slot_of CallFile = 7
+slot_of CallLine = 8
+slot_of StmtList = 9
+slot_of StrOffsetsBase = 10
+slot_of AddrBase = 11
+slot_of RnglistsBase = 12

@@ -5,9 +5,6 @@ use Rattle.std.specs.Prelude.{Result, Ok, Bool, true, false, ◌&&◌, if◌then
 use Rattle.std.specs.Option.{option_map_or, option_to_list}
 use Rattle.dwarf_bytes.specs.{declared.fault.Cause.Cause, declared.format.Format.Format}
 use Rattle.dwarf_bytes.specs.declared.form.ValueLayout.{ValueLayout}
-use Rattle.dwarf_bytes.specs.declared.form.ValueLayout.TheVariants.{Fixed, Offset, Present}
-use Rattle.dwarf_bytes.specs.declared.form.ValueLayout.TheVariants.{Unsigned, Text, Sixteen, Block}
-use Rattle.dwarf_bytes.specs.declared.form.ValueLayout.TheVariants.{LongBlock}
 use Rattle.dwarf_bytes.specs.declared.form.Form.TheVariants.{Direct, ImplicitConst, Indirect}
 use Rattle.dwarf_bytes.specs.{Bind.◌>>=◌, Contents.content_at, Forms.form_of, Items.reading}
 use Rattle.dwarf_bytes.specs.Numbers.{block_at}

@@ -2,31 +2,8 @@
 use Rattle.std.specs.Prelude.{◌≡◌, ℕ, ◌<◌, List, Bool, false, Option, ◌==◌, length, slice_index_or}
 use Rattle.std.specs.{List.position_or_len, Bool.then_some}
 use Rattle.dwarf_units.specs.declared.attributes.AttributeValue.{AttributeValue}
-use Rattle.dwarf_units.specs.declared.used_name.UsedName.{UsedName}
 use Rattle.dwarf_units.specs.declared.used_position.UsedPosition.{UsedPosition}
-use Rattle.dwarf_units.specs.declared.used_name.UsedName.TheVariants.{Name, LinkageName, LowPc}
-use Rattle.dwarf_units.specs.declared.used_name.UsedName.TheVariants.{AbstractOrigin, HighPc}
-use Rattle.dwarf_units.specs.declared.used_name.UsedName.TheVariants.{Specification, Ranges}
-use Rattle.dwarf_units.specs.declared.used_name.UsedName.TheVariants.{CallFile, CallLine, StmtList}
-use Rattle.dwarf_units.specs.declared.used_name.UsedName.TheVariants.{StrOffsetsBase, AddrBase}
-use Rattle.dwarf_units.specs.{declared.used_name.UsedName.TheVariants.RnglistsBase, Used.Used}
-use Rattle.dwarf_units.specs.Private.Used.{used_by}
-
--- The slot of a name.
-abbrev pub slot_of : UsedName → ℕ
-slot_of Name = 0
-slot_of LinkageName = 1
-slot_of AbstractOrigin = 2
-slot_of Specification = 3
-slot_of LowPc = 4
-slot_of HighPc = 5
-slot_of Ranges = 6
-slot_of CallFile = 7
-slot_of CallLine = 8
-slot_of StmtList = 9
-slot_of StrOffsetsBase = 10
-slot_of AddrBase = 11
-slot_of RnglistsBase = 12
+use Rattle.dwarf_units.specs.{Private.Names.slot_of, Used.{Used, used_by}}
 
 -- The value in a slot, if the flag of the slot is set.
 abbrev pub in_slot : List Bool → List AttributeValue → ℕ → Option AttributeValue

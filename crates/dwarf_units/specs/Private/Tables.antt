@@ -6,9 +6,9 @@ use Rattle.dwarf_bytes.specs.{declared.format.Format.Format, declared.fault.Load
 use Rattle.dwarf_bytes.specs.Refusals.{in_section, memory_fault}
 use Rattle.dwarf_forms.specs.{Declarations.Declaration, Tables.declarations_of}
 use Rattle.dwarf_units.specs.declared.unit_headers.UnitHeader.{UnitHeader}
-use Rattle.dwarf_units.specs.{declared.numbers.Numbers.Numbers, Units.declarations_limit}
-use Rattle.dwarf_units.specs.{Private.Numbers.number_at, Private.AbbreviationTables.Table}
-use Rattle.dwarf_units.specs.Private.AbbreviationTables.{table_size}
+use Rattle.dwarf_units.specs.Units.{declarations_limit}
+use Rattle.dwarf_units.specs.Private.AbbreviationTables.{Table, table_key, table_size}
+use Rattle.std.specs.{BTreeMap.{BTreeMap, get}, Ordering.nat_cmp}
 use Rattle.dwarf_bytes.specs.declared.fault.Section.TheVariants as sections
 
 -- The tables of a section by index, and the number of those that are cached permanently. A table
@@ -90,11 +90,10 @@ with_table k table =
 -- Each table is parsed from the section, and its format and offset map to its index. `budget` is
 -- the remaining budget. The temporary table, if there is one, exceeds it.
 pub record AreCached (section : List ℕ) (tables : List Table) (permanent budget : ℕ)
-    (numbers : Numbers)
-    : Type 0 where
+    (numbers : BTreeMap ℕ ℕ) : Type 0 where
   pub parsed : All (IsParsedFrom section) tables
   pub found : (i : ℕ) (table : Table) → slice_get tables i ≡ Some table
-      → number_at numbers table.format table.offset ≡ Some i
+      → get nat_cmp numbers (table_key table.format table.offset) ≡ Some i
   pub counted : budget + sum_by table_size (take permanent tables) ≡ size_limit section
   pub within : permanent ≤ length tables
   pub one : length tables ≤ permanent + 1

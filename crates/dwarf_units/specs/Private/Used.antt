@@ -1,36 +1,11 @@
 -- The used attributes of an entry as they are added one by one.
-use Rattle.std.specs.{Prelude.{ℕ, List, Bool, Option, Result, Ok, Err}, Option.option_or}
+use Rattle.std.specs.{Prelude.{ℕ, List, Bool, Result, Ok, Err}, Option.option_or}
 use Rattle.dwarf_bytes.specs.{declared.fault.Cause.Cause, declared.format.Format.Format, Bind.◌>>=◌}
 use Rattle.dwarf_forms.specs.declared.attribute.AttributeSpecification.{AttributeSpecification}
 use Rattle.dwarf_units.specs.declared.attributes.Attribute.{Attribute}
-use Rattle.dwarf_units.specs.declared.attributes.AttributeValue.{AttributeValue}
-use Rattle.dwarf_units.specs.declared.used_name.UsedName.{UsedName}
-use Rattle.dwarf_units.specs.declared.used_name.UsedName.TheVariants.{Name, LinkageName, LowPc}
-use Rattle.dwarf_units.specs.declared.used_name.UsedName.TheVariants.{AbstractOrigin, HighPc}
-use Rattle.dwarf_units.specs.declared.used_name.UsedName.TheVariants.{Specification, Ranges}
-use Rattle.dwarf_units.specs.declared.used_name.UsedName.TheVariants.{CallFile, CallLine, StmtList}
-use Rattle.dwarf_units.specs.declared.used_name.UsedName.TheVariants.{StrOffsetsBase, AddrBase}
-use Rattle.dwarf_units.specs.declared.used_name.UsedName.TheVariants.{RnglistsBase}
-use Rattle.dwarf_units.specs.{Entries.value_of, Used.{Used, used_among, value_named}}
-use Rattle.dwarf_units.specs.{Private.Names.name_of, Private.StoredAttributes.stored_attributes_at}
-
--- The used attributes, built from a function of the name.
-abbrev pub used_by : (UsedName → Option AttributeValue) → Used
-used_by value = record {
-  name = value Name;
-  linkage_name = value LinkageName;
-  abstract_origin = value AbstractOrigin;
-  specification = value Specification;
-  low_pc = value LowPc;
-  high_pc = value HighPc;
-  ranges = value Ranges;
-  call_file = value CallFile;
-  call_line = value CallLine;
-  stmt_list = value StmtList;
-  str_offsets_base = value StrOffsetsBase;
-  addr_base = value AddrBase;
-  rnglists_base = value RnglistsBase;
-}
+use Rattle.dwarf_units.specs.Entries.{value_of}
+use Rattle.dwarf_units.specs.Used.{Used, name_of, used_among, used_by, value_named}
+use Rattle.dwarf_units.specs.Private.StoredAttributes.{stored_attributes_at}
 
 -- The used attributes of `front`, and from a list the used attributes that `front` lacks.
 unfoldable pub with_used : Used → List Attribute → Used

@@ -1,7 +1,7 @@
 use Rattle.dwarf_entries.proofs
 use proofs.{◌≡◌, ℕ, ◌≤◌, List, [], ◌∷◌, ◌++◌, length, take, ◌∙◌, subst, arith, length-take}
 use proofs.{leb-true, Format, Declaration, All-contains, Lists, filter_map, LocatedNode, node_at}
-use proofs.{die_of, node_at-facts, list-in, FillsUnit, HasBounds, headers-in}
+use proofs.{die_of, node_at-advances, list-in, FillsUnit, HasBounds, headers-in}
 use Rattle.dwarf_entries.proofs.tree_laws.entries_are_contiguous.Goals as goal
 
 -- The last node ends where the unit ends.
@@ -11,8 +11,8 @@ filled : (format : Format) (table : List Declaration) (unit : List ℕ) (before 
 filled format table unit before at [] after h le =
     grind (arith, h, leb-true (length unit) at)
 filled format table unit before at (x ∷ all) after h le =
-    let here = node_at-facts format table unit before at x h.0 h.1 in
-    filled format table unit (before ++ x ∷ []) h.0 all after h.2 (omega (arith, here.moves.1))
+    let moved = node_at-advances format table unit before at x h.0 h.1 in
+    filled format table unit (before ++ x ∷ []) h.0 all after h.2 moved.1
 
 pub returns : goal.returns
 returns c info headers header table dies read inside h =
@@ -21,12 +21,11 @@ returns c info headers header table dies read inside h =
     let unit : List ℕ = take header.end info in
     let size : length unit ≡ header.end = let taken = length-take header.end info in
     omega (arith, taken, bounds.within) in
-    list-in info header table dies ((all : List LocatedNode) × FillsUnit info header table all
-    × (filter_map die_of all ≡ dies)) h (λ all after lists same.
-    let end_is : after ≡ header.end = filled header.format table unit [] header.first all after
-    lists (omega (arith, size, bounds.last)) ∙ size in (
-      all,
-      subst (λ (k : ℕ). Lists (node_at header.format table unit) [] header.first all k) end_is
-          lists,
-      same,
-    ))
+    let all = list-in info header table dies h in
+    let end_is : all.1 ≡ header.end = filled header.format table unit [] header.first all.0 all.1
+    all.2 (omega (arith, size, bounds.last)) ∙ size in (
+      all.0,
+      subst (λ (k : ℕ). Lists (node_at header.format table unit) [] header.first all.0 k) end_is
+          all.2,
+      all.3,
+    )

@@ -1,5 +1,5 @@
 use Rattle.dwarf_units.proofs
-use proofs.{arith, err_from_is_err_and, rest_attributes, own-rest, used_among, used-both, []}
+use proofs.{arith, err_from_is_err_and, rest_attributes, own-rest, used_among, used_both, []}
 use Rattle.dwarf_units.proofs.entry_head.EntryHead.read_attributes.Goals as goal
 
 pub returns-in_err-read : goal.returns-in_err-read
@@ -15,7 +15,7 @@ returns-in_err-read c =
       arith,
       p,
       whole,
-      used-both (used_among []),
+      used_both (used_among []),
       c.self.invariant.0,
       c.clear.ensures,
       c.in_err-read.ensures,
@@ -32,7 +32,7 @@ returns c =
     rw (← c.self.view_is) (grind (
       arith,
       whole,
-      used-both (used_among []),
+      used_both (used_among []),
       c.self.invariant.0,
       c.clear.ensures,
       c.list.ensures,

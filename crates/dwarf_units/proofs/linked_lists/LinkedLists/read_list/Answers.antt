@@ -1,6 +1,5 @@
 use Rattle.dwarf_units.proofs
-use proofs.{◌≡◌, ◌≤◌, length, ◌∙◌, arith, err_from_is_err_and, attributes_at, IsLink, first-read}
-use proofs.{with-none}
+use proofs.{◌≡◌, ◌≤◌, length, ◌∙◌, arith, IsLink, first_read}
 use Rattle.abbreviation_memo.proofs.ListLaws.{list-within}
 use Rattle.dwarf_units.proofs.linked_lists.LinkedLists.read_list.Goals as goal
 
@@ -9,14 +8,6 @@ link_of-requires-clause-links c = rw c.section-section.ensures c.self.invariant
 
 pub link_of-requires-in-Some-clause-links : goal.link_of-requires-in-Some-clause-links
 link_of-requires-in-Some-clause-links c = rw c.section-section.ensures c.self.invariant
-
-pub returns-in_err-read_one : goal.returns-in_err-read_one
-returns-in_err-read_one c =
-    let p = err_from_is_err_and c.from_residual-in_err-read_one.result
-    c.from_residual-in_err-read_one.ensures.1 in
-    let loop = c.loop-link in
-    let first = first-read c.args.keep c.args.format c.in-Some.attribute in
-    grind (arith, p, first, c.in-Some.is, loop.invariant, c.in_err-read_one.ensures)
 
 next-link : (c : goal.In_ok-link-2) → IsLink c.args.self.now c.loop-link.link.rest
     c.in_ok-link-2.link
@@ -42,14 +33,9 @@ loop-link-preserved c =
         arith,
         (next-link c).stored c.args.keep c.args.format c.args.cursor.now.bytes
             c.read_one.new.cursor.place within,
-        first-read c.args.keep c.args.format c.in-Some.attribute,
+        first_read c.args.keep c.args.format c.in-Some.attribute,
         c.in-Some.is,
         loop.invariant,
         c.in_ok-read_one.ensures,
       );
     }
-
-pub returns : goal.returns
-unfolding attributes_at
-returns c =
-    grind (arith, with-none c.loop-link.found, c.in_default.is, c.loop-link.invariant)
