@@ -59,7 +59,7 @@ pub use Rattle.std.proofs.{lemmas.Bool.{cases_lt, le-ltb, ne_eqb}, lemmas.Grind.
 pub use Rattle.std.proofs.lemmas.List.{drop_all, drop_more, get_or-take}
 pub use Rattle.std.proofs.{lemmas.List.Elements.All-push, lemmas.List.Sums.sum_by-append}
 pub use Rattle.std.proofs.{lemmas.List.Sums.sum_by_push, lemmas.Option.get_or_from_slice_get}
-pub use Rattle.std.proofs.lemmas.Option.{option_and_then_some, same_Some, slice_get-get_or}
+pub use Rattle.std.proofs.lemmas.Option.{option_and_then_some, same_Some}
 pub use Rattle.std.proofs.{lemmas.Option.slice_get_within, lemmas.Result.err_from_is_err_and}
 pub use Rattle.std.proofs.Common.{zero}
 pub use Rattle.std.specs.{List.{All, filter_map, list_any}, Option.{option_map_or, option_to_list}}

@@ -4,12 +4,11 @@ use Common.{◌≡◌, ℕ, ◌≤◌, List, [], ◌∷◌, Bool, length, arith,
 use Common.{after-bind, MovesOn, ValueFault, AttributeSpecification, Declaration, value_at}
 use Common.{Attribute, accepts, is_negative_count, Node, depth_after, is_root, reading_value}
 use Common.{attribute_at, attributes_at, node_at}
-use Rattle.std.proofs.Common.{not}
+use Common.{ℤ, Option, Value, ap, form_of, length-append}
+use Rattle.std.proofs.Common.{length-drop, not}
 use Rattle.dwarf_bytes.proofs.{Numbers.Advance.after-test, Numbers.Moves.uleb-moves}
 use Rattle.dwarf_units.specs.Entries.{form_at, node_at_depth}
 use Rattle.dwarf_forms.proofs.ValueEncodings.{value-decoded}
-use Rattle.std.proofs.Common.{length-drop}
-use Common.{ℤ, Option, Value, ap, form_of, length-append}
 use Rattle.dwarf_bytes.specs.declared.fault.Cause.TheVariants as causes
 
 -- A read of zero or more bytes does not move the offset back or beyond the end.
@@ -30,10 +29,6 @@ reading_value-ok : {A : Type 0} (r : Result A ValueFault) (x : A) → reading_va
     → r ≡ Ok x
 reading_value-ok r x h = grind arith
 
-form-stays : (form : ℕ) (bytes : List ℕ) (at : ℕ) (x : ℕ × ℕ) → at ≤ length bytes
-    → form_at form bytes at ≡ Ok x → StaysWithin bytes at x.1
-form-stays form bytes at x le h = grind (arith, uleb-moves bytes at)
-
 pub attribute-stays : (format : Format) (s : AttributeSpecification) (bytes : List ℕ) (at : ℕ)
     (x : Attribute × ℕ) → at ≤ length bytes → attribute_at format s bytes at ≡ Ok x
     → StaysWithin bytes at x.1
@@ -44,7 +39,7 @@ attribute-stays format s bytes at x le h =
     after-bind (reading_value (value_at form.0 format s.constant bytes form.1)) _ x h2 P
     (λ value value_is h3.
     after-test (is_negative_count s.name value.0.content) causes.AttrForm _ x h3 P (λ _ last.
-    let first = form-stays s.form bytes at form le form_is in
+    let first : StaysWithin bytes at form.1 = grind (arith, uleb-moves bytes at, form_is) in
     let second = value-stays form.0 format s.constant bytes form.1 value first.1
     (reading_value-ok (value_at form.0 format s.constant bytes form.1) value value_is) in
     grind (arith, first, second, last)))))

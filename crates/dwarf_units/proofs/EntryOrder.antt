@@ -22,6 +22,8 @@ nodes_are_depths format table unit end at all after h i d within =
 -- The entries of a unit are the nodes of its listing that are not null.
 pub list-in : (info : List ℕ) (header : UnitHeader) (table : List Declaration) (dies : List Die)
     → entries_of info header table ≡ Ok dies → (all : List LocatedNode) × (after : ℕ)
+    × (items_from header.end (node_at header.format table (take header.end info)) [] header.first
+    ≡ Ok (all, after))
     × Lists (node_at header.format table (take header.end info)) [] header.first all after
     × (filter_map die_of all ≡ dies)
 unfolding entries_of
@@ -30,6 +32,7 @@ list-in info header table dies h =
     let all = bind_ok (items_from header.end node [] header.first) _ dies h in (
       all.0.0,
       all.0.1,
+      all.1,
       Lists-within _ node [] header.first all.0.0 all.0.1 all.1,
       grind (arith, all.2),
     )
@@ -55,8 +58,8 @@ pub entries-rise : (info : List ℕ) (header : UnitHeader) (table : List Declara
     → header.first ≤ header.end → RiseWithin header.start header.end dies
 entries-rise info header table dies h front back =
     let all = list-in info header table dies h in
-    rw (← all.3) (list-rises header.format table (take header.end info) header.end
-    (omega (arith, length-take header.end info)) [] header.first all.0 all.1 all.2 header.start
+    rw (← all.4) (list-rises header.format table (take header.end info) header.end
+    (omega (arith, length-take header.end info)) [] header.first all.0 all.1 all.3 header.start
     front back)
 
 -- Offsets that are increasing within an interval are strictly increasing.
@@ -75,9 +78,9 @@ pub offsets_rise : (info : List ℕ) (header : UnitHeader) (table : List Declara
 offsets_rise info header table dies h =
     let all = list-in info header table dies h in
     let unit : List ℕ = take header.end info in
-    rw (← all.3) (increasing 0 (header.first + length unit) (filter_map die_of all.0)
+    rw (← all.4) (increasing 0 (header.first + length unit) (filter_map die_of all.0)
     (list-rises header.format table unit (header.first + length unit) (omega arith) [] header.first
-    all.0 all.1 all.2 0 (omega arith) (omega arith)))
+    all.0 all.1 all.3 0 (omega arith) (omega arith)))
 
 -- ---- entries that are re-read
 
@@ -120,5 +123,5 @@ pub entries_again : (info : List ℕ) (header : UnitHeader) (table : List Declar
     ≡ Ok ((die.tag, die.attributes), after))
 entries_again info header table dies h i die is =
     let all = list-in info header table dies h in
-    list-reread header.format table (take header.end info) [] header.first all.0 all.1 all.2 i die
-    (rw all.3 is)
+    list-reread header.format table (take header.end info) [] header.first all.0 all.1 all.3 i die
+    (rw all.4 is)

@@ -44,11 +44,6 @@ one-byte bytes at code there small = uleb-again bytes at code (at + 1) (record {
   next_is = refl;
 })
 
-shape-parts : (format : Format) (d : Declaration) (shape : NodeShape)
-    → shape_of format d ≡ Some shape → (fixed_size (runs_of format d.attributes) ≡ Some shape.len)
-    × (shape.is_null ≡ false) × (shape.tag ≡ d.tag) × (shape.children ≡ d.children)
-shape-parts format d shape h = grind arith
-
 -- Attributes that all have a fixed size end after this size.
 fixed-there : (format : Format) (declared : List AttributeSpecification) (bytes : List ℕ)
     (at size : ℕ) → fixed_size (runs_of format declared) ≡ Some size → at + size ≤ length bytes
@@ -82,7 +77,9 @@ shape-there table depth code unit at shape is there below within fits =
         → shape_of table.format d ≡ Some shape
         → IsFixedSizeNode table depth unit at (shape, at + 1 + shape.len)
     by_found some d found h =
-        let parts = shape-parts table.format d shape h in
+        let parts : (fixed_size (runs_of table.format d.attributes) ≡ Some shape.len)
+        × (shape.is_null ≡ false) × (shape.tag ≡ d.tag) × (shape.children ≡ d.children) =
+        grind (arith, h) in
         let read = fixed-there table.format d.attributes unit (at + 1) shape.len parts.0
         (omega (arith, fits)) in
         let deeper : (depth == 0) ≡ false = ne_eqb depth 0 (λ e. absurd (omega (arith, e, below)))

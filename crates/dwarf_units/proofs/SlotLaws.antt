@@ -86,10 +86,7 @@ among-append xs ys = same-used _ _ (λ name. rw (
 ) refl)
 
 pub with_none : (u : Used) → with_used u [] ≡ u
-with_none u = same-used _ _ (λ name. rw (with-named u [] name) (over (value_named name u)))
-  where
-    over : (x : Option AttributeValue) → option_or x None ≡ x
-    over x = grind arith
+with_none u = same-used _ _ (λ name. rw (with-named u [] name) (grind arith))
 
 pub with_twice : (u : Used) (xs ys : List Attribute) → with_used (with_used u xs) ys
     ≡ with_used u (xs ++ ys)
@@ -172,9 +169,4 @@ value-at format bytes first n used = among-named n (attributes_in format bytes f
           (λ a. a.name == name_of n) (λ p. sym (same-slot p.name n)) used,
       find_at _ used,
     )
-    (read (slice_get used (index_in (slot_of n) used))))
-  where
-    read : (found : Option UsedPosition) → option_map (λ (a : Attribute). a.value)
-        (option_map (attribute_in format bytes first) found)
-        ≡ option_map (value_in format bytes first) found
-    read found = grind arith
+    (grind arith))

@@ -1,13 +1,13 @@
 -- The loop of the walk over a unit.
 use Rattle.std.proofs.Common.{◌≡◌, ℕ, ◌<◌, ◌≤◌, ◌⊎◌, List, [], ◌∷◌, ◌++◌, false, length, take, refl}
 use Rattle.std.proofs.Common.{ap, sym, ◌∙◌, arith, length-take, is_some, Result, Ok, Err, nat_le}
-use Rattle.std.proofs.Common.{cond, Some, None, count_by, option_to_list, nat_lt}
+use Rattle.std.proofs.Common.{cond, Some, None, count_by, option_to_list}
 use Rattle.std.proofs.{lemmas.Bool.{lt-leb, le-leb}, lemmas.Grind.common_steps}
 use Rattle.std.proofs.{lemmas.List.map-append, lemmas.List.Elements.filter_map-append}
 use Rattle.std.proofs.{lemmas.List.Folds.list_any-append, lemmas.List.Sums.sum_by-append}
 use Rattle.std.specs.List.{filter_map, list_any}
-use Rattle.dwarf_bytes.specs.{Bind.◌>>=◌, Items.{Next, Item, End, Advances, At, refuse_if}}
-use Rattle.dwarf_bytes.specs.{Items.with_offset, Refusals.{memory_fault, at_item, in_section}}
+use Rattle.dwarf_bytes.specs.{Bind.◌>>=◌, Items.{Next, Item, End, Advances, At}}
+use Rattle.dwarf_bytes.specs.Refusals.{memory_fault, at_item, in_section}
 use Rattle.dwarf_bytes.specs.{Refusals.Fails, declared.fault.Cause.Cause}
 use Rattle.dwarf_bytes.specs.{declared.fault.LoadFault.LoadFault, declared.format.Format.Format}
 use Rattle.dwarf_bytes.proofs.Items.Turns.{SoFar, so-far-item, so-far-end, so-far-fault}
@@ -25,7 +25,6 @@ use Rattle.dwarf_walk.specs.declared.entry_bitmap.EntryBitmap.{EntryBitmap}
 use Rattle.dwarf_walk.proofs.{BitmapLaws.adds-more, ScopeLaws.{walked-push, least-push}}
 use Rattle.dwarf_walk.proofs.ScopeLaws.{are-bounded}
 use Rattle.dwarf_bytes.specs.declared.fault.Section.TheVariants as sections
-use Rattle.dwarf_bytes.specs.declared.fault.Cause.TheVariants as causes
 
 -- The node at an offset, after a list of nodes.
 abbrev standing : List LocatedNode → ℕ → Node → LocatedNode
@@ -166,11 +165,3 @@ pub walk-bounded : (nodes : Result (List LocatedNode × ℕ) At) (w : WalkState)
 walk-bounded (Err e) w h = cc
 walk-bounded (Ok all) w h =
     rw (← same-ok (state_after all.0) w h) (are-bounded 0 (filter_map die_of all.0))
-
--- The entries of a unit are those of its nodes.
-pub unit-nodes : (start : ℕ) (nodes : Result (List LocatedNode × ℕ) At) (dies : List Die)
-    → (nodes >>= λ all. with_offset start (refuse_if (nat_lt 0 (depth_after all.0)) causes.TreeOpen)
-    >>= λ _. Ok (filter_map die_of all.0)) ≡ Ok dies
-    → (all : List LocatedNode × ℕ) × (nodes ≡ Ok all) × (dies ≡ filter_map die_of all.0)
-unit-nodes start (Err e) dies h = cc
-unit-nodes start (Ok all) dies h = (all, refl, grind (arith, h))

@@ -23,9 +23,9 @@ returns c info headers header table dies read inside h =
     omega (arith, taken, bounds.within) in
     let all = list-in info header table dies h in
     let end_is : all.1 ≡ header.end = filled header.format table unit [] header.first all.0 all.1
-    all.2 (omega (arith, size, bounds.last)) ∙ size in (
+    all.3 (omega (arith, size, bounds.last)) ∙ size in (
       all.0,
       subst (λ (k : ℕ). Lists (node_at header.format table unit) [] header.first all.0 k) end_is
-          all.2,
-      all.3,
+          all.3,
+      all.4,
     )

@@ -1,7 +1,8 @@
 use Rattle.std.proofs.Common.{arith, rules}
 use Rattle.dwarf_units.specs.Entries.{entries_of}
 use Rattle.dwarf_walk.specs.Private.Readers.{nodes_of, walk_of}
-use Rattle.dwarf_walk.proofs.{ScopeLaws.places-counted, WalkTurns.{walk-bounded, unit-nodes}}
+use Rattle.dwarf_units.proofs.EntryOrder.{list-in}
+use Rattle.dwarf_walk.proofs.{ScopeLaws.places-counted, WalkTurns.walk-bounded}
 use Rattle.dwarf_walk.proofs.walk.entries.Goals as goal
 
 pub returns-in_err-walk-clause-decodes : goal.returns-in_err-walk-clause-decodes
@@ -23,8 +24,6 @@ unfolding walk_of entries_of
 returns-clause-decodes c = grind (arith, places-counted)
 
 pub returns-clause-bitmap : goal.returns-clause-bitmap
-unfolding entries_of
 returns-clause-bitmap c dies is =
-    let all = unit-nodes c.args.header.start (nodes_of c.args.info.now c.args.header
-    c.args.table.now.declarations) dies is in
-    rw all.2 (c.in_ok-walk.ensures.bitmap all.0 all.1)
+    let all = list-in c.args.info.now c.args.header c.args.table.now.declarations dies is in
+    rw (← all.4) (c.in_ok-walk.ensures.bitmap (all.0, all.1) all.2)
