@@ -7,7 +7,7 @@ use Common.{NamedEntry, UnitPlace, CompilationUnit, Member, target_of, chain_wit
 use Common.{Reference, first_on, IsPlaceOf, Finds, same_Some, ◌==◌, DW_AT_LINKAGE_NAME, DW_AT_NAME}
 use Common.{EntryNames, Sections, names_of, member_in, name_on, references_limit, slot_at}
 use Common.{IsCacheOf, NameCache, attribute, append_assoc, ◌&&◌, if◌then◌else◌, of_member, IsFirst}
-use Common.{AreFirst, FindsFirst, LeadsTo, UnitAttribute, UnitEntry, FirstNames, CachedNames}
+use Common.{AreFirst, FindsFirst, UnitAttribute, UnitEntry, FirstNames}
 use Common.{slot_of, second_names, target_names, are_narrow, or_else, next_of, OriginDepth, chosen}
 
 -- ---- the first attribute with a name
@@ -112,21 +112,17 @@ module _ {units : List CompilationUnit} {remaining : ℕ} {m : Member} {left : �
 
 -- ---- the cached names
 
-abbrev cached_names : UnitPlace → EntryNames → CachedNames
-cached_names place names = record { place = place; names = names }
-
 -- The cache remains valid after the names of one more entry are added.
 pub cache-more : (s : Sections) (units : List CompilationUnit) (old new : NameCache)
     (place : UnitPlace) (names : EntryNames) → IsCacheOf s units old
     → ((slot : ℕ) → slot_at new slot ≡ if (slot == slot_of place) && are_narrow place names then
-    Some (cached_names place names) else slot_at old slot)
-    → (m : Member) → member_in units place.unit place.offset ≡ Ok m → second_names s units m
-    ≡ Ok names
+    Some (record { place = place; names = names }) else slot_at old slot)
+    → (member_in units place.unit place.offset >>= λ m. second_names s units m) ≡ Ok names
     → IsCacheOf s units new
-cache-more s units old new place names knew put m there led_is slot packed is =
-    chosen ((slot == slot_of place) && are_narrow place names) (Some (cached_names place names))
-    (slot_at old slot) (Some packed) (sym (put slot) ∙ is) _
-    (λ _ h. rw (← same_Some _ packed h) (m, there, led_is)) (λ _ h. knew slot packed h)
+cache-more s units old new place names knew put read slot packed is =
+    chosen ((slot == slot_of place) && are_narrow place names)
+    (Some (record { place = place; names = names })) (slot_at old slot) (Some packed)
+    (sym (put slot) ∙ is) _ (λ _ h. rw (← same_Some _ packed h) read) (λ _ h. knew slot packed h)
 
 -- ---- the names of an entry that has no name of its own
 
@@ -150,14 +146,3 @@ names-by-reference s units number entry m reference at parts =
         → ((t >>= λ n. in_front m (chain n)) >>= λ path. on_path s path)
         ≡ (t >>= λ n. chain n >>= λ path. on_path s path)
     by_target no_name no_linkage_name t chain = grind arith
-
--- ---- the names of the target of a reference
-
-pub packed-cache : (s : Sections) (units : List CompilationUnit) (u : CompilationUnit)
-    (reference : AttributeValue) (place : UnitPlace) (names : EntryNames) (cache : NameCache)
-    → IsCacheOf s units cache
-    → slot_at cache (slot_of place) ≡ Some (cached_names place names)
-    → LeadsTo units (Some place) (target_of units u reference) → target_names s units u reference
-    ≡ Ok names
-packed-cache s units u reference place names cache knew is leads =
-    let at = knew (slot_of place) (cached_names place names) is in rw (leads, at.1) at.2

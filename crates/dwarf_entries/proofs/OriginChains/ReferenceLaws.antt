@@ -31,8 +31,7 @@ none-outside : (from end : ℕ) (dies : List Die) (offset : ℕ) → RiseWithin 
 none-outside from end [] offset h out = refl
 none-outside from end (die ∷ dies) offset h out =
     let past = within-le (suc die.offset) end dies h.1 in
-    let rest = none-outside (suc die.offset) end dies offset h.1 in
-    grind (arith, h.0)
+    grind (arith, h.0, none-outside (suc die.offset) end dies offset h.1)
 
 find-map : {X Y : Type 0} (p : Y → Bool) (f : X → Y) (xs : List X)
     → find p (map f xs) ≡ option_map f (find (λ x. p (f x)) xs)
@@ -64,7 +63,7 @@ only-in [] n offset none = refl
 only-in (u ∷ us) zero offset none =
     let rest = only-in us (length us) offset (λ i v found differs. none (suc i) v found
     (λ (e : suc i ≡ zero). cc)) in
-    grind (arith, find-units u us offset, find-units u [] offset, slice_get_past us (length us))
+    grind (arith, find-units, slice_get_past)
 only-in (u ∷ us) (suc n) offset none =
     let rest = only-in us n offset (λ i v found differs. none (suc i) v found
     (λ (e : suc i ≡ suc n). differs (omega (arith, e)))) in
@@ -137,5 +136,4 @@ pub within-unit : (us : List CompilationUnit) (n offset : ℕ) (u : CompilationU
     (reference : AttributeValue) → (reference.form ≡ DW_FORM_REF_ADDR → ⊥)
     → slice_get us n ≡ Some u → offset ≡ u.header.start + reference.number
     → member_in us n offset ≡ target_of us u reference
-within-unit us n offset u reference form at place =
-    rw (ne_eqb reference.form DW_FORM_REF_ADDR form, at, place) refl
+within-unit us n offset u reference form at place = grind (arith, ne_eqb)

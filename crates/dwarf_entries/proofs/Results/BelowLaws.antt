@@ -12,8 +12,7 @@ module _ {X : Type 0} (p : X → Bool) (xs : List X) where
   counted place = count_by p (take place xs)
 
   counted-add : (a b : ℕ) → counted (a + b) ≡ counted a + count_by p (take b (drop a xs))
-  counted-add a b = ap (λ (ys : List X). count_by p ys) (take-add a b xs)
-      ∙ sum_by-append _ (take a xs) (take b (drop a xs))
+  counted-add a b = grind (arith, take-add, sum_by-append)
 
   pub counted-rises : (a b : ℕ) → a ≤ b → counted a ≤ counted b
   counted-rises a b le =
@@ -28,8 +27,7 @@ module _ {X : Type 0} (p : X → Bool) (xs : List X) where
   counted-before : (place : ℕ) (d : X) → slice_get xs place ≡ Some d → p d ≡ true → (end : ℕ)
       → (counted place < counted end) ↔ (place < end)
   counted-before place d is passes end =
-      let more = counted-one place d is passes in
-      grind (arith, counted-rises end place, counted-rises (place + 1) end)
+      grind (arith, counted-rises end place, counted-rises (place + 1) end, counted-one)
 
 -- The index after the entries below an entry.
 abbrev pub past_below : List Die → ℕ → Die → ℕ
@@ -45,7 +43,6 @@ from-below dies i j outer is h =
     let stops = prefix_len_stops deeper rest outer in
     let at_m = get_or-drop (i + 1) dies m outer in
     let here = get_or_from_slice_get dies i outer outer is in
-    let lt = h.2 (i + 1 + m) outer (omega arith) in
     (h.0, grind (arith, h.1))
 
 to-below : (dies : List Die) (i j : ℕ) (outer : Die) → slice_get dies i ≡ Some outer → i < j
@@ -90,17 +87,12 @@ scopes-between dies i j outer inner outer_is inner_is outer_scope inner_scope =
     (past_below dies i outer) in
     let end = ends-are dies i outer outer_is outer_scope in
     let from = from-below dies i j outer outer_is in
-    let to = to-below dies i j outer outer_is in
-    grind (arith, first, last, end)
+    grind (arith, first, last, end, to-below)
 
 -- ---- the end of a scope below another
 
 below-trans : (dies : List Die) (i j k : ℕ) → IsBelow dies j i → IsBelow dies k j → IsBelow dies k i
-below-trans dies i j k outer inner = (
-  omega (arith, outer.0, inner.0),
-  inner.1,
-  λ m d lt le. grind (arith, outer.0, outer.2 j d, outer.2 m d, inner.2 m d),
-)
+below-trans dies i j k outer inner = grind arith
 
 pub ends-within : (dies : List Die) (i j : ℕ) (outer inner : Die) → slice_get dies i ≡ Some outer
     → slice_get dies j ≡ Some inner → is_scope outer ≡ true → is_scope inner ≡ true
@@ -116,4 +108,4 @@ ends-within dies i j outer inner outer_is inner_is outer_scope inner_scope under
     (grind (arith, deeper, later, from-below dies i k outer outer_is)) in
     let first = ends-are dies i outer outer_is outer_scope in
     let second = ends-are dies j inner inner_is inner_scope in
-    omega (arith, first, second, less)
+    grind (arith, first, second, less)

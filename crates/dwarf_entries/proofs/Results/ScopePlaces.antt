@@ -2,9 +2,9 @@
 -- its index, and a scope that starts inside another one also ends inside it.
 use Rattle.dwarf_entries.proofs.Common
 use Common.{◌≡◌, ℕ, zero, suc, ◌+◌, ◌<◌, ◌≤◌, cond, List, [], ◌∷◌, take, ap, arith, ◌↔◌, Some}
-use Common.{slice_get, is_some, count_by, slice_get_within, Die, below, IsBelow, RiseWithin}
+use Common.{slice_get, is_some, count_by, slice_get_within, Die, IsBelow, RiseWithin}
 use Common.{is_scope, Sections, CompilationUnit, ScopeSite, first_number, sum_by-take-le}
-use Common.{common_steps, length, get_or, refl, Ok, slice_get-get_or, Scope, Tree, tree_of}
+use Common.{length, get_or, refl, Ok, slice_get-get_or, Scope, Tree, tree_of}
 use Common.{AreNumbered, AreInOrder, take-take, recursion_from_All, AreNested}
 use Rattle.dwarf_entries.proofs.OriginChains.ReferenceLaws.{within-le}
 use Rattle.dwarf_entries.proofs.Results.BelowLaws.{counted-rises, ends-are}
@@ -37,8 +37,7 @@ before-later {us} {i} {k} {p = p} at j lt =
 pub rise-at : (from end : ℕ) (dies : List Die) (k : ℕ) (d : Die) → RiseWithin from end dies
     → slice_get dies k ≡ Some d → (from ≤ d.offset) × (d.offset < end)
 rise-at from end [] k d rise h = cc
-rise-at from end (x ∷ dies) zero d rise h =
-    grind (arith, common_steps, within-le (suc x.offset) end dies rise.1)
+rise-at from end (x ∷ dies) zero d rise h = grind (arith, within-le)
 rise-at from end (x ∷ dies) (suc k) d rise h =
     grind (arith, rise-at (suc x.offset) end dies k d rise.1 h)
 
@@ -46,8 +45,7 @@ pub rise-order : (from end : ℕ) (dies : List Die) (i j : ℕ) (d e : Die) → 
     → slice_get dies i ≡ Some d → slice_get dies j ≡ Some e → i < j → d.offset < e.offset
 rise-order from end [] i j d e rise d_is e_is lt = cc
 rise-order from end (x ∷ dies) i zero d e rise d_is e_is lt = absurd (omega (arith, lt))
-rise-order from end (x ∷ dies) zero (suc j) d e rise d_is e_is lt =
-    grind (arith, rise-at (suc x.offset) end dies j e rise.1 e_is)
+rise-order from end (x ∷ dies) zero (suc j) d e rise d_is e_is lt = grind (arith, rise-at)
 rise-order from end (x ∷ dies) (suc i) (suc j) d e rise d_is e_is lt =
     rise-order (suc x.offset) end dies i j d e rise.1 d_is e_is (omega (arith, lt))
 
@@ -92,7 +90,6 @@ module _ {us : List CompilationUnit} {i j k l n m : ℕ} {p q : ScopeSite}
       let past = before-later b i in
       let first = site-within are a in
       let second = site-within are b in
-      let apart = are.apart i j p.member.unit q.member.unit a.unit_is b.unit_is in
       grind (arith, a, b)
 
 -- ---- the order of scopes

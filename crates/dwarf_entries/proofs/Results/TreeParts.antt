@@ -1,10 +1,10 @@
 -- The units and scopes that a result was read from.
 use Rattle.dwarf_entries.proofs.Common
-use Common.{◌≡◌, ℕ, ◌+◌, List, [], length, take, map, ap, sym, ◌∙◌, arith, length-take, refl}
+use Common.{◌≡◌, ℕ, ◌+◌, List, [], length, take, map, sym, ◌∙◌, arith, length-take, refl}
 use Common.{Result, Ok, Some, Contains, slice_get, slice_get-get_or, slice_get_within, Cause}
-use Common.{in_section, bind_ok, same-ok, in_section-ok, Sections, EntryNames, CompilationUnit}
+use Common.{bind_ok, same-ok, in_section-ok, Sections, EntryNames, CompilationUnit}
 use Common.{units_read, names_of, Tree, Scope, ScopeSite, ParsedScope, scope_at, tree_of}
-use Common.{roots_from, stmt_list_of, parse_scope, all_sites, all_scopes, DebugInfo, with_offset}
+use Common.{roots_from, stmt_list_of, parse_scope, all_sites, all_scopes, with_offset}
 use Common.{scope_of_site, covers_there, Fits, covers-fits, each-length, items_limit, length-map}
 use Common.{sum_by, ◌-◌}
 use Rattle.dwarf_entries.proofs.ScopePasses.SiteLaws.{IsSiteAt, site-at}
@@ -25,20 +25,7 @@ pub record IsReadFrom (s : Sections) (us : List CompilationUnit) (tree : Tree) :
 pub tree-parts : (s : Sections) (tree : Tree) → tree_of s ≡ Ok tree
     → (us : List CompilationUnit) × IsReadFrom s us tree
 unfolding tree_of
-tree-parts s tree h =
-    let a = bind_ok (units_read s) _ tree h in
-    let b = bind_ok (in_section DebugInfo (all_scopes s a.0)) _ tree a.2 in
-    rw (← same-ok _ tree b.2) (
-      a.0,
-      record {
-        us_are = a.1;
-        are = units-in s a.0 a.1;
-        parsed = b.0;
-        parsed_are = in_section-ok DebugInfo (all_scopes s a.0) b.0 b.1;
-        roots_are = refl;
-        scopes_are = refl;
-      },
-    )
+tree-parts s tree h = grind (arith, bind_ok, same-ok, units-in, in_section-ok)
 
 -- The same for the units that were read.
 pub tree-with : (s : Sections) (us : List CompilationUnit) (tree : Tree) → units_read s ≡ Ok us
@@ -114,11 +101,9 @@ module _ {s : Sections} {us : List CompilationUnit} {tree : Tree} (t : IsReadFro
       })
 
   pub scopes-count : length tree.scopes ≡ length (all_sites us)
-  scopes-count = rw (t.scopes_are, length-map t.parsed (λ (j : ParsedScope). j.scope))
-      (each-length (parse_scope s us) [] (all_sites us) t.parsed t.parsed_are)
+  scopes-count = grind (arith, length-map, each-length)
 
 -- A scope of the list has an index.
 pub contained : (scopes : List Scope) (scope : Scope) → Contains scopes scope
     → (n : ℕ) × (slice_get scopes n ≡ Some scope)
-contained scopes scope (k, lt, is) =
-    (k, slice_get-get_or scopes k scope lt ∙ ap (λ (x : Scope). Some x) is)
+contained scopes scope (k, lt, is) = grind (arith, slice_get-get_or)

@@ -2,9 +2,9 @@
 -- scopes of a result share, to which one more scope is appended.
 use Rattle.dwarf_entries.proofs.Common
 use Common.{Global, Vec, ◌≡◌, ℕ, zero, suc, ◌-◌, List, [], ◌∷◌, length, take, drop, refl, ap, ◌∙◌}
-use Common.{arith, ◌+◌, ◌≤◌, ◌++◌, length-append, slice_get, option_map, Range, Root, take_all}
+use Common.{arith, ◌+◌, ◌≤◌, ◌++◌, length-append, slice_get, option_map, Range, Root}
 use Common.{CallSite, scopes_from, facts_of, IsPushed, ScopeFacts, ScopeLists, common_steps}
-use Common.{length-drop, scope_of, call_site, scopes_of, wide_index, ranges_start, IsInList}
+use Common.{length-drop, scope_of, call_site, scopes_of, ranges_start, IsInList}
 use Common.{AreConsecutive, Calls, take-append-le, drop-append-le, get_or_append_left}
 use Common.{unwrap_or-slice_get, drop-append_seam, Some, map, slice_get-map, Scope, Own, own}
 use Common.{own_of, AreNumbered, AreInOrder, HasDataOf}
@@ -42,8 +42,7 @@ module _ (roots : List Root) (wide : List CallSite) (ranges : List Range) where
       (slice_get ss n)
   scopes-at first [] n = refl
   scopes-at first (s ∷ ss) zero = refl
-  scopes-at first (s ∷ ss) (suc n) =
-      let rest = scopes-at s.ranges_end ss n in grind (arith, common_steps)
+  scopes-at first (s ∷ ss) (suc n) = grind (arith, scopes-at s.ranges_end ss n)
 
   pub scopes-length : (first : ℕ) (ss : List StoredScope)
       → length (scopes_from roots wide ranges first ss) ≡ length ss
@@ -69,10 +68,7 @@ in_list-within many first past (s ∷ ss) in_list =
 call-stays : (wide more : List CallSite) (c : Calls) (file line : ℕ)
     → IsInList (length wide) c file line
     → call_site (wide ++ more) c file line ≡ call_site wide c file line
-call-stays wide more c file line in_list =
-    let index : ℕ = wide_index file line in
-    let left = get_or_append_left wide more in
-    grind (arith, left, unwrap_or-slice_get (wide ++ more) index, unwrap_or-slice_get wide index)
+call-stays wide more c file line in_list = grind (arith, get_or_append_left, unwrap_or-slice_get)
 
 pub scopes-push : (roots : List Root) (wide more : List CallSite) (ranges new : List Range)
     (first : ℕ) (ss : List StoredScope) (s : StoredScope) → AreConsecutive (length wide) first
@@ -81,17 +77,14 @@ pub scopes-push : (roots : List Root) (wide more : List CallSite) (ranges new : 
     → scopes_from roots (wide ++ more) (ranges ++ new) first (ss ++ s ∷ [])
     ≡ scopes_from roots wide ranges first ss ++ scope_of roots (wide ++ more) new s ∷ []
 scopes-push roots wide more ranges new first [] s in_list ends =
-    let size : s.ranges_end - first ≡ length new = omega (arith, in_list, ends) in
-    let whole = take_all (length new) new (omega arith) in
-    rw (size, in_list, drop-append_seam ranges new, whole) refl
+    grind (arith, common_steps, drop-append_seam)
 scopes-push roots wide more ranges new first (t ∷ ts) s in_list ends =
     let past = in_list-within (length wide) t.ranges_end (length ranges) ts in_list.2 in
     let size = length-drop first ranges in
     let rest = scopes-push roots wide more ranges new t.ranges_end ts s in_list.2 ends in
-    let site = call-stays wide more t.calls t.call_file t.call_line in_list.1 in
     let front = drop-append-le first ranges new in
     let part = take-append-le (t.ranges_end - first) (drop first ranges) new in
-    grind (arith, in_list.0)
+    grind (arith, in_list.0, call-stays)
 
 pub in_list-push : (many more first past new : ℕ) (ss : List StoredScope) (s : StoredScope)
     → AreConsecutive many first past ss → s.ranges_end ≡ past + new

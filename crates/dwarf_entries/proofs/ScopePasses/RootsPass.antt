@@ -5,7 +5,7 @@ use Common.{arith, Bool, Option, Some, None, count_by, slice_get, nat_lt, slice_
 use Common.{get_or_from_slice_get, UnitEntries, is_scope, Root, CompilationUnit, roots_from}
 use Common.{stmt_list_of, number_of_scopes, first_number, find, take_more, sum_by-take-le, find_at}
 use Common.{IsNonDecreasingBy, IsPartitionPoint, ArePartsFrom, stmt_list_by_number}
-use Common.{position_or_len_is, lt-ltb, le-ltb, RootEntry, root_in, common_steps, ◌-◌}
+use Common.{position_or_len_is, lt-ltb, le-ltb, RootEntry, root_in, ◌-◌}
 use Rattle.dwarf_entries.proofs.ScopePasses.SiteLaws.{first-next, number-cons, sites-count}
 use Rattle.dwarf_entries.proofs.UnitPasses.{RereadLaws.sites-stored, UnitLaws.StoredFor}
 
@@ -37,17 +37,15 @@ module _ {us : List CompilationUnit} {index : ℕ} {unit : UnitEntries}
   pub past-is : (past ≡ first_number us (index + 1)) × (past ≤ number_of_scopes us)
   past-is =
       let next = first-next us index here.unit here.is in
-      let fits = sum_by-take-le (λ (u : CompilationUnit). count_by is_scope u.dies) us (index + 1)
-      in grind (arith, ends, first_is)
+      grind (arith, ends, first_is, sum_by-take-le)
 
   pub roots-next : (found : Option RootEntry) (roots : List Root) → unit.root ≡ found
       → roots ≡ roots_from 0 (take index us)
       → roots ++ root_list first past found ≡ roots_from 0 (take (index + 1) us)
   roots-next found roots found_is so_far =
-      let more = take_more us index here.unit (slice_get_within us index here.unit here.is) in
       let item = get_or_from_slice_get us index here.unit here.unit here.is in
       let push = roots-push 0 (take index us) here.unit first past in
-      grind (arith, ends, first_is, here.stored)
+      grind (arith, ends, first_is, here.stored, take_more, slice_get_within)
 
 -- The scopes of the roots end in order, after a lower bound.
 parts-rise : (number end : ℕ) (roots : List Root) → ArePartsFrom number end roots → (i j : ℕ)
@@ -55,8 +53,7 @@ parts-rise : (number end : ℕ) (roots : List Root) → ArePartsFrom number end 
     → (number ≤ (get_or roots j d).past) × ((get_or roots i d).past ≤ (get_or roots j d).past)
 parts-rise number end [] parts i j d le lt = absurd (omega (arith, lt))
 parts-rise number end (root ∷ roots) parts i j d le lt =
-    let later = parts-rise root.past end roots parts.2 (i - 1) (j - 1) d in
-    grind (arith, common_steps, parts.1)
+    grind (arith, parts-rise root.past end roots parts.2 (i - 1) (j - 1) d)
 
 -- The roots partition the numbers of the scopes.
 pub roots-part : (number : ℕ) (units : List CompilationUnit)
@@ -64,10 +61,9 @@ pub roots-part : (number : ℕ) (units : List CompilationUnit)
 roots-part number [] = omega arith
 roots-part number (unit ∷ units) =
     let past : ℕ = number + count_by is_scope unit.dies in
-    let end : past + number_of_scopes units ≡ number + number_of_scopes (unit ∷ units) =
-    omega (arith, number-cons unit units) in
-    let rest = rw end at (roots-part past units) in
-    grind arith
+    let end : past + number_of_scopes units ≡ number + number_of_scopes (unit ∷ units) = omega
+    (arith, number-cons unit units) in
+    grind (arith, past, roots-part past units)
 
 pub ends-rise : (us : List CompilationUnit) (roots : List Root) → roots ≡ roots_from 0 us
     → IsNonDecreasingBy (λ r. r.past) roots
@@ -95,8 +91,7 @@ pub by_number : (first : ℕ) (us : List CompilationUnit) (u : CompilationUnit) 
     → number < first + first_number us index + count_by is_scope u.dies
     → stmt_list_by_number (roots_from first us) number ≡ stmt_list_of u.dies
 by_number first [] u index number found after inside = cc
-by_number first (v ∷ vs) u zero number found after inside =
-    grind (arith, lt-ltb number (first + count_by is_scope v.dies))
+by_number first (v ∷ vs) u zero number found after inside = grind (arith, lt-ltb)
 by_number first (v ∷ vs) u (suc index) number found after inside =
     let past : ℕ = first + count_by is_scope v.dies in
     let later = by_number past vs u index number found in

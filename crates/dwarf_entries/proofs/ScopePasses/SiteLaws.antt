@@ -13,9 +13,8 @@ pub sites-count : (unit : CompilationUnit) (dies : List Die) → length (sites_i
     ≡ count_by is_scope dies
 sites-count unit [] = refl
 sites-count unit (die ∷ dies) =
-    let rest = sites-count unit dies in
     let sum = sum_by-cons (λ x. cond (is_scope x) 1 0) die dies in
-    grind arith
+    grind (arith, sites-count unit dies)
 
 -- The site of an entry.
 abbrev pub site_at : CompilationUnit → Die → List Die → ScopeKind → ScopeSite
@@ -43,14 +42,11 @@ index_of (die ∷ dies) (suc n) = suc (index_of dies (cond (is_scope die) n (suc
 pub site-in : (u : CompilationUnit) (dies : List Die) (n : ℕ) (p : ScopeSite)
     → slice_get (sites_in u dies) n ≡ Some p → IsSiteIn u dies n (index_of dies n) p
 site-in u [] n p h = cc
-site-in u (die ∷ rest) zero p h =
-    let later = site-in u rest zero p in
-    grind (arith, add-one, sum_by-cons (λ x. cond (is_scope x) 1 0) die)
+site-in u (die ∷ rest) zero p h = grind (arith, add-one, sum_by-cons, site-in u rest zero p)
 site-in u (die ∷ rest) (suc n) p h =
     let later = site-in u rest n p in
     let same = site-in u rest (suc n) p in
     let sum = sum_by-cons (λ x. cond (is_scope x) 1 0) die (take (index_of rest n) rest) in
-    let all = sum_by-cons (λ x. cond (is_scope x) 1 0) die (take (index_of rest (suc n)) rest) in
     let one : suc (index_of rest n) + 1 ≡ suc (index_of rest n + 1) = omega arith in
     let next : suc (index_of rest (suc n)) + 1 ≡ suc (index_of rest (suc n) + 1) = omega arith in
     grind arith
@@ -63,9 +59,8 @@ site-of : (u : CompilationUnit) (dies : List Die) (k : ℕ) (die : Die) (kind : 
 site-of u [] k die kind h is = cc
 site-of u (d ∷ rest) zero die kind h is = grind arith
 site-of u (d ∷ rest) (suc k) die kind h is =
-    let later = site-of u rest k die kind h is in
     let sum = sum_by-cons (λ x. cond (is_scope x) 1 0) d (take k rest) in
-    grind arith
+    grind (arith, site-of u rest k die kind h is)
 
 -- ---- the sites of all units
 
@@ -76,8 +71,7 @@ number-cons = sum_by-cons (λ (v : CompilationUnit). count_by is_scope v.dies)
 pub all-sites-count : (us : List CompilationUnit) → length (all_sites us) ≡ number_of_scopes us
 all-sites-count [] = refl
 all-sites-count (u ∷ us) =
-    let sizes = length-append (sites_in u u.dies) (all_sites us) in
-    omega (arith, sizes, number-cons u us, sites-count u u.dies, all-sites-count us)
+    grind (arith, length-append, number-cons, sites-count, all-sites-count us)
 
 pub first-all : (us : List CompilationUnit) (i : ℕ) → length us ≤ i
     → first_number us i ≡ length (all_sites us)
@@ -100,12 +94,16 @@ pub all-sites-at : (us : List CompilationUnit) (i m n : ℕ) (u : CompilationUni
     → slice_get us i ≡ Some u → slice_get (sites_in u u.dies) m ≡ Some p
     → n ≡ first_number us i + m → slice_get (all_sites us) n ≡ Some p
 all-sites-at [] i m n u p found here is = cc
-all-sites-at (v ∷ us) zero m n u p found here is =
-    grind (arith, at-front (sites_in v v.dies) (all_sites us) n p)
+all-sites-at (v ∷ us) zero m n u p found here is = grind (arith, at-front)
 all-sites-at (v ∷ us) (suc i) m n u p found here is =
-    let rest = all-sites-at us i m (first_number us i + m) u p found here refl in
-    let place = number-cons v (take i us) in
-    grind (arith, at-right (sites_in v v.dies) (all_sites us) n, sites-count v v.dies)
+    grind (
+      arith,
+      number-cons,
+      at-right,
+      sites-count,
+      all-sites-at us i m (first_number us i + m) u
+          p found here refl,
+    )
 
 -- A site is that of the entry at an index of the unit at an index.
 pub record IsSiteAt (us : List CompilationUnit) (unit index n : ℕ) (p : ScopeSite) : Type 0 where

@@ -22,8 +22,7 @@ offset-stays format bytes at x h =
 header_in-first : (start : ℕ) (format : Format) (unit : List ℕ) (at : ℕ) (header : UnitHeader)
     → header_in start format unit at ≡ Ok header
     → (at ≤ header.first) × (header.first ≤ length unit)
-header_in-first start format unit at header h =
-    grind (arith, fixed-stays 1 unit, fixed-stays 2 unit, offset-stays format unit)
+header_in-first start format unit at header h = grind (arith, fixed-stays, offset-stays)
 
 -- The bounds in a header are in order, within the section.
 pub record HasBounds (size : ℕ) (header : UnitHeader) : Type 0 where
@@ -35,9 +34,14 @@ unit_at-bounds : (info : List ℕ) (at : ℕ) (header : UnitHeader) → unit_at 
     → (header.start ≡ at) × HasBounds (length info) header
 unfolding unit_at
 unit_at-bounds info at header h =
-    let start = initial_length_at-moves info at in
-    let moves = unit_at-moves info at in
-    grind (arith, start, moves, header_in-places, header_in-first, length-take)
+    grind (
+      arith,
+      initial_length_at-moves,
+      unit_at-moves,
+      header_in-places,
+      header_in-first,
+      length-take,
+    )
 
 -- ---- contiguous units
 
@@ -70,17 +74,18 @@ headers-at : (info : List ℕ) (at : ℕ) (headers : List UnitHeader) → AreCon
     → All (λ header. (at ≤ header.start) × HasBounds (length info) header) headers
 headers-at info at [] h k d lt = absurd (omega (arith, lt))
 headers-at info at (header ∷ headers) h k d lt =
-    let here = unit_at-bounds info at header h.0 in
-    let later = headers-at info header.end headers h.3 (k - 1) d in
-    grind (arith, common_steps, h.1, h.2)
+    grind (arith, unit_at-bounds, headers-at info header.end headers h.3 (k - 1) d)
 
 headers-apart : (info : List ℕ) (at : ℕ) (headers : List UnitHeader)
     → AreContiguous info at headers → AllPairs IsBefore headers
 headers-apart info at [] h i j d less lt = absurd (omega (arith, lt))
 headers-apart info at (header ∷ headers) h i j d less lt =
-    let later = headers-apart info header.end headers h.3 (i - 1) (j - 1) d in
-    let after = headers-at info header.end headers h.3 (j - 1) d in
-    grind (arith, common_steps)
+    grind (
+      arith,
+      common_steps,
+      headers-apart info header.end headers h.3 (i - 1) (j - 1) d,
+      headers-at,
+    )
 
 pub headers-in : (info : List ℕ) (headers : List UnitHeader) → units_of info ≡ Ok headers
     → AreHeadersIn (length info) headers

@@ -1,13 +1,13 @@
 -- Re-reading the entries of a unit at their offsets, and the scope sites of a unit from its stored
 -- data.
 use Rattle.dwarf_entries.proofs.Common
-use Common.{◌≡◌, ℕ, ◌≤◌, List, length, take, true, refl, ap, ◌∙◌, arith, [], ◌∷◌, get_or, map, Some}
-use Common.{Result, Ok, slice_get, Cause, UnitHeader, Die, Sections, UnitPlace, CompilationUnit}
+use Common.{◌≡◌, ℕ, List, length, take, true, refl, ap, ◌∙◌, arith, [], ◌∷◌, get_or, map, Some}
+use Common.{Ok, slice_get, UnitHeader, Die, Sections, UnitPlace, CompilationUnit}
 use Common.{Member, UnitEntries, AreStored, stored_unit_of, StoredUnit, stored_of, length-map}
 use Common.{slice_get_within, get_or_from_slice_get, ScopeSite, sites_in, IsPlaceOf, named_entry}
 use Common.{scope_entry, scope_places, scope_entry_at, used_at, named_entry_at, ScopePlace}
-use Common.{uleb-moves, Attribute, entry_at, stored_attributes, entries_again, value-stored}
-use Common.{names_at-stored, without_place, inside-is, get_or-map}
+use Common.{uleb-moves, entry_at, stored_attributes, entries_again, value-stored}
+use Common.{names_at-stored, inside-is, get_or-map}
 use Rattle.dwarf_entries.proofs.ScopePasses.SiteLaws.{site-in}
 use Rattle.dwarf_entries.proofs.UnitPasses.UnitLaws.{AreUnitsIn, IsUnitIn, stored-index}
 
@@ -22,18 +22,12 @@ used-there : (s : Sections) (header : UnitHeader) (dies : List Die) (k : ℕ) (d
     → used_at header.format read.table (bytes_in s header) die.offset
     ≡ Ok (die.tag, stored_attributes true die.attributes)
 unfolding entry_at
-used-there s header dies k die read there =
-    let again = entries_again s.debug_info header read.table dies read.dies_are k die there in
-    let within : die.offset ≤ length (bytes_in s header) =
-    grind (arith, again.1, uleb-moves (bytes_in s header) die.offset) in
-    inside-is header.format read.table (bytes_in s header) die.offset within
-    ∙ ap (λ (r : Result ((ℕ × List Attribute) × ℕ) Cause). without_place r) again.1
+used-there s header dies k die read there = grind (arith, entries_again, uleb-moves, inside-is)
 
 -- A unit has the header that is stored for it.
 pub stored-in : (s : Sections) (u : CompilationUnit) (k : UnitEntries)
     → stored_of k ≡ stored_unit_of u → IsUnitIn s u.header u.dies → IsUnitIn s k.header u.dies
-stored-in s u k same is =
-    let header = ap (λ (x : StoredUnit). x.header) same in rw header is
+stored-in s u k same is = grind arith
 
 -- The entry at a place can be re-read with the stored header of its unit.
 pub reread : (s : Sections) (us : List CompilationUnit) (stored : List UnitEntries)

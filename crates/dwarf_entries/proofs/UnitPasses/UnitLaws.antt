@@ -40,8 +40,7 @@ pub record IsUnitIn (s : Sections) (header : UnitHeader) (dies : List Die) : Typ
 
 pub dies-rise : {s : Sections} {header : UnitHeader} {dies : List Die} → IsUnitIn s header dies
     → RiseWithin header.start header.end dies
-dies-rise {s} {header} {dies} is =
-    entries-rise s.debug_info header is.table dies is.dies_are is.bounds.first is.bounds.last
+dies-rise {s} {header} {dies} is = grind (arith, entries-rise)
 
 pub record AreUnitsIn (s : Sections) (us : List CompilationUnit) : Type 0 where
   pub each_is : (i : ℕ) (u : CompilationUnit) → slice_get us i ≡ Some u
@@ -159,9 +158,7 @@ module _ (stored : List UnitEntries) (us : List CompilationUnit) (same : AreStor
   -- The element at an index of the program is stored for the unit at that index.
   pub stored-there : (n : ℕ) (k : UnitEntries) (u : CompilationUnit) → slice_get us n ≡ Some u
       → k ≡ get_or stored n k → stored_of k ≡ stored_unit_of u
-  stored-there n k u found is =
-      let here = stored-for n u found in
-      grind (arith, here, get_or_from_slice_get stored n here.0 k)
+  stored-there n k u found is = grind (arith, stored-for, get_or_from_slice_get)
 
 -- ---- what the program stores for the units of an object
 

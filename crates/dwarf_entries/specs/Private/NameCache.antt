@@ -46,5 +46,5 @@ target_names s units unit reference = target_of units unit reference >>= λ m. s
 abbrev pub IsCacheOf : Sections → List CompilationUnit → NameCache → Type 0
 IsCacheOf s units cache =
     (slot : ℕ) (packed : CachedNames) → slot_at cache slot ≡ Some packed
-    → (m : Member) × (member_in units packed.place.unit packed.place.offset ≡ Ok m)
-    × (second_names s units m ≡ Ok packed.names)
+    → (member_in units packed.place.unit packed.place.offset >>= λ m. second_names s units m)
+    ≡ Ok packed.names

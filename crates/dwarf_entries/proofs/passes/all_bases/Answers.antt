@@ -7,8 +7,7 @@ use Rattle.dwarf_entries.proofs.passes.all_bases.Goals as goal
 bases-same : (s : Sections) (u : CompilationUnit) (unit : UnitEntries)
     → stored_of unit ≡ stored_unit_of u
     → bases_in s unit.header.format unit.root ≡ bases_of_first s u.header.format u.dies
-bases-same s u unit same =
-    grind arith
+bases-same s u unit same = grind arith
 
 pub loop-unit-init : goal.loop-unit-init
 loop-unit-init c us same = rw c.new-all.ensures.items

@@ -25,8 +25,6 @@ pair-at : (section : List ℕ) (headers : List UnitHeader) (tables : List (List 
 unfolding tables_of
 pair-at section headers tables index d table all within table_read =
     let same = table_is section headers tables index d all within in
-    let read = in_section-ok DebugAbbrev (declarations_of declarations_limit section
-    (get_or headers index d).abbreviations) table table_read in
     let sizes = each-length (table_for section) [] headers tables all in
     let item = slice_get-get_or (zip headers tables) index (d, []) in
     let parts = get_or-zip headers tables index (d, []) in
@@ -79,8 +77,7 @@ returns-in_err-number-clause-units c tables all =
     (rw c.loop-header.invariant.section at c.in_err-number.ensures.err)))
 
 pub table-table-requires : goal.table-table-requires
-table-table-requires c = slice_get_within c.number_of.new.self.tables c.in_ok-number.number
-    c.in_ok-number.ensures.ok.0 c.in_ok-number.ensures.ok.1
+table-table-requires c = grind (arith, slice_get_within)
 
 pub returns-in_err-unit-clause-units : goal.returns-in_err-unit-clause-units
 returns-in_err-unit-clause-units c tables all =

@@ -8,8 +8,7 @@ use Rattle.dwarf_entries.proofs.tree_laws.entries_are_contiguous.Goals as goal
 filled : (format : Format) (table : List Declaration) (unit : List ℕ) (before : List LocatedNode)
     (at : ℕ) (all : List LocatedNode) (after : ℕ)
     → Lists (node_at format table unit) before at all after → at ≤ length unit → after ≡ length unit
-filled format table unit before at [] after h le =
-    grind (arith, h, leb-true (length unit) at)
+filled format table unit before at [] after h le = grind (arith, leb-true)
 filled format table unit before at (x ∷ all) after h le =
     let moved = node_at-advances format table unit before at x h.0 h.1 in
     filled format table unit (before ++ x ∷ []) h.0 all after h.2 moved.1

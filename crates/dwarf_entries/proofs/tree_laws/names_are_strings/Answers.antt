@@ -1,8 +1,8 @@
 use Rattle.dwarf_entries.proofs
 use proofs.{◌>>=◌, Cause, Bool, cond, Result, bind_ok, ◌≡◌, ℕ, ◌+◌, List, length, arith, Option}
-use proofs.{Some, None, Ok, All, DW_AT_LINKAGE_NAME, DW_AT_NAME, same-ok, AttributeValue}
-use proofs.{EntryNames, Sections, CompilationUnit, Member, chain_within, names_of, Scope, Tree}
-use proofs.{tree_of, DebugInfo, first_on, name_on, references_limit, TextOffset, text_in, text_of}
+use proofs.{Some, None, Ok, All, same-ok, AttributeValue}
+use proofs.{EntryNames, Sections, CompilationUnit, Member, names_of, Scope, Tree}
+use proofs.{tree_of, DebugInfo, TextOffset, text_in, text_of}
 use proofs.{section_bytes, IsTextOf, reading-ok, text-encoded, IfSome, Section, StrOffsets, reading}
 use proofs.{cstr_at, text_at, DebugLineStr, DebugStr, Table, item_at, optional, tree-parts, get_or}
 use proofs.{scope-at, slice_get-get_or}
@@ -58,14 +58,7 @@ AreTexts s name linkage_name = IfSome name (IsTextOf s) × IfSome linkage_name (
 
 names-are_texts : (s : Sections) (units : List CompilationUnit) (m : Member) (found : EntryNames)
     → names_of s units m ≡ Ok found → AreTexts s found.name found.linkage_name
-names-are_texts s units m found h =
-    let path = bind_ok (chain_within references_limit units m) _ found h in
-    let name = bind_ok (name_on DW_AT_NAME s path.0) _ found path.2 in
-    let linkage_name = bind_ok (name_on DW_AT_LINKAGE_NAME s path.0) _ found name.2 in
-    rw (← same-ok _ found linkage_name.2) (
-      first-is_text s (first_on DW_AT_NAME path.0) name.0 name.1,
-      first-is_text s (first_on DW_AT_LINKAGE_NAME path.0) linkage_name.0 linkage_name.1,
-    )
+names-are_texts s units m found h = grind (arith, bind_ok, same-ok, first-is_text)
 
 all-strings : (s : Sections) (tree : Tree) → tree_of s ≡ Ok tree
     → All (λ (scope : Scope). AreTexts s scope.name scope.linkage_name) tree.scopes

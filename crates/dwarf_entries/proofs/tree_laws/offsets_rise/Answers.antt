@@ -43,16 +43,13 @@ heads us = flat_map (λ u. take 1 u.dies) us
 heads-are : (number : ℕ) (us : List CompilationUnit) → map (λ r. r.offset) (roots_from number us)
     ≡ map (λ d. d.offset) (heads us)
 heads-are number [] = refl
-heads-are number (u ∷ us) =
-    let rest = heads-are (number + count_by is_scope u.dies) us in grind arith
+heads-are number (u ∷ us) = grind (arith, heads-are (number + count_by is_scope u.dies) us)
 
 -- The first entry of a unit, before entries after the unit.
 head-rises : (from end size : ℕ) (dies rest : List Die) → RiseWithin from end dies
     → RiseWithin end size rest → RiseWithin from size (take 1 dies ++ rest)
 head-rises from end size [] rest rise later = raised from end size rest rise later
-head-rises from end size (die ∷ dies) rest rise later =
-    let le = within-le (suc die.offset) end dies rise.1 in
-    (rise.0, raised (suc die.offset) end size rest le later)
+head-rises from end size (die ∷ dies) rest rise later = grind (arith, within-le, raised)
 
 heads-rise : {s : Sections} (from : ℕ) (us : List CompilationUnit) → AreUnitsIn s us
     → ((i : ℕ) (u : CompilationUnit) → slice_get us i ≡ Some u → from ≤ u.header.start)

@@ -23,7 +23,6 @@ module _ {s : Sections} {us : List CompilationUnit} {tree : Tree} (t : IsReadFro
       let same = get_or_from_slice_get t.parsed n j.0 j.0 j.1 in
       let ranges = sum_by_more (λ (j : ParsedScope). length j.scope.ranges) t.parsed n j.0 within in
       let items = sum_by_more (λ (j : ParsedScope). j.items) t.parsed n j.0 within in
-      let is = at.parsed_is in
       rw one (grind (arith, at.fits))
 
 pub returns-clause-ranges : goal.returns-clause-ranges

@@ -6,9 +6,7 @@ use proofs.{site-of-entry, element, same_Some, scopes-count, ap}
 use Rattle.dwarf_entries.proofs.tree_laws.scopes_are_entries.Goals as goal
 
 pub returns-clause-units : goal.returns-clause-units
-returns-clause-units c s tree h =
-    let t = tree-parts s tree h in
-    (t.0, t.1.us_are, sym t.1.roots_are)
+returns-clause-units c s tree h = grind (arith, tree-parts)
 
 pub returns-clause-entries : goal.returns-clause-entries
 returns-clause-entries c s tree us scope h us_are inside =

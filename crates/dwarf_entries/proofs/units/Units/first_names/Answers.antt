@@ -41,5 +41,4 @@ loop-last-preserved c =
     }
 
 pub returns-clause-names : goal.returns-clause-names
-returns-clause-names c m at = followed-end (c.loop-last.invariant.so_far m at)
-    (None-from-no-Some _ c.in_default.not-Some)
+returns-clause-names c m at = grind (arith, followed-end)

@@ -1,8 +1,8 @@
 use Rattle.dwarf_entries.proofs
-use proofs.{slice_get, UnitPlace, sym, ◌≡◌, ℕ, List, [], ◌∷◌, Bool, true, cond, ◌==◌, refl, ◌∙◌}
+use proofs.{slice_get, UnitPlace, ◌≡◌, ℕ, List, [], ◌∷◌, Bool, true, cond, ◌==◌, refl}
 use proofs.{arith, Option, Some, None, is_some, find, option_map, list_any, Die, offsets_of}
 use proofs.{CompilationUnit, all_offsets, member_in, Reference, find_at, ok_or, members_of, Finds}
-use proofs.{list_any-append, eqb-true, position_or_len, object-units, is_at_offset, member_of}
+use proofs.{list_any-append, eqb-true, object-units, is_at_offset, member_of}
 use proofs.{die_at, find-units, member-is, in-own, seen}
 use Rattle.dwarf_entries.proofs.units.Units.has_entry.Goals as goal
 
@@ -16,12 +16,8 @@ any-members : (offset : ℕ) (us : List CompilationUnit)
     → list_any (λ place. place == offset) (all_offsets us)
     ≡ is_some (find (is_at_offset offset) (members_of us))
 any-members offset [] = refl
-any-members offset (u ∷ us) = rw (
-  list_any-append (λ (place : ℕ). place == offset) (offsets_of u.dies) (all_offsets us),
-  any-dies u offset u.dies,
-  any-members offset us,
-  find-units u us offset,
-) (grind arith)
+any-members offset (u ∷ us) =
+    grind (arith, list_any-append, any-dies, find-units, any-members offset us)
 
 -- The element that is found passes the test.
 found-passes : (p : Die → Bool) (dies : List Die) (die : Die) → find p dies ≡ Some die
@@ -36,18 +32,7 @@ finds-die : (us : List CompilationUnit) (place : UnitPlace) (u : CompilationUnit
     → Finds us (cond (is_some (option_map (member_of u) die)) (Some place) None)
     (member_in us place.unit place.offset)
 finds-die us place u of None here outcome = outcome
-finds-die us place u of (Some d) here outcome =
-    let p : Die → Bool = λ die. die.offset == place.offset in (
-      member_of u d,
-      outcome,
-      record {
-        unit_is = of;
-        offset_is = eqb-true d.offset place.offset (found-passes p u.dies d here);
-        index = position_or_len p u.dies;
-        there = sym (find_at p u.dies) ∙ here;
-        found = outcome;
-      },
-    )
+finds-die us place u of (Some d) here outcome = grind (arith, eqb-true, found-passes, find_at)
 
 pub returns : goal.returns
 returns c within =

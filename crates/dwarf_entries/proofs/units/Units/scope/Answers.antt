@@ -1,5 +1,5 @@
 use Rattle.dwarf_entries.proofs
-use proofs.{[], Result, Err, ◌≡◌, ℕ, ◌+◌, List, length, map, get_or, refl, ap, ◌∙◌, arith, Ok, Some}
+use proofs.{[], Result, Err, ◌≡◌, ℕ, List, map, get_or, refl, ap, ◌∙◌, arith, Ok, Some}
 use proofs.{slice_get, get_or_from_slice_get, slice_get-map, Cause, ◌>>=◌, Sections, sections_of}
 use proofs.{Bases, EntryNames, Range, CompilationUnit, names_of, ParsedScope, ScopeSite, scope_at}
 use proofs.{roots_from, IsMember, bases_of, ObjectUnits, ScopeEntry, ScopeNumbers, scope_of_site}
@@ -18,10 +18,7 @@ module _ (s : Sections) {us : List CompilationUnit} {before : List ParsedScope} 
     {numbers : ScopeNumbers} {budget : ℕ} {entry : ScopeEntry}
     (site : IsScopeSite us numbers entry budget before p) where
   site-member : IsMember us numbers.unit entry.entry p.member
-  site-member = record {
-    unit_is = site.unit_is;
-    entry_is = ap (λ (e : ScopeEntry). e.entry) site.entry_is;
-  }
+  site-member = grind arith
 
   module _ (names : EntryNames) (names_are : names_of s us p.member ≡ Ok names) (bases : Bases)
       (bases_are : bases ≡ p.member.unit.bases) where
@@ -36,16 +33,8 @@ module _ (s : Sections) {us : List CompilationUnit} {before : List ParsedScope} 
         (covers_by budget s bases entry.low_pc entry.high_pc entry.ranges)
         → AddsFacts (roots_from 0 us) (r >>= λ items. Ok (scope_facts numbers entry names, items))
         old new (scope_at s us before p)
-    scope-adds (Err cause) old new bad = rw after-names (step-fault
-        (covers_by budget s bases entry.low_pc entry.high_pc entry.ranges) _ bad)
-    scope-adds (Ok items) old new (found, read, grown) =
-        let ending : numbers.number + numbers.inside + 1 ≡ length before + 1 + p.inside =
-        omega (arith, site.number_is, site.descendants_are) in
-        let whole = rw read at after-names in (
-          found,
-          whole ∙ rw (site.entry_is, site.stmt_list_is, ending, site.number_is) refl,
-          grown,
-        )
+    scope-adds (Err cause) old new bad = grind (arith, after-names, step-fault)
+    scope-adds (Ok items) old new (found, read, grown) = grind (arith, after-names)
 
 pub returns-in_err-items-clause-parsed : goal.returns-in_err-items-clause-parsed
 returns-in_err-items-clause-parsed c before p place =

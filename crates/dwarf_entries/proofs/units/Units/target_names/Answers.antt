@@ -1,14 +1,11 @@
 use Rattle.dwarf_entries.proofs
-use proofs.{inl, sym, ◌∙◌, refl, cache-more, packed-cache, seen, with-parts, exit}
+use proofs.{inl, sym, ◌∙◌, refl, cache-more, seen, with-parts, exit}
 use Rattle.dwarf_entries.proofs.units.Units.target_names.Goals as goal
 
 pub returns-in-Some-get-clause-names : goal.returns-in-Some-get-clause-names
 returns-in-Some-get-clause-names c u is =
-    let object = c.args.self.now in
     let are = seen c.self.invariant c.self.view_is in
-    packed-cache object.sections object.units u c.args.reference c.in-Some.place
-    c.in-Some-get.names c.self.inside.cache are.cache_is c.in-Some-get.ensures.some
-    (c.in-Some.ensures.leads u is)
+    rw (c.in-Some.ensures.leads u is) (are.cache_is _ _ c.in-Some-get.ensures.some)
 
 pub returns-in_err-next-clause-names : goal.returns-in_err-next-clause-names
 returns-in_err-next-clause-names c u is =
@@ -29,5 +26,5 @@ invariant_of-self-2 c =
     let at = c.in_ok-next.ensures.member there.0 there.2 in
     with-parts c.self-2.invariant same are.reader_is (cache-more c.args.self.now.sections _
     c.self-2.inside.cache c.put.new.self c.in-Some.place c.in_ok-names.names are.cache_is
-    c.in_ok-put.ensures.ok there.0 there.1
-    ((rw c.in_ok-next.ensures.same at c.in_ok-names.ensures.names) there.0 at))
+    c.in_ok-put.ensures.ok
+    (rw there.1 ((rw c.in_ok-next.ensures.same at c.in_ok-names.ensures.names) there.0 at)))

@@ -1,6 +1,7 @@
 use Rattle.dwarf_entries.proofs
 use proofs.{◌+◌, refl, sym, ap, arith, slice_get_within, StoredUnit, anywhere, within-unit}
-use proofs.{seen-units, found-at, stored-length, stored-index, object-units}
+use proofs.{seen-units, found-at, stored-index, object-units}
+use Rattle.dwarf_entries.proofs.{common_steps}
 use Rattle.dwarf_entries.proofs.units.Units.target_place.Goals as goal
 
 pub returns-then-reference-eq-DW_FORM_REF_ADDR-clause-leads :
@@ -13,12 +14,7 @@ returns-then-reference-eq-DW_FORM_REF_ADDR-clause-leads c u at =
 
 pub returns-in_err-start-clause-leads : goal.returns-in_err-start-clause-leads
 returns-in_err-start-clause-leads c u at =
-    let us = c.args.self.now.units in
-    let are = seen-units c.self.invariant c.self.view_is c.deref-2.ensures.value in
-    let past = c.in_err-start.ensures.lookup.3 in
-    let inside = slice_get_within us c.args.unit u at in
-    let len = stored-length c.deref-2.result.now us are in
-    absurd (omega (arith, past, inside, len))
+    grind (arith, common_steps, slice_get_within)
 
 pub returns-clause-leads : goal.returns-clause-leads
 returns-clause-leads c u at =
