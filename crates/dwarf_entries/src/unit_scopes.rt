@@ -42,6 +42,7 @@ impl<'a> Units<'a> {
     }
 
     /// Returns the number of scopes of a unit.
+    #[tactic(auto, using(crate::proofs::UnitPasses::RereadLaws::stored_scopes))]
     fn scopes_in(&self, unit: usize) -> usize
         requires { unit < length self.now.units }
         ensures { (u : CompilationUnit) → slice_get self.now.units unit ≡ Some u

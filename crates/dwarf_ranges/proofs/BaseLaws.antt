@@ -6,16 +6,14 @@ use Rattle.dwarf_ranges.specs.{Bases.{item_at, item_len}, Ranges.{base_after, ne
 use Rattle.dwarf_ranges.specs.{declared.bases.Table.Table, declared.range.Range.Range}
 use Rattle.dwarf_ranges.specs.declared.range_entries.RangeListEntry.{RangeListEntry}
 use Rattle.dwarf_ranges.specs.declared.range_entries.RangeListEntry.TheVariants.{Base, Covers}
-use Rattle.std.proofs.Common.{Err, List, Option, Some, [], arith, length, map, nat_lt, refl, true}
+use Rattle.std.proofs.Common.{Err, List, Option, Some, [], arith, length, map, refl}
 use Rattle.std.proofs.{Common.{ℕ, ◌*◌, ◌++◌, ◌+◌, ◌<◌, ◌∷◌, ◌≡◌}, lemmas.Bool.lt-ltb}
 use Rattle.dwarf_bytes.specs.declared.fault.Cause.TheVariants as causes
 
 pub fixed-outside : (n : ℕ) (bytes : List ℕ) (at : ℕ) → length bytes < at
     → fixed_at n bytes at ≡ Err Short
 unfolding fixed_at block_at
-fixed-outside n bytes at h =
-    let past : nat_lt (length bytes) (at + n) ≡ true =
-    lt-ltb (length bytes) (at + n) (omega arith) in rw past refl
+fixed-outside n bytes at h = grind (arith, lt-ltb)
 
 pub item_at-outside : (kind : TableKind) (section : List ℕ) (found : Option Table) (table : Table)
     (index place : ℕ) → found ≡ Some table → index < table.head.items

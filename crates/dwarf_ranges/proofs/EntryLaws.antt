@@ -3,7 +3,7 @@ use Rattle.dwarf_bytes.proofs.{Numbers.Advance.{MovesOn, bind_ok}, Numbers.Moves
 use Rattle.dwarf_bytes.proofs.Numbers.Moves.{u8-moves, uleb-moves}
 use Rattle.dwarf_bytes.specs.{Bind.◌>>=◌, Items.{Advances, End, Item, Next, reading, refuse_if}}
 use Rattle.dwarf_bytes.specs.{Numbers.u8_at, declared.fault.Cause.Cause}
-use Rattle.dwarf_ranges.specs.Ranges.{IsValidRange, base_after, entry_at, list_entry_at}
+use Rattle.dwarf_ranges.specs.Ranges.{IsValidRange, entry_at, list_entry_at}
 use Rattle.dwarf_ranges.specs.Ranges.{list_entry_of, live_range, operand_at, operands_of, range_of}
 use Rattle.dwarf_ranges.specs.{Ranges.ranges_in, declared.bases.Bases.Bases}
 use Rattle.dwarf_ranges.specs.{declared.range.Range.Range, declared.range_entries.Operand.Operand}
@@ -32,8 +32,7 @@ range_of-holds first second base start value range h i d within = grind arith
 
 operand-moves : (sections : Sections) (bases : Bases) (operand : Operand) (lists : List ℕ) (at : ℕ)
     (x : ℕ × ℕ) → operand_at sections bases operand lists at ≡ Ok x → MovesOn lists at x.1
-operand-moves sections bases operand lists at x h =
-    grind (arith, uleb-moves lists at, fixed_at-moves 8 lists at)
+operand-moves sections bases operand lists at x h = grind (arith, uleb-moves, fixed_at-moves)
 
 abbrev pub EntryHolds : RangeListEntry → Type 0
 EntryHolds entry = AllHold (ranges_in entry) × (length (ranges_in entry) ≤ 1)
@@ -75,5 +74,4 @@ list_entry-facts budget sections bases count base lists at x after h =
 pub list_entry_at-advances : (budget : ℕ) (sections : Sections) (bases : Bases) (lists : List ℕ)
     → Advances (length lists) (list_entry_at budget sections bases lists)
 list_entry_at-advances budget sections bases lists before at x after h =
-    (list_entry-facts budget sections bases (length before) (base_after bases.low_pc before) lists
-    at x after h).0
+    grind (arith, list_entry-facts)

@@ -70,10 +70,7 @@ module _ {budget : ℕ} {sections : Sections} {bases : Bases} {first : ℕ} {kno
       → list_entry_of budget sections bases count base at.bytes at.place ≡ Ok (End after)
       → AddsRanges (Ok count) known ranges (list_at budget sections bases first)
   unfolding list_at
-  list-end after is =
-      let all = so-far-end _ _ advances first so_far.before at.place after so_far.read
-      (here (Ok (End after)) is) in
-      (flat_map ranges_in so_far.before, rw (all, so_far.counted) refl, so_far.ranges_are)
+  list-end after is = grind (arith, so-far-end, advances, here)
 
   pub list-fault : (cause : Cause)
       → list_entry_of budget sections bases count base at.bytes at.place ≡ Err cause

@@ -30,8 +30,7 @@ module _ (budget : ℕ) (sections : Sections) (bases : Bases) where
       → length before ≤ budget → AllHold (flat_map ranges_in entries)
       × (length (flat_map ranges_in entries) ≤ length entries)
       × (length before + length entries ≤ budget)
-  lists-hold lists before at [] after h le =
-      (All-nil IsValidRange, omega arith, omega (arith, le))
+  lists-hold lists before at [] after h le = grind arith
   lists-hold lists before at (entry ∷ entries) after h le =
       let here = list_entry-facts budget sections bases (length before)
       (base_after bases.low_pc before) lists at entry h.0 h.1 in

@@ -89,8 +89,7 @@ module _ {us : List CompilationUnit} {i j k l n m : ℕ} {p q : ScopeSite}
       let counts = counted-rises is_scope p.member.unit.dies l k in
       let past = before-later b i in
       let first = site-within are a in
-      let second = site-within are b in
-      grind (arith, a, b)
+      grind (arith, a, b, site-within)
 
 -- ---- the order of scopes
 
@@ -131,14 +130,14 @@ scopes-in-order s tree h =
     record {
       numbered = numbered 0 (length tree.scopes) tree.scopes (omega arith) (λ i scope found.
           let x = at i scope found in
-          let last = before-later x.place (length us)
-          (slice_get_within us x.unit x.site.member.unit x.place.unit_is) in
+          let last = before-later x.place.2 (length us)
+          (slice_get_within us x.place.0 x.site.member.unit x.place.2.unit_is) in
           let all = first-all us (length us) (omega arith) in
           grind (arith, x.number_is, x.end_is, scopes-count t.1));
       nested = nested tree.scopes (λ i j outer inner outer_is inner_is lt inside.
           let x = at i outer outer_is in
           let y = at j inner inner_is in
-          let ends = sites-nest x.place y.place lt
+          let ends = sites-nest x.place.2 y.place.2 lt
           (omega (arith, inside, y.number_is, x.end_is)) in
           omega (arith, ends, y.end_is, x.end_is));
     }

@@ -1,11 +1,11 @@
 -- The units and scopes that a result was read from.
 use Rattle.dwarf_entries.proofs.Common
-use Common.{◌≡◌, ℕ, ◌+◌, List, [], length, take, map, sym, ◌∙◌, arith, length-take, refl}
+use Common.{◌≡◌, ℕ, ◌+◌, List, [], length, take, map, arith, length-take}
 use Common.{Result, Ok, Some, Contains, slice_get, slice_get-get_or, slice_get_within, Cause}
 use Common.{bind_ok, same-ok, in_section-ok, Sections, EntryNames, CompilationUnit}
 use Common.{units_read, names_of, Tree, Scope, ScopeSite, ParsedScope, scope_at, tree_of}
 use Common.{roots_from, stmt_list_of, parse_scope, all_sites, all_scopes, with_offset}
-use Common.{scope_of_site, covers_there, Fits, covers-fits, each-length, items_limit, length-map}
+use Common.{covers_there, Fits, covers-fits, each-length, items_limit, length-map}
 use Common.{sum_by, ◌-◌}
 use Rattle.dwarf_entries.proofs.ScopePasses.SiteLaws.{IsSiteAt, site-at}
 use Rattle.dwarf_entries.proofs.UnitPasses.PassLaws.{each-at, from-map}
@@ -30,10 +30,7 @@ tree-parts s tree h = grind (arith, bind_ok, same-ok, units-in, in_section-ok)
 -- The same for the units that were read.
 pub tree-with : (s : Sections) (us : List CompilationUnit) (tree : Tree) → units_read s ≡ Ok us
     → tree_of s ≡ Ok tree → IsReadFrom s us tree
-tree-with s us tree us_are h =
-    let t = tree-parts s tree h in
-    let same : us ≡ t.0 = same-ok us t.0 (sym us_are ∙ t.1.us_are) in
-    rw same t.1
+tree-with s us tree us_are h = let t = tree-parts s tree h in grind (arith, t)
 
 -- ---- the scope with a number
 
@@ -46,9 +43,7 @@ pub record IsScopeAt (s : Sections) (us : List CompilationUnit) (parsed : List P
     (scope : Scope) : Type 0 where
   pub site : ScopeSite
   pub there : slice_get (all_sites us) n ≡ Some site
-  pub unit : ℕ
-  pub index : ℕ
-  pub place : IsSiteAt us unit index n site
+  pub place : (unit index : ℕ) × IsSiteAt us unit index n site
   pub names : EntryNames
   pub names_are : names_of s us site.member ≡ Ok names
   pub name_is : scope.name ≡ names.name
@@ -75,30 +70,10 @@ module _ {s : Sections} {us : List CompilationUnit} {tree : Tree} (t : IsReadFro
       let names = bind_ok (names_of s us p.member) _ j.0
       (without-offset p.member.die.offset (scope_at s us before p) j.0 of.2) in
       let covering = bind_ok (covers_there s before p) _ j.0 names.2 in
-      let is = same-ok (scope_of_site before p names.0 covering.0) j.0 covering.2 in
-      let size = length-take n t.parsed in
-      let within = slice_get_within t.parsed n j.0 j.1 in
-      let number : length before ≡ n = omega (arith, size, within) in
       let place = site-at us n p of.1 in
-      rw (← j.2, ← is) (record {
-        site = p;
-        there = of.1;
-        unit = place.0;
-        index = place.1;
-        place = place.2;
-        names = names.0;
-        names_are = names.1;
-        name_is = refl;
-        linkage_name_is = refl;
-        kind_is = refl;
-        offset_is = refl;
-        number_is = number;
-        end_is = omega (arith, number);
-        stmt_list_is = refl;
-        items = covering.0.items;
-        parsed_is = rw (← is) at j.1;
-        fits = covers-fits _ s p.member.unit.bases p.member.die covering.0 covering.1;
-      })
+      let budget : ℕ = items_limit - sum_by (λ j. j.items) before in
+      let fits = covers-fits budget s p.member.unit.bases p.member.die covering.0 covering.1 in
+      grind (arith, length-take, slice_get_within)
 
   pub scopes-count : length tree.scopes ≡ length (all_sites us)
   scopes-count = grind (arith, length-map, each-length)

@@ -1,7 +1,7 @@
 -- The data of scopes: in a scope itself, through the list of scopes, and in the lists that the
 -- scopes of a result share, to which one more scope is appended.
 use Rattle.dwarf_entries.proofs.Common
-use Common.{Global, Vec, ◌≡◌, ℕ, zero, suc, ◌-◌, List, [], ◌∷◌, length, take, drop, refl, ap, ◌∙◌}
+use Common.{Global, Vec, ◌≡◌, ℕ, zero, suc, ◌-◌, List, [], ◌∷◌, length, take, drop, refl, ap}
 use Common.{arith, ◌+◌, ◌≤◌, ◌++◌, length-append, slice_get, option_map, Range, Root}
 use Common.{CallSite, scopes_from, facts_of, IsPushed, ScopeFacts, ScopeLists, common_steps}
 use Common.{length-drop, scope_of, call_site, scopes_of, ranges_start, IsInList}
@@ -83,8 +83,7 @@ scopes-push roots wide more ranges new first (t ∷ ts) s in_list ends =
     let size = length-drop first ranges in
     let rest = scopes-push roots wide more ranges new t.ranges_end ts s in_list.2 ends in
     let front = drop-append-le first ranges new in
-    let part = take-append-le (t.ranges_end - first) (drop first ranges) new in
-    grind (arith, in_list.0, call-stays)
+    grind (arith, in_list.0, call-stays, take-append-le)
 
 pub in_list-push : (many more first past new : ℕ) (ss : List StoredScope) (s : StoredScope)
     → AreConsecutive many first past ss → s.ranges_end ≡ past + new
@@ -103,16 +102,8 @@ pub pushed : (roots : List Root) (old new : ScopeLists) (ranges : Vec Range Glob
     → (scopes_of roots new ≡ scopes_of roots old ++ facts_of roots found facts ∷ [])
     × AreConsecutive (length new.wide.items) 0 (length new.ranges.items) new.scopes.items
 pushed roots old new ranges found facts in_list grown is =
-    let added = length-append old.wide.items is.packs.more in
-    let all : new.ranges.items ≡ old.ranges.items ++ found = is.ranges ∙ grown in
-    let sum = length-append old.ranges.items found in
-    let ends : is.s.ranges_end ≡ length old.ranges.items + length found =
-    is.packs.ends ∙ rw grown sum in
-    let described = rw is.packs.added at is.packs.tells roots found in
     let push = scopes-push roots old.wide.items is.packs.more old.ranges.items found 0
-    old.scopes.items is.s in_list ends in
-    let inside = rw (is.packs.added, added) at is.packs.in_list in (
-      rw (is.packs.added, all, is.scopes, push, described) refl,
-      rw (is.packs.added, all, is.scopes, added, sum)
-          (in_list-push _ _ 0 _ _ old.scopes.items is.s in_list ends inside),
-    )
+    old.scopes.items is.s in_list in
+    let inside = in_list-push (length old.wide.items) (length is.packs.more) 0
+    (length old.ranges.items) (length found) old.scopes.items is.s in_list in
+    grind (arith, is, is.packs, is.packs.tells roots found, length-append)

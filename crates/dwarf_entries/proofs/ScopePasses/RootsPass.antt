@@ -61,9 +61,7 @@ pub roots-part : (number : ℕ) (units : List CompilationUnit)
 roots-part number [] = omega arith
 roots-part number (unit ∷ units) =
     let past : ℕ = number + count_by is_scope unit.dies in
-    let end : past + number_of_scopes units ≡ number + number_of_scopes (unit ∷ units) = omega
-    (arith, number-cons unit units) in
-    grind (arith, past, roots-part past units)
+    grind (arith, roots-part past units, number-cons)
 
 pub ends-rise : (us : List CompilationUnit) (roots : List Root) → roots ≡ roots_from 0 us
     → IsNonDecreasingBy (λ r. r.past) roots

@@ -6,15 +6,14 @@ use Common.{sum_by-cons, slice_get_within, get_or_from_slice_get, Die, below, Sc
 use Common.{is_scope, CompilationUnit, ScopeSite, sites_in, number_of_scopes, first_number}
 use Common.{all_sites, cases_lt, sum_by_more, add-one, at-front}
 use Rattle.dwarf_entries.proofs.UnitPasses.PassLaws.{element}
+use Rattle.dwarf_entries.proofs.Common.{common_steps}
 
 -- ---- the sites of a unit
 
 pub sites-count : (unit : CompilationUnit) (dies : List Die) → length (sites_in unit dies)
     ≡ count_by is_scope dies
 sites-count unit [] = refl
-sites-count unit (die ∷ dies) =
-    let sum = sum_by-cons (λ x. cond (is_scope x) 1 0) die dies in
-    grind (arith, sites-count unit dies)
+sites-count unit (die ∷ dies) = grind (arith, common_steps, sites-count unit dies)
 
 -- The site of an entry.
 abbrev pub site_at : CompilationUnit → Die → List Die → ScopeKind → ScopeSite
@@ -48,7 +47,6 @@ site-in u (die ∷ rest) (suc n) p h =
     let same = site-in u rest (suc n) p in
     let sum = sum_by-cons (λ x. cond (is_scope x) 1 0) die (take (index_of rest n) rest) in
     let one : suc (index_of rest n) + 1 ≡ suc (index_of rest n + 1) = omega arith in
-    let next : suc (index_of rest (suc n)) + 1 ≡ suc (index_of rest (suc n) + 1) = omega arith in
     grind arith
 
 -- An entry that is a scope has the site with the number of scopes before it.

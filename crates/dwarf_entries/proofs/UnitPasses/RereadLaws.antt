@@ -9,7 +9,8 @@ use Common.{scope_entry, scope_places, scope_entry_at, used_at, named_entry_at, 
 use Common.{uleb-moves, entry_at, stored_attributes, entries_again, value-stored}
 use Common.{names_at-stored, inside-is, get_or-map}
 use Rattle.dwarf_entries.proofs.ScopePasses.SiteLaws.{site-in}
-use Rattle.dwarf_entries.proofs.UnitPasses.UnitLaws.{AreUnitsIn, IsUnitIn, stored-index}
+use Rattle.dwarf_entries.proofs.UnitPasses.UnitLaws.{AreUnitsIn, IsUnitIn, seen, stored-index}
+use Rattle.dwarf_entries.proofs.UnitPasses.UnitLaws.{stored-there}
 
 -- ---- the entries that were read before
 
@@ -57,6 +58,8 @@ pub sites-stored : (k : UnitEntries) (u : CompilationUnit) → stored_of k ≡ s
 sites-stored k u same = ap (λ (x : StoredUnit). length x.scopes) same
     ∙ (ap (λ (ps : List ScopePlace). length ps) (places-are u u.dies)
     ∙ length-map (sites_in u u.dies) place_in)
+
+pub ruleset stored_scopes = (sites-stored, seen, stored-there)
 
 -- The site at an index of a unit can be re-read from the stored data of the unit.
 pub site-read : (s : Sections) (us : List CompilationUnit) (n i : ℕ) (u : CompilationUnit)

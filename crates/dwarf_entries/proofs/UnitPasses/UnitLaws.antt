@@ -92,17 +92,7 @@ units-are-in s headers tables us vs headers_are tables_are us_are vs_are = recor
         let here = get_or_from_slice_get headers i header header at.0 in
         let table = get_or_from_slice_get tables i from.0.1 [] at.1 in
         let read = table_is s.debug_abbrev headers tables i header tables_are within in
-        let same : (v.header ≡ header) × (entries_of s.debug_info header from.0.1 ≡ Ok v.dies) =
-        grind (arith, with_bases-parts s of.0 v of.2, from.2) in
-        rw same.0 (
-          at.0,
-          record {
-            bounds = rw here at bounds;
-            table = from.0.1;
-            table_is = rw (here, table) at read;
-            dies_are = same.1;
-          },
-        )
+        grind (arith, with_bases-parts s of.0 v of.2, from.2)
 
 pub units-in : (s : Sections) (us : List CompilationUnit) → units_read s ≡ Ok us → AreUnitsIn s us
 unfolding units_read
@@ -175,13 +165,9 @@ seen-units are same slice_is = rw (slice_is, ← same) are.stored_are
 pub with-parts : {v w : ObjectUnits} {u : Inside} {reader : EntryReader} {cache : NameCache}
     → AreUnitsOf v u → v ≡ w → IsReaderOf w.sections reader → IsCacheOf w.sections w.units cache
     → AreUnitsOf v (record u { reader = reader; cache = cache })
-with-parts are same reader_is cache_is =
-    let now = seen are same in
-    rw same (record {
-      stored_are = now.stored_are;
-      bitmap_is = now.bitmap_is;
-      bases_are = now.bases_are;
-      strings_are = now.strings_are;
-      reader_is = reader_is;
-      cache_is = cache_is;
-    })
+with-parts are same reader_is cache_is = grind (arith, seen)
+
+pub with-reader : {v : ObjectUnits} {u : Inside} {reader : EntryReader} → AreUnitsOf v u
+    → ((s : Sections) → IsReaderOf s u.reader → IsReaderOf s reader)
+    → AreUnitsOf v (record u { reader = reader })
+with-reader {v} are same = with-parts are refl (same v.sections are.reader_is) are.cache_is

@@ -24,11 +24,10 @@ pair-at : (section : List ℕ) (headers : List UnitHeader) (tables : List (List 
     → slice_get (zip headers tables) index ≡ Some (get_or headers index d, table)
 unfolding tables_of
 pair-at section headers tables index d table all within table_read =
-    let same = table_is section headers tables index d all within in
     let sizes = each-length (table_for section) [] headers tables all in
     let item = slice_get-get_or (zip headers tables) index (d, []) in
     let parts = get_or-zip headers tables index (d, []) in
-    grind (arith, sizes, length-zip headers tables)
+    grind (arith, sizes, length-zip headers tables, table_is)
 
 module _ {info : List ℕ} {headers : List UnitHeader} {tables : List (List Declaration)}
     {bitmap marked : EntryBitmap} {index : ℕ} {stored : List UnitEntries} {header : UnitHeader}

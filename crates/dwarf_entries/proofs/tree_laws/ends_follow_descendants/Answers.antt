@@ -21,8 +21,8 @@ module _ {us : List CompilationUnit} {i k : ℕ} {scope : Scope} (at : IsEntry u
   numbers-are {tree = tree} t inside =
       let j = contained tree.scopes scope inside in
       let x = scope-at t j.0 scope j.1 in
-      let before = sites-rise x.place site-of t.are in
-      let after = sites-rise site-of x.place t.are in
+      let before = sites-rise x.place.2 site-of t.are in
+      let after = sites-rise site-of x.place.2 t.are in
       let there = site-of-entry us i k at.of at.die scope.kind at.of_is at.die_is at.kind_is in
       grind (arith, x.number_is, x.end_is, x.there)
 

@@ -19,13 +19,13 @@ returns-clause-scopes c s tree h =
           let b = from-map key tree.scopes (k + 1) _ (slice_get-get_or keys (k + 1) 0 lt) in
           let first = at k a.0 a.1 in
           let second = at (k + 1) b.0 b.1 in
-          let less = sites-rise first.place second.place t.are (omega arith) in
+          let less = sites-rise first.place.2 second.place.2 t.are (omega arith) in
           grind (arith, a.2, b.2, first.offset_is, second.offset_is),
       All-map (λ (offset : ℕ). offset < length s.debug_info) (λ (scope : Scope). scope.offset)
           tree.scopes (λ k d lt.
           let one = at k (get_or tree.scopes k d) (slice_get-get_or tree.scopes k d lt) in
-          let inside = site-within t.are one.place in
-          let unit = t.are.each_is one.unit one.site.member.unit one.place.unit_is in
+          let inside = site-within t.are one.place.2 in
+          let unit = t.are.each_is one.place.0 one.site.member.unit one.place.2.unit_is in
           omega (arith, inside.1, unit.bounds.within, one.offset_is)),
     )
 

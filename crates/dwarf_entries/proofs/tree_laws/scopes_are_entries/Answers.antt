@@ -12,15 +12,15 @@ pub returns-clause-entries : goal.returns-clause-entries
 returns-clause-entries c s tree us scope h us_are inside =
     let j = contained tree.scopes scope inside in
     let at = scope-at (tree-with s us tree us_are h) j.0 scope j.1 in (
-      at.unit,
-      at.index,
+      at.place.0,
+      at.place.1,
       record {
         of = at.site.member.unit;
-        of_is = at.place.unit_is;
+        of_is = at.place.2.unit_is;
         die = at.site.member.die;
-        die_is = at.place.there;
+        die_is = at.place.2.there;
         offset_is = at.offset_is;
-        kind_is = at.place.kind_is ∙ ap (λ (k : ScopeKind). Some k) (sym at.kind_is);
+        kind_is = at.place.2.kind_is ∙ ap (λ (k : ScopeKind). Some k) (sym at.kind_is);
       },
     )
 

@@ -17,10 +17,7 @@ loop-entry-smaller c =
     omega (arith, moved.0, moved.1, ap length read.1)
 
 pub loop-entry-preserved : goal.loop-entry-preserved
-loop-entry-preserved c =
-    let read = rw c.in-Some.is at c.in_ok-entry.ensures.reads in
-    rw (c.in_ok-add_entry.ensures.base, c.in_ok-add_entry.ensures.ranges)
-    (list-next c.loop-entry.invariant c.next_entry.new.cursor c.in-Some.entry read.0 read.1).1
+loop-entry-preserved c = grind (arith, list-next)
 
 pub returns : goal.returns
 returns c =

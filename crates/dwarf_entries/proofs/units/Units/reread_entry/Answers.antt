@@ -1,11 +1,9 @@
-use Rattle.dwarf_entries.proofs.{refl, named_entry, again-memory, seen, seen-units, with-parts}
+use Rattle.dwarf_entries.proofs.{refl, named_entry, again-memory, seen, seen-units, with-reader}
 use Rattle.dwarf_entries.proofs.{found-at, exit, reread, object-units, arith}
 use Rattle.dwarf_entries.proofs.units.Units.reread_entry.Goals as goal
 
 pub invariant_of-self : goal.invariant_of-self
-invariant_of-self c =
-    let are = c.self.invariant in
-    with-parts are refl (c.in_err-entry.ensures.reader _ are.reader_is) are.cache_is
+invariant_of-self c = with-reader c.self.invariant c.in_err-entry.ensures.reader
 
 pub returns-in_err-entry-clause-member : goal.returns-in_err-entry-clause-member
 returns-in_err-entry-clause-member c m at =
@@ -18,9 +16,7 @@ returns-in_err-entry-clause-member c m at =
     (seen c.self.invariant c.self.view_is).reader_is r.0.table_is))
 
 pub invariant_of-self-2 : goal.invariant_of-self-2
-invariant_of-self-2 c =
-    let are = c.self.invariant in
-    with-parts are refl (c.in_ok-entry.ensures.reader _ are.reader_is) are.cache_is
+invariant_of-self-2 c = with-reader c.self.invariant c.in_ok-entry.ensures.reader
 
 pub returns-clause-member : goal.returns-clause-member
 returns-clause-member c m at =

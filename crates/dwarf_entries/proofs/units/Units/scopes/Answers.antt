@@ -14,8 +14,4 @@ loop-unit-init c = record {
 }
 
 pub returns-clause-scopes : goal.returns-clause-scopes
-returns-clause-scopes c =
-    let so_far = c.loop-unit.invariant.so_far in
-    let all = first-all c.args.self.now.units c.loop-unit.unit
-    (omega (arith, c.loop-unit-test.false, c.len-unit-end.ensures)) in
-    (so_far.parsed, pass-end so_far.passed (omega (arith, all)), so_far.described)
+returns-clause-scopes c = grind (arith, first-all, pass-end)

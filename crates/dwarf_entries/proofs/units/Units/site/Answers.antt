@@ -1,6 +1,6 @@
-use Rattle.dwarf_entries.proofs.{sym, ap, ◌∙◌, arith, Cause, at_item, same-ok, sites_in, refl}
+use Rattle.dwarf_entries.proofs.{sym, ap, ◌∙◌, arith, Cause, at_item, same-ok, sites_in}
 use Rattle.dwarf_entries.proofs.{DebugInfo, scope_entry, again-memory, sites-stored, site-read}
-use Rattle.dwarf_entries.proofs.{seen, with-parts, element, stored-there, object-units}
+use Rattle.dwarf_entries.proofs.{seen, with-reader, element, stored-there, object-units}
 use Rattle.dwarf_entries.proofs.units.Units.site.Goals as goal
 
 pub index-place-requires : goal.index-place-requires
@@ -8,18 +8,12 @@ index-place-requires c =
     let u = element c.args.self.now.units c.args.unit c.requires.unit in
     let within = c.requires.index u.0 u.1 in
     let k = c.index-stored.result.now in
-    omega (
-      arith,
-      within,
-      k.scopes.ok.0,
-      sites-stored k u.0 (stored-there _ _
-          (seen c.self.invariant c.self.view_is).stored_are _ k u.0 u.1 c.index-stored.ensures),
-    )
+    let same = stored-there _ _ (seen c.self.invariant c.self.view_is).stored_are _ k u.0 u.1
+    c.index-stored.ensures in
+    omega (arith, within, k.scopes.ok.0, sites-stored k u.0 same)
 
 pub invariant_of-self : goal.invariant_of-self
-invariant_of-self c =
-    let are = c.self.invariant in
-    with-parts are refl (c.in-Err.ensures.reader _ are.reader_is) are.cache_is
+invariant_of-self c = with-reader c.self.invariant c.in-Err.ensures.reader
 
 pub returns-in-Err-clause-site : goal.returns-in-Err-clause-site
 returns-in-Err-clause-site c u found =
@@ -34,9 +28,7 @@ returns-in-Err-clause-site c u found =
     (c.in-Err.ensures.scope _ r.1.table are.reader_is r.1.table_is))
 
 pub invariant_of-self-2 : goal.invariant_of-self-2
-invariant_of-self-2 c =
-    let are = c.self.invariant in
-    with-parts are refl (c.in-Ok.ensures.reader _ are.reader_is) are.cache_is
+invariant_of-self-2 c = with-reader c.self.invariant c.in-Ok.ensures.reader
 
 pub returns-clause-site : goal.returns-clause-site
 returns-clause-site c u found =
