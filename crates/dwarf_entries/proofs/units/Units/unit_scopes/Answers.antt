@@ -1,7 +1,7 @@
 use Rattle.dwarf_entries.proofs
-use proofs.{Range, Global, Vec, ◌<◌, ◌≡◌, ℕ, ◌+◌, List, [], ◌∷◌, ◌++◌, length, ap, arith, refl, inl}
+use proofs.{Range, Global, Vec, ◌<◌, ◌≡◌, ℕ, ◌+◌, List, [], ◌∷◌, ◌++◌, length, ap, arith, refl}
 use proofs.{◌∙◌, Ok, Some, slice_get, map_push, length-map, Cause, LoadFault, at_item, Sections}
-use proofs.{Root, CompilationUnit, ParsedScope, ScopeSite, Scope, scope_at, sites_in, roots_from}
+use proofs.{Root, CompilationUnit, ParsedScope, ScopeSite, scope_at, sites_in, roots_from}
 use proofs.{AreParsedTo, first_number, all_sites, all_scopes, DebugInfo, Fails, ScopeEntry}
 use proofs.{ScopeFacts, ScopeLists, ScopeNumbers, IsScopeSite, AddsFacts, facts_of, IsPushed}
 use proofs.{IsSiteRead, sum_by_push, by_number, pushed, scopes-length, site-in, sites-count}
@@ -27,11 +27,7 @@ module _ {s : Sections} {us : List CompilationUnit} {number : ℕ} {lists : Scop
         record {
           parsed = parsed ++ one ∷ [];
           passed = rw next_is (pass-next so_far.passed p one there (rw read refl));
-          described = rw (
-            rest.0,
-            so_far.described,
-            map_push (λ (j : ParsedScope). j.scope) parsed one,
-          ) refl;
+          described = grind (arith, rest, so_far.described, map_push);
           in_list = rest.1;
           counted = omega (arith, so_far.counted, counted, sum);
         }
@@ -44,54 +40,41 @@ module _ {s : Sections} {us : List CompilationUnit} {number : ℕ} {lists : Scop
         p.member.die.offset bad))
 
   -- The site with the number, which is a scope of the unit after the scopes before it.
-  site-here : (u : CompilationUnit) (index : ℕ) (numbers : ScopeNumbers) (entry : ScopeEntry)
-      → slice_get us numbers.unit ≡ Some u → index < length (sites_in u u.dies)
-      → number ≡ first_number us numbers.unit + index
-      → numbers.number ≡ length lists.scopes.items
-      → IsSiteRead (Ok (entry, numbers.inside)) (slice_get (sites_in u u.dies) index)
+  site-here : (index many : ℕ) (numbers : ScopeNumbers) (entry : ScopeEntry)
+      → numbers.unit < length us → number ≡ first_number us numbers.unit + index → index < many
+      → ((u : CompilationUnit) → slice_get us numbers.unit ≡ Some u
+      → many ≡ length (sites_in u u.dies)) → numbers.number ≡ length lists.scopes.items
+      → ((u : CompilationUnit) → slice_get us numbers.unit ≡ Some u
+      → IsSiteRead (Ok (entry, numbers.inside)) (slice_get (sites_in u u.dies) index))
       → (p : ScopeSite) × (slice_get (all_sites us) number ≡ Some p)
       × IsScopeSite us numbers entry left so_far.parsed p
-  site-here u index numbers entry found within number_is stored read =
-      let p = element (sites_in u u.dies) index within in
-      let sizes : length lists.scopes.items ≡ number = omega (
-        arith,
-        scopes-length (roots_from 0 us) lists.wide.items lists.ranges.items 0 lists.scopes.items,
-        ap (λ (ss : List Scope). length ss) so_far.described,
-        length-map so_far.parsed (λ (j : ParsedScope). j.scope),
-        so_far.passed.len,
-      ) in
-      let count = sites-count u u.dies in
-      let unit_is = (site-in u u.dies index p.0 p.1).unit_is in
-      let is = rw p.1 at read in (
-        p.0,
-        all-sites-at us numbers.unit index number u p.0 found p.1 number_is,
-        record {
-          unit_is = rw unit_is found;
-          stmt_list_is = rw unit_is (by_number 0 us u numbers.unit numbers.number found
-              (omega (arith, stored, sizes, number_is))
-              (omega (arith, stored, sizes, number_is, within, count)));
-          entry_is = is.0;
-          descendants_are = is.1;
-          number_is = omega (arith, stored, sizes, so_far.passed.len);
-          budget_is = omega (arith, so_far.counted);
-        },
+  site-here index many numbers entry inside number_is within size stored read =
+      let (u, found) = element us numbers.unit inside in
+      let (p, here) = element (sites_in u u.dies) index (omega (arith, within, size u found)) in
+      let stored_len = scopes-length (roots_from 0 us) lists.wide.items lists.ranges.items 0
+      lists.scopes.items in
+      let parsed_len = length-map so_far.parsed (λ (j : ParsedScope). j.scope) in
+      let site = site-in u u.dies index p here in
+      let is = read u found in
+      let stmt_list = by_number 0 us u numbers.unit numbers.number found in
+      let count = sites-count u u.dies in (
+        p,
+        all-sites-at us numbers.unit index number u p found here number_is,
+        grind (arith, so_far.described, so_far.counted, so_far.passed.len),
       )
 
 pub returns-in_err-entry-clause-scopes : goal.returns-in_err-entry-clause-scopes
 returns-in_err-entry-clause-scopes c parsed =
     let u = element c.args.self.now.units c.args.unit c.requires.unit in
-    rw (exit _ c.from_residual.ensures.1)
-    (inl ((rw c.loop-index.invariant.same at c.in_err-entry.ensures.site) u.0 u.1))
+    grind (arith, exit, c.in_err-entry.ensures.site u.0)
 
 pub returns-in-Err-clause-scopes : goal.returns-in-Err-clause-scopes
 returns-in-Err-clause-scopes c parsed =
     let so_far = c.loop-index.invariant.so_far parsed in
-    let u = element c.args.self.now.units c.args.unit c.requires.unit in
-    let size = c.scopes_in-index-end.ensures u.0 u.1 in
-    let here = site-here so_far u.0 c.loop-index.index _ c.in_ok-entry.entry u.1
-    (omega (arith, size, c.loop-index-test.true)) refl
+    let here = site-here so_far c.loop-index.index _ _ c.in_ok-entry.entry c.requires.unit refl
+    c.loop-index-test.true c.scopes_in-index-end.ensures
     (c.len.ensures ∙ c.loop-index.lists.scopes.ok.0)
-    ((rw c.loop-index.invariant.same at c.in_ok-entry.ensures.site) u.0 u.1) in
+    (rw c.loop-index.invariant.same at c.in_ok-entry.ensures.site) in
     scopes-fault so_far here.0 here.1 c.in-Err.cause c.in_ok-entry.entry.entry.offset
     c.at_item.result ((rw (c.in_ok-entry.ensures.same ∙ c.loop-index.invariant.same)
     at c.in-Err.ensures.parsed) so_far.parsed here.0 here.2)
@@ -102,12 +85,10 @@ loop-index-preserved c = record {
   same = c.in-Ok.ensures.same ∙ (c.in_ok-entry.ensures.same ∙ c.loop-index.invariant.same);
   so_far = λ parsed.
       let so_far = c.loop-index.invariant.so_far parsed in
-      let u = element c.args.self.now.units c.args.unit c.requires.unit in
-      let size = c.scopes_in-index-end.ensures u.0 u.1 in
-      let here = site-here so_far u.0 c.loop-index.index _ c.in_ok-entry.entry u.1
-      (omega (arith, size, c.loop-index-test.true)) refl
+      let here = site-here so_far c.loop-index.index _ _ c.in_ok-entry.entry c.requires.unit refl
+      c.loop-index-test.true c.scopes_in-index-end.ensures
       (c.len.ensures ∙ c.loop-index.lists.scopes.ok.0)
-      ((rw c.loop-index.invariant.same at c.in_ok-entry.ensures.site) u.0 u.1) in
+      (rw c.loop-index.invariant.same at c.in_ok-entry.ensures.site) in
       scopes-next so_far here.0 here.1
       {ranges = c.scope.new.ranges}
       ((rw (c.in_ok-entry.ensures.same ∙ c.loop-index.invariant.same) at c.in-Ok.ensures.parsed)
