@@ -30,7 +30,7 @@ first_more units name number path m known value is value_is h result result_is =
 -- ---- the loop
 
 -- Prepends these entries to an origin chain.
-abbrev prepend : List Member → Result (List Member) Cause → Result (List Member) Cause
+abbrev pub prepend : List Member → Result (List Member) Cause → Result (List Member) Cause
 prepend before r = r >>= λ rest. Ok (before ++ rest)
 
 -- The loop invariant: the entries of the chain up to the last one, and the first names among them.
@@ -42,16 +42,12 @@ pub record Followed (units : List CompilationUnit) (remaining : ℕ) (m : Member
   pub rest : chain_within remaining units m ≡ prepend before (chain_within left units last)
   pub stored : AreFirst units firsts (before ++ last ∷ [])
 
--- Prepends one entry to an origin chain.
-abbrev pub in_front : Member → Result (List Member) Cause → Result (List Member) Cause
-in_front m r = r >>= λ rest. Ok (m ∷ rest)
-
 -- The origin chain of an entry with a reference, if one more reference may be followed.
 pub stepped : (units : List CompilationUnit) (after : ℕ) (last : Member)
     (reference : AttributeValue) → next_of last.die ≡ Some reference
     → chain_within (suc after) units last
     ≡ (target_of units last.unit reference
-    >>= λ next. in_front last (chain_within after units next))
+    >>= λ next. prepend (last ∷ []) (chain_within after units next))
 unfolding chain_within
 stepped units after last reference is = rw (is, chain_within) refl
 
@@ -70,9 +66,8 @@ module _ {units : List CompilationUnit} {remaining : ℕ} {m : Member} {left : �
       → FindsFirst units (Ok firsts) (chain_within remaining units m)
   unfolding chain_within
   followed-end is =
-      let all : chain_within remaining units m ≡ Ok (so_far.before ++ so_far.last ∷ []) =
-      grind (arith, so_far.rest, next-is, chain_within) in
-      (so_far.before ++ so_far.last ∷ [], all, so_far.stored)
+      let path : List Member = so_far.before ++ so_far.last ∷ [] in
+      (path, grind (arith, so_far.rest, next-is, chain_within), so_far.stored)
 
   module _ (reference : AttributeValue) (is : found.entry.next ≡ Some reference) where
     pub followed-deep : left ≡ 0 → chain_within remaining units m ≡ Err OriginDepth
@@ -143,6 +138,6 @@ names-by-reference s units number entry m reference at parts =
   where
     by_target : attribute m.die DW_AT_NAME ≡ None → attribute m.die DW_AT_LINKAGE_NAME ≡ None
         → (t : Result Member Cause) (chain : Member → Result (List Member) Cause)
-        → ((t >>= λ n. in_front m (chain n)) >>= λ path. on_path s path)
+        → ((t >>= λ n. prepend (m ∷ []) (chain n)) >>= λ path. on_path s path)
         ≡ (t >>= λ n. chain n >>= λ path. on_path s path)
     by_target no_name no_linkage_name t chain = grind arith

@@ -1,9 +1,9 @@
 -- The entry at an offset of .debug_info is found by its bit, in the unit that contains the offset.
 use Rattle.dwarf_entries.proofs.Common
 use Common.{slice_get_past, ◌≡◌, ◌⊎◌, inl, inr, ℕ, zero, suc, ◌+◌, ◌<◌, ◌≤◌, List, [], ◌∷◌, length}
-use Common.{map, get_or, Bool, ◌==◌, refl, ap, arith, Option, Some, None, Err, find, slice_get}
+use Common.{map, get_or, Bool, ◌==◌, refl, arith, Option, Some, None, Err, find, slice_get}
 use Common.{option_map, option_or, slice_get-get_or, slice_get_within, AttributeValue, Die}
-use Common.{RiseWithin, UnitEntries, StoredUnit, Sections, CompilationUnit, Member, target_of}
+use Common.{RiseWithin, UnitEntries, Sections, CompilationUnit, Member, target_of}
 use Common.{AreStored, member_in, Reference, ok_or, cases_lt, IsNonDecreasingBy, IsPartitionPoint}
 use Common.{members_of, IsWithin, eq-eqb, option_to_list, ne_eqb, find-append, DW_FORM_REF_ADDR}
 use Common.{get_or_from_slice_get}
@@ -118,19 +118,15 @@ module _ {s : Sections} {us : List CompilationUnit} (are : AreUnitsIn s us) wher
         → member_in us n offset ≡ Err Reference
     outside n offset k found out =
         let at = stored-at stored us same n k found in
-        let u = at.unit in
-        let header = ap (λ (x : StoredUnit). x.header) at.stored in
-        let none = none-outside u.header.start u.header.end u.dies offset
-        (dies-rise (are.each_is n u at.is)) (rw header at out) in
-        rw (member-is us n offset u at.is, none) refl
+        let none = none-outside at.unit.header.start at.unit.header.end at.unit.dies offset
+        (dies-rise (are.each_is n at.unit at.is)) in
+        grind (arith, at.stored, member-is us n offset at.unit at.is)
 
     pub within-stored : (n offset : ℕ) (k : UnitEntries) → slice_get stored n ≡ Some k
         → k.header.start ≤ offset → offset < k.header.end
         → IsWithin us (record { unit = n; offset = offset })
     within-stored n offset k found low high =
-        let at = stored-at stored us same n k found in
-        let header = ap (λ (x : StoredUnit). x.header) at.stored in
-        record { of = at.unit; of_is = at.is; low = rw header at low; high = rw header at high }
+        let at = stored-at stored us same n k found in grind (arith, at.is, at.stored)
 
 pub within-unit : (us : List CompilationUnit) (n offset : ℕ) (u : CompilationUnit)
     (reference : AttributeValue) → (reference.form ≡ DW_FORM_REF_ADDR → ⊥)

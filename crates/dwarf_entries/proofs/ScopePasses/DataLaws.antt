@@ -26,9 +26,8 @@ pub data-of : (scopes : List Scope) (stored : List StoredScope) (place : ℕ) (k
 data-of scopes stored place k order same found =
     let there = from-map own scopes place (own_of k)
     (rw (← same, slice_get-map own_of stored place, found) refl) in
-    let s = there.0 in
-    let number = number-at 0 (length scopes) place scopes s order.numbered there.1 in
-    (s, there.1, grind (arith, there.1, there.2))
+    let number = number-at 0 (length scopes) place in
+    (there.0, there.1, grind (arith, there.1, there.2, order.numbered))
 
 pub ruleset stored_data = (data-of)
 

@@ -1,7 +1,7 @@
 -- The roots of units: the loop that returns them, their order, and the root of a scope.
 use Rattle.dwarf_entries.proofs.Common
-use Common.{◌≡◌, ℕ, zero, suc, ◌+◌, ◌<◌, ◌≤◌, List, [], ◌∷◌, ◌++◌, length, take, get_or, ap, ◌∙◌}
-use Common.{arith, Bool, Option, Some, None, count_by, slice_get, nat_lt, slice_get_within}
+use Common.{◌≡◌, ℕ, zero, suc, ◌+◌, ◌<◌, ◌≤◌, List, [], ◌∷◌, ◌++◌, length, take, get_or}
+use Common.{arith, Option, Some, None, count_by, slice_get, nat_lt, slice_get_within}
 use Common.{get_or_from_slice_get, UnitEntries, is_scope, Root, CompilationUnit, roots_from}
 use Common.{stmt_list_of, number_of_scopes, first_number, find, take_more, sum_by-take-le, find_at}
 use Common.{IsNonDecreasingBy, IsPartitionPoint, ArePartsFrom, stmt_list_by_number}
@@ -76,10 +76,8 @@ pub by_partition : (roots : List Root) (number index : ℕ) → index ≤ length
     → find (λ r. nat_lt number r.past) roots ≡ slice_get roots index
 by_partition roots number index within parts =
     let d : Root = record { offset = 0; stmt_list = None; first = 0; past = 0 } in
-    let test : Root → Bool = λ r. nat_lt number r.past in
-    find_at test roots ∙ ap (slice_get roots) (position_or_len_is test roots index d within
-    (λ k before. le-ltb number (get_or roots k d).past (parts.0 k d (omega arith) before))
-    (λ inside. lt-ltb number (get_or roots index d).past (parts.1 index d (omega arith) inside)))
+    let is = position_or_len_is (λ r. nat_lt number r.past) roots index d within in
+    grind (arith, find_at, le-ltb, lt-ltb, parts.0, parts.1)
 
 -- ---- the scopes of the units before
 

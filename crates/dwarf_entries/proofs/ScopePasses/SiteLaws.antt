@@ -94,14 +94,8 @@ pub all-sites-at : (us : List CompilationUnit) (i m n : ℕ) (u : CompilationUni
 all-sites-at [] i m n u p found here is = cc
 all-sites-at (v ∷ us) zero m n u p found here is = grind (arith, at-front)
 all-sites-at (v ∷ us) (suc i) m n u p found here is =
-    grind (
-      arith,
-      number-cons,
-      at-right,
-      sites-count,
-      all-sites-at us i m (first_number us i + m) u
-          p found here refl,
-    )
+    let rest = all-sites-at us i m (first_number us i + m) u p found here refl in
+    grind (arith, number-cons, at-right, sites-count)
 
 -- A site is that of the entry at an index of the unit at an index.
 pub record IsSiteAt (us : List CompilationUnit) (unit index n : ℕ) (p : ScopeSite) : Type 0 where

@@ -34,14 +34,8 @@ unit_at-bounds : (info : List ℕ) (at : ℕ) (header : UnitHeader) → unit_at 
     → (header.start ≡ at) × HasBounds (length info) header
 unfolding unit_at
 unit_at-bounds info at header h =
-    grind (
-      arith,
-      initial_length_at-moves,
-      unit_at-moves,
-      header_in-places,
-      header_in-first,
-      length-take,
-    )
+    let start = initial_length_at-moves info at in
+    grind (arith, start, unit_at-moves, header_in-places, header_in-first, length-take)
 
 -- ---- contiguous units
 
@@ -80,12 +74,8 @@ headers-apart : (info : List ℕ) (at : ℕ) (headers : List UnitHeader)
     → AreContiguous info at headers → AllPairs IsBefore headers
 headers-apart info at [] h i j d less lt = absurd (omega (arith, lt))
 headers-apart info at (header ∷ headers) h i j d less lt =
-    grind (
-      arith,
-      common_steps,
-      headers-apart info header.end headers h.3 (i - 1) (j - 1) d,
-      headers-at,
-    )
+    let later = headers-apart info header.end headers h.3 (i - 1) (j - 1) d in
+    grind (arith, common_steps, headers-at)
 
 pub headers-in : (info : List ℕ) (headers : List UnitHeader) → units_of info ≡ Ok headers
     → AreHeadersIn (length info) headers

@@ -54,8 +54,7 @@ pub units-after : {s : Sections} (u : CompilationUnit) (us : List CompilationUni
     → AreUnitsIn s (u ∷ us) → AreUnitsIn s us
 units-after u us are = record {
   each_is = λ i v found. are.each_is (suc i) v found;
-  apart = λ i j v w first second lt.
-      are.apart (suc i) (suc j) v w first second (omega (arith, lt));
+  apart = λ i j v w first second lt. are.apart (suc i) (suc j) v w first second (omega (arith, lt));
 }
 
 zip-at : {X Y : Type 0} (xs : List X) (ys : List Y) (i : ℕ) (p : X × Y)
@@ -111,8 +110,7 @@ object-units s object same = rw (← same) (by_read (units_read s) refl)
     by_read : (r : Result (List CompilationUnit) LoadFault) → units_read s ≡ r
         → AreUnitsIn s (units_or_none r)
     by_read (Ok us) is = units-in s us is
-    by_read (Err fault) is =
-        record { each_is = λ i u found. cc; apart = λ i j u v first second lt. cc }
+    by_read (Err fault) is = grind arith
 
 -- The unit at an index, which the data is stored for.
 pub record StoredFor (us : List CompilationUnit) (n : ℕ) (k : UnitEntries) : Type 0 where

@@ -1,4 +1,4 @@
-use Rattle.dwarf_entries.proofs.{nat_le, leb-true, UnitEntries, rules, leb-false}
+use Rattle.dwarf_entries.proofs.{arith, nat_le, leb-true, UnitEntries, rules, leb-false}
 use Rattle.dwarf_entries.proofs.{IsPartitionedBy-leb, IsPartitionPoint-from_clause}
 use Rattle.dwarf_entries.proofs.references.ends_by.Goals as goal
 
@@ -8,7 +8,5 @@ returns-clause-parts c = λ rise.
     (λ (u : UnitEntries). nat_le u.header.end c.args.offset) c.args.units.now
     c.partition_point.result c.partition_point.ensures.partitioned
     (IsPartitionedBy-leb (λ (u : UnitEntries). u.header.end) c.args.units.now c.args.offset
-    rise) (λ a r f called. search rules) in (
-      λ k d low high. leb-true _ c.args.offset (parts.0 k d low high),
-      λ k d low high. leb-false _ c.args.offset (parts.1 k d low high),
-    )
+    rise) (λ a r f called. search rules) in
+    grind (arith, leb-true, leb-false, parts)

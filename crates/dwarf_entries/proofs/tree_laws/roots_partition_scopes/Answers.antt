@@ -61,9 +61,8 @@ returns-clause-scopes c s tree root scope h root_in scope_in from until =
     let rises = first-rises us (found.0 + 1) x.place.0 in
     let e : x.place.0 ≡ found.0 = grind (arith, x.number_is, x.place.2, r) in
     let same : x.site.member.unit ≡ found.1 = grind (arith, x.place.2.unit_is, r.of_is) in
-    let last = before-later x.place.2 (found.0 + 1) (omega (arith, e)) in
     let there = rw same at x.place.2.there in
     let rise = rise-order found.1.header.start found.1.header.end found.1.dies 0 x.place.1 found.2
     x.site.member.die (dies-rise (t.1.are.each_is found.0 found.1 r.of_is)) r.die_is
     there in
-    grind (arith, x.stmt_list_is, x.end_is, x.offset_is, r)
+    grind (arith, x.stmt_list_is, x.end_is, x.offset_is, r, before-later)

@@ -1,8 +1,8 @@
 use Rattle.dwarf_entries.proofs
-use proofs.{◌≡◌, ℕ, ◌+◌, true, take, refl, arith, sym, ◌∙◌, Option, Some, None, Contains, is_some}
+use proofs.{◌≡◌, ℕ, ◌+◌, true, take, refl, arith, Option, Some, None, Contains, is_some}
 use proofs.{count_by, slice_get_within, get_or_from_slice_get, ScopeKind, kind_of, is_scope, Scope}
 use proofs.{first_number, all_sites, IsEntry, tree-parts, tree-with, scope-at, contained}
-use proofs.{site-of-entry, element, same_Some, scopes-count, ap}
+use proofs.{site-of-entry, element, scopes-count}
 use Rattle.dwarf_entries.proofs.tree_laws.scopes_are_entries.Goals as goal
 
 pub returns-clause-units : goal.returns-clause-units
@@ -11,18 +11,9 @@ returns-clause-units c s tree h = grind (arith, tree-parts)
 pub returns-clause-entries : goal.returns-clause-entries
 returns-clause-entries c s tree us scope h us_are inside =
     let j = contained tree.scopes scope inside in
-    let at = scope-at (tree-with s us tree us_are h) j.0 scope j.1 in (
-      at.place.0,
-      at.place.1,
-      record {
-        of = at.site.member.unit;
-        of_is = at.place.2.unit_is;
-        die = at.site.member.die;
-        die_is = at.place.2.there;
-        offset_is = at.offset_is;
-        kind_is = at.place.2.kind_is ∙ ap (λ (k : ScopeKind). Some k) (sym at.kind_is);
-      },
-    )
+    let at = scope-at (tree-with s us tree us_are h) j.0 scope j.1 in
+    let place = at.place.2 in
+    (at.place.0, at.place.1, grind (arith, place, at.kind_is, at.offset_is))
 
 pub returns-clause-scopes : goal.returns-clause-scopes
 returns-clause-scopes c s tree us unit place of die h us_are of_is die_is is =
@@ -37,16 +28,8 @@ returns-clause-scopes c s tree us unit place of die h us_are of_is die_is is =
         let there = site-of-entry us unit place of die kind of_is die_is at in
         let within = slice_get_within (all_sites us) n _ there in
         let j = element tree.scopes n (omega (arith, within, scopes-count t)) in
-        let found = scope-at t n j.0 j.1 in
-        let site_is = same_Some found.site _ (sym found.there ∙ there) in (
+        let found = scope-at t n j.0 j.1 in (
           j.0,
           (n, slice_get_within _ n j.0 j.1, get_or_from_slice_get _ n j.0 j.0 j.1),
-          record {
-            of = of;
-            of_is = of_is;
-            die = die;
-            die_is = die_is;
-            offset_is = rw (found.offset_is, site_is) refl;
-            kind_is = rw (found.kind_is, site_is) at;
-          },
+          grind (arith, there, found.there, found.offset_is, found.kind_is),
         )

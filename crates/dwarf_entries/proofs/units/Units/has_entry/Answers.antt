@@ -10,7 +10,7 @@ any-dies : (u : CompilationUnit) (offset : ℕ) (dies : List Die)
     → list_any (λ place. place == offset) (offsets_of dies)
     ≡ is_some (option_map (member_of u) (find (λ die. die.offset == offset) dies))
 any-dies u offset [] = refl
-any-dies u offset (die ∷ dies) = let rest = any-dies u offset dies in grind arith
+any-dies u offset (die ∷ dies) = grind (arith, any-dies u offset dies)
 
 any-members : (offset : ℕ) (us : List CompilationUnit)
     → list_any (λ place. place == offset) (all_offsets us)
@@ -40,11 +40,7 @@ returns c within =
     let us = c.args.self.now.units in
     let place = c.args.place in
     let u = within.of in
-    rw (
-      c.has_entry.ensures,
-      are.bitmap_is place.offset,
-      any-members place.offset us,
-      in-own (object-units _ _ c.self.view_is) place.unit place.offset u within.of_is within.low
-          within.high,
-    ) (finds-die us place u within.of_is (die_at u place.offset) refl
-    (member-is us place.unit place.offset u within.of_is))
+    let own = in-own (object-units _ _ c.self.view_is) place.unit place.offset u within.of_is
+    within.low within.high in
+    let finds = finds-die us place u within.of_is (die_at u place.offset) refl in
+    grind (arith, are.bitmap_is place.offset, any-members, member-is)

@@ -1,4 +1,4 @@
-use Rattle.dwarf_entries.proofs.{refl, named_entry, again-memory, seen, seen-units, with-reader}
+use Rattle.dwarf_entries.proofs.{refl, seen, seen-units, with-reader}
 use Rattle.dwarf_entries.proofs.{found-at, exit, reread, object-units, arith}
 use Rattle.dwarf_entries.proofs.units.Units.reread_entry.Goals as goal
 
@@ -10,10 +10,9 @@ returns-in_err-entry-clause-member c m at =
     let r = reread _ _ _ c.args.place m c.in-Some.stored.now (object-units _ _ c.self.view_is)
     (seen-units c.self.invariant c.self.view_is c.deref.ensures.value)
     (found-at _ _ c.args.place.unit _ refl c.in-Some.ensures.lookup.3) at in
-    rw (exit _ c.from_residual.ensures.1)
-    (again-memory c.in_err-entry.field-0.0 _ (named_entry m.die) r.1
-    (c.in_err-entry.ensures.names_at _ r.0.table
-    (seen c.self.invariant c.self.view_is).reader_is r.0.table_is))
+    let again = c.in_err-entry.ensures.names_at _ r.0.table
+    (seen c.self.invariant c.self.view_is).reader_is r.0.table_is in
+    grind (arith, exit, r.1, again)
 
 pub invariant_of-self-2 : goal.invariant_of-self-2
 invariant_of-self-2 c = with-reader c.self.invariant c.in_ok-entry.ensures.reader

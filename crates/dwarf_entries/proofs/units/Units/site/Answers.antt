@@ -1,5 +1,5 @@
-use Rattle.dwarf_entries.proofs.{sym, ap, ◌∙◌, arith, Cause, at_item, same-ok, sites_in}
-use Rattle.dwarf_entries.proofs.{DebugInfo, scope_entry, again-memory, sites-stored, site-read}
+use Rattle.dwarf_entries.proofs.{arith, sites_in}
+use Rattle.dwarf_entries.proofs.{sites-stored, site-read}
 use Rattle.dwarf_entries.proofs.{seen, with-reader, element, stored-there, object-units}
 use Rattle.dwarf_entries.proofs.units.Units.site.Goals as goal
 
@@ -23,9 +23,7 @@ returns-in-Err-clause-site c u found =
     let r = site-read _ _ c.args.unit c.args.index u p.0 k _ (object-units _ _ c.self.view_is)
     (stored-there _ _ are.stored_are _ k u found c.index-stored.ensures) found p.1
     c.index-place.ensures in
-    c.at_item.ensures ∙ ap (λ (e : Cause). at_item DebugInfo e c.from-at.result)
-    (again-memory c.in-Err.cause _ _ r.2
-    (c.in-Err.ensures.scope _ r.1.table are.reader_is r.1.table_is))
+    grind (arith, r, c.in-Err.ensures.scope _ r.1.table are.reader_is r.1.table_is)
 
 pub invariant_of-self-2 : goal.invariant_of-self-2
 invariant_of-self-2 c = with-reader c.self.invariant c.in-Ok.ensures.reader
@@ -38,8 +36,4 @@ returns-clause-site c u found =
     let r = site-read _ _ c.args.unit c.args.index u p.0 k _ (object-units _ _ c.self.view_is)
     (stored-there _ _ are.stored_are _ k u found c.index-stored.ensures) found p.1
     c.index-place.ensures in
-    rw p.1 (
-      same-ok c.in-Ok.entry (scope_entry p.0.member.die p.0.kind)
-          (sym (c.in-Ok.ensures.scope _ r.1.table are.reader_is r.1.table_is) ∙ r.2),
-      r.0,
-    )
+    grind (arith, p.1, r, c.in-Ok.ensures.scope _ r.1.table are.reader_is r.1.table_is)

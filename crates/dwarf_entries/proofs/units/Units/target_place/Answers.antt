@@ -1,5 +1,5 @@
 use Rattle.dwarf_entries.proofs
-use proofs.{◌+◌, refl, sym, ap, arith, slice_get_within, StoredUnit, anywhere, within-unit}
+use proofs.{◌+◌, refl, arith, slice_get_within, anywhere, within-unit}
 use proofs.{seen-units, found-at, stored-index, object-units}
 use Rattle.dwarf_entries.proofs.{common_steps}
 use Rattle.dwarf_entries.proofs.units.Units.target_place.Goals as goal
@@ -8,9 +8,9 @@ pub returns-then-reference-eq-DW_FORM_REF_ADDR-clause-leads :
     goal.returns-then-reference-eq-DW_FORM_REF_ADDR-clause-leads
 returns-then-reference-eq-DW_FORM_REF_ADDR-clause-leads c u at =
     let are = seen-units c.self.invariant c.self.view_is c.deref.ensures.value in
-    rw (← anywhere (object-units _ _ c.self.view_is) c.deref.result.now are c.ends_by.result
-    c.from-number.result c.ends_by.ensures.parts u c.args.reference
-    c.if-reference-eq-DW_FORM_REF_ADDR.true (sym c.from-number.ensures)) c.place_in.ensures.leads
+    let leads = anywhere (object-units _ _ c.self.view_is) c.deref.result.now are c.ends_by.result
+    c.from-number.result c.ends_by.ensures.parts u c.args.reference in
+    grind (arith, leads, c.place_in.ensures.leads)
 
 pub returns-in_err-start-clause-leads : goal.returns-in_err-start-clause-leads
 returns-in_err-start-clause-leads c u at =
@@ -21,10 +21,8 @@ returns-clause-leads c u at =
     let us = c.args.self.now.units in
     let are = seen-units c.self.invariant c.self.view_is c.deref-2.ensures.value in
     let k = c.in_ok-start.field-0.now in
-    let start = ap (λ (x : StoredUnit). x.header.start)
-    (stored-index c.deref-2.result.now us are c.args.unit k u
-    (found-at _ _ c.args.unit k refl c.in_ok-start.ensures.lookup.3) at) in
-    let number = c.from-number.ensures in
-    rw (← within-unit us c.args.unit (k.header.start + c.from-number.result) u c.args.reference
-    c.if-reference-eq-DW_FORM_REF_ADDR.false at (omega (arith, start, number)))
-    c.place_in-2.ensures.leads
+    let same = stored-index c.deref-2.result.now us are c.args.unit k u
+    (found-at _ _ c.args.unit k refl c.in_ok-start.ensures.lookup.3) at in
+    let leads = within-unit us c.args.unit (k.header.start + c.from-number.result) u
+    c.args.reference c.if-reference-eq-DW_FORM_REF_ADDR.false at in
+    grind (arith, same, leads, c.place_in-2.ensures.leads)
