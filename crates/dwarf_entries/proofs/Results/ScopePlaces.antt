@@ -132,8 +132,7 @@ scopes-in-order s tree h =
           let x = at i scope found in
           let last = before-later x.place.2 (length us)
           (slice_get_within us x.place.0 x.site.member.unit x.place.2.unit_is) in
-          let all = first-all us (length us) (omega arith) in
-          grind (arith, x.number_is, x.end_is, scopes-count t.1));
+          grind (arith, x.number_is, x.end_is, scopes-count t.1, first-all));
       nested = nested tree.scopes (λ i j outer inner outer_is inner_is lt inside.
           let x = at i outer outer_is in
           let y = at j inner inner_is in

@@ -74,8 +74,7 @@ units-are-in s headers tables us vs headers_are tables_are us_are vs_are = recor
   apart = λ i j u v first second lt.
       let here = (unit-in i u first).0 in
       let there = (unit-in j v second).0 in
-      let within = slice_get_within headers j v.header there in
-      grind (arith, headers_are.apart i j u.header lt within, get_or_from_slice_get);
+      grind (arith, headers_are.apart i j u.header lt, slice_get_within, get_or_from_slice_get);
 }
   where
     unit-in : (i : ℕ) (v : CompilationUnit) → slice_get vs i ≡ Some v

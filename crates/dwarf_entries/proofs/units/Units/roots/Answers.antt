@@ -15,16 +15,12 @@ loop-unit-preserved c =
     let past = past-is here first (first + c.len.result) c.loop-unit.invariant.first_is size in
     let next = roots-next here first (first + c.len.result) c.loop-unit.invariant.first_is size in
     elim c.match-unit.branch [
-      | in-Some+in_ok-push w ↦ record {
-        first_is = rw w.first-is past.0;
-        so_far = rw (w.roots-is, w.in_ok-push.ensures.items) (next (Some w.in-Some.root) roots
-            w.in-Some.is c.loop-unit.invariant.so_far);
-      }
-      | in_default w ↦ record {
-        first_is = rw w.first-is past.0;
-        so_far = rw (w.roots-is, ← append-nil roots) (next None roots w.in_default.is
-            c.loop-unit.invariant.so_far);
-      }
+      | in-Some+in_ok-push w ↦
+          let more = next (Some w.in-Some.root) roots w.in-Some.is c.loop-unit.invariant.so_far in
+          grind (arith, past, w.first-is, w.roots-is, w.in_ok-push.ensures.items)
+      | in_default w ↦
+          let same = next None roots w.in_default.is c.loop-unit.invariant.so_far in
+          grind (arith, past, w.first-is, w.roots-is, append-nil)
     ]
 
 pub returns : goal.returns

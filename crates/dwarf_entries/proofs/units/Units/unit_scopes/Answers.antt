@@ -101,13 +101,8 @@ returns-clause-scopes c parsed =
     let us = c.args.self.now.units in
     let u = element us c.args.unit c.requires.unit in
     let size = c.scopes_in-index-end.ensures u.0 u.1 in
+    let first = first-next us c.args.unit u.0 u.1 in
+    let sites = sites-count u.0 u.0.dies in
     let next : first_number us c.args.unit + c.loop-index.index
-    ≡ first_number us (c.args.unit + 1) = omega (
-      arith,
-      size,
-      first-next us c.args.unit u.0 u.1,
-      sites-count u.0 u.0.dies,
-      c.loop-index-test.false,
-      c.loop-index.auto.index-end,
-    ) in
+    ≡ first_number us (c.args.unit + 1) = omega arith in
     rw (← next) (c.loop-index.invariant.so_far parsed)
