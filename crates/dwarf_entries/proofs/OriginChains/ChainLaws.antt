@@ -1,14 +1,15 @@
 -- The loop that follows an origin chain, the names that it finds, and the cache of the names of
 -- reference targets.
 use Rattle.dwarf_entries.proofs.Common
-use Common.{◌≡◌, ℕ, suc, ◌+◌, List, [], ◌∷◌, ◌++◌, refl, sym, ap, ◌∙◌, arith, Option, Some, None}
+use Common.{◌≡◌, ℕ, suc, ◌+◌, List, [], ◌∷◌, ◌++◌, refl, sym, ap, arith, Option, Some, None}
+use Common.{common_steps}
 use Common.{Result, Ok, Err, slice_get, option_map, ◌-◌, option_or, Cause, ◌>>=◌, AttributeValue}
 use Common.{NamedEntry, UnitPlace, CompilationUnit, Member, target_of, chain_within, IsMember}
 use Common.{Reference, first_on, IsPlaceOf, Finds, same_Some, ◌==◌, DW_AT_LINKAGE_NAME, DW_AT_NAME}
 use Common.{EntryNames, Sections, names_of, member_in, name_on, references_limit, slot_at}
 use Common.{IsCacheOf, NameCache, attribute, append_assoc, ◌&&◌, if◌then◌else◌, of_member, IsFirst}
 use Common.{AreFirst, FindsFirst, UnitAttribute, UnitEntry, FirstNames}
-use Common.{slot_of, second_names, target_names, are_narrow, or_else, next_of, OriginDepth, chosen}
+use Common.{slot_of, second_names, target_names, are_narrow, or_else, next_of, OriginDepth}
 
 -- ---- the first attribute with a name
 
@@ -115,9 +116,7 @@ pub cache-more : (s : Sections) (units : List CompilationUnit) (old new : NameCa
     → (member_in units place.unit place.offset >>= λ m. second_names s units m) ≡ Ok names
     → IsCacheOf s units new
 cache-more s units old new place names knew put read slot packed is =
-    chosen ((slot == slot_of place) && are_narrow place names)
-    (Some (record { place = place; names = names })) (slot_at old slot) (Some packed)
-    (sym (put slot) ∙ is) _ (λ _ h. rw (← same_Some _ packed h) read) (λ _ h. knew slot packed h)
+    grind (arith, common_steps, same_Some)
 
 -- ---- the names of an entry that has no name of its own
 

@@ -74,11 +74,8 @@ module _ {us : List CompilationUnit} {i j k l n m : ℕ} {p q : ScopeSite}
       let past = before-later a j in
       let before = before-later b i in
       let between = λ (e : i ≡ j). scopes-between p.member.unit.dies k l p.member.die q.member.die
-      a.there (there-too e) (ap is_some a.kind_is) (ap is_some b.kind_is) in (
-        λ below. let numbers = (between below.0).0 below.1 in grind (arith, a, b, below.0),
-        λ numbers. let e : i ≡ j = grind (arith, a.number_is, b.number_is) in
-            (e, (between e).1 (grind (arith, a, b))),
-      )
+      a.there (there-too e) (ap is_some a.kind_is) (ap is_some b.kind_is) in
+      grind arith
 
   -- The offsets of sites are strictly increasing.
   pub sites-rise : {s : Sections} → AreUnitsIn s us → n < m

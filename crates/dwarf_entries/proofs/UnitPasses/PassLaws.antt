@@ -37,11 +37,8 @@ each-at make before xs ys h i y found =
     let within = slice_get_within ys i y found in
     let size = each-length make before xs ys h in
     let x = element xs i (omega (arith, within, size)) in
-    let read = each-place make before xs ys h i x.0 y (omega (arith, within, size)) in (
-      x.0,
-      x.1,
-      grind (arith, get_or_from_slice_get xs i x.0 x.0 x.1, get_or_from_slice_get ys i y y found),
-    )
+    let read = each-place make before xs ys h i x.0 y (omega (arith, within, size)) in
+    grind (arith, get_or_from_slice_get)
 
 -- ---- faults
 

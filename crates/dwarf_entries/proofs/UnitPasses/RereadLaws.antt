@@ -1,9 +1,9 @@
 -- Re-reading the entries of a unit at their offsets, and the scope sites of a unit from its stored
 -- data.
 use Rattle.dwarf_entries.proofs.Common
-use Common.{◌≡◌, ℕ, List, length, take, true, refl, ap, ◌∙◌, arith, [], ◌∷◌, get_or, map, Some}
+use Common.{◌≡◌, ℕ, List, length, take, true, refl, arith, [], ◌∷◌, get_or, map, Some}
 use Common.{Ok, slice_get, UnitHeader, Die, Sections, UnitPlace, CompilationUnit}
-use Common.{Member, UnitEntries, AreStored, stored_unit_of, StoredUnit, stored_of, length-map}
+use Common.{Member, UnitEntries, AreStored, stored_unit_of, stored_of, length-map}
 use Common.{slice_get_within, get_or_from_slice_get, ScopeSite, sites_in, IsPlaceOf, named_entry}
 use Common.{scope_entry, scope_places, scope_entry_at, used_at, named_entry_at, ScopePlace}
 use Common.{uleb-moves, entry_at, stored_attributes, entries_again, value-stored}
@@ -55,9 +55,8 @@ places-are u (die ∷ rest) = let later = places-are u rest in grind arith
 -- A unit has as many stored elements as sites.
 pub sites-stored : (k : UnitEntries) (u : CompilationUnit) → stored_of k ≡ stored_unit_of u
     → length k.scopes.items ≡ length (sites_in u u.dies)
-sites-stored k u same = ap (λ (x : StoredUnit). length x.scopes) same
-    ∙ (ap (λ (ps : List ScopePlace). length ps) (places-are u u.dies)
-    ∙ length-map (sites_in u u.dies) place_in)
+sites-stored k u same =
+    grind (arith, places-are u u.dies, length-map (sites_in u u.dies) place_in)
 
 pub ruleset stored_scopes = (sites-stored, seen, stored-there)
 

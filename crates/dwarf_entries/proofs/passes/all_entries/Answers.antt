@@ -1,4 +1,5 @@
 use Rattle.dwarf_entries.proofs
+use proofs.{common_steps}
 use proofs.{bind_ok, ◌≡◌, ◌⊎◌, ℕ, ◌+◌, ◌<◌, List, [], ◌∷◌, ◌++◌, length, get_or, refl, sym, ◌∙◌}
 use proofs.{arith, append-nil, inl, Some, Ok, Err, zip, slice_get, Result, map_push}
 use proofs.{slice_get-get_or, same_Some, slice_get_within, LoadFault, in_section, each-length}
@@ -46,13 +47,10 @@ module _ {info : List ℕ} {headers : List UnitHeader} {tables : List (List Decl
       let u : CompilationUnit = record { header = header; dies = found.0; bases = no_bases } in
       let offsets : all_offsets made ++ offsets_of found.0 ≡ all_offsets (made ++ u ∷ []) =
       simp (map_push, flat_map-append, append-nil) in
-      record {
-        made = made ++ u ∷ [];
-        passed = pass-next so_far.passed (header, table) u there (grind (arith, found.1));
-        stored_are = grind (arith, map_push, so_far.stored_are, found.2);
-        marked_so = rw (← offsets) (adds-more bitmap marked after (all_offsets made)
-            (offsets_of found.0) so_far.marked_so (adds found.0 found.1));
-      }
+      let next = pass-next so_far.passed (header, table) u there (grind (arith, found.1)) in
+      let marks = adds-more bitmap marked after (all_offsets made) (offsets_of found.0)
+      so_far.marked_so (adds found.0 found.1) in
+      grind (arith, map_push)
 
   entries-fault : {fault : LoadFault} → Faults fault (stored_entries info header table)
       → Faults fault (all_entries info headers tables)
@@ -102,9 +100,5 @@ loop-header-preserved c =
 
 pub returns-clause-units : goal.returns-clause-units
 returns-clause-units c tables all =
-    let so_far = c.loop-header.invariant.so_far tables all in (
-      so_far.made,
-      pass-end so_far.passed
-          (omega (arith, c.loop-header-test.false, length-zip c.args.headers.now tables)),
-      (so_far.stored_are, so_far.marked_so),
-    )
+    let so_far = c.loop-header.invariant.so_far tables all in
+    grind (arith, common_steps, pass-end, length-zip, c.loop-header-test.false)

@@ -1,5 +1,6 @@
 use Rattle.dwarf_entries.proofs
-use proofs.{Range, Global, Vec, ◌<◌, ◌≡◌, ℕ, ◌+◌, List, [], ◌∷◌, ◌++◌, length, ap, arith, refl}
+use proofs.{common_steps}
+use proofs.{Range, Global, Vec, ◌<◌, ◌≡◌, ℕ, ◌+◌, List, length, ap, arith, refl}
 use proofs.{◌∙◌, Ok, Some, slice_get, map_push, length-map, Cause, LoadFault, at_item, Sections}
 use proofs.{Root, CompilationUnit, ParsedScope, ScopeSite, scope_at, sites_in, roots_from}
 use proofs.{AreParsedTo, first_number, all_sites, all_scopes, DebugInfo, Fails, ScopeEntry}
@@ -24,13 +25,7 @@ module _ {s : Sections} {us : List CompilationUnit} {number : ℕ} {lists : Scop
         let one : ParsedScope = record { scope = facts_of roots found facts; items = items } in
         let sum = sum_by_push (λ (j : ParsedScope). j.items) parsed one in
         let rest = pushed roots lists new ranges found facts so_far.in_list grown is in
-        record {
-          parsed = parsed ++ one ∷ [];
-          passed = rw next_is (pass-next so_far.passed p one there (rw read refl));
-          described = grind (arith, rest, so_far.described, map_push);
-          in_list = rest.1;
-          counted = omega (arith, so_far.counted, counted, sum);
-        }
+        grind (arith, common_steps, pass-next, map_push)
 
     scopes-fault : (cause : Cause) (at : ℕ) (fault : LoadFault)
         → Fails cause (scope_at s us so_far.parsed p) → at ≡ p.member.die.offset
@@ -57,11 +52,8 @@ module _ {s : Sections} {us : List CompilationUnit} {number : ℕ} {lists : Scop
       let site = site-in u u.dies index p here in
       let is = read u found in
       let stmt_list = by_number 0 us u numbers.unit numbers.number found in
-      let count = sites-count u u.dies in (
-        p,
-        all-sites-at us numbers.unit index number u p found here number_is,
-        grind (arith, so_far.described, so_far.counted, so_far.passed.len),
-      )
+      let count = sites-count u u.dies in
+      grind (arith, all-sites-at)
 
 pub returns-in_err-entry-clause-scopes : goal.returns-in_err-entry-clause-scopes
 returns-in_err-entry-clause-scopes c parsed =
