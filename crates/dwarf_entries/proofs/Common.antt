@@ -5,7 +5,7 @@ use Rattle.dwarf_units.specs as units
 use Rattle.dwarf_walk.specs as walk
 pub use Rattle.dwarf_bytes.proofs.Items.EachPlaces.{each-append, each-length, each-place}
 pub use Rattle.dwarf_bytes.proofs.Items.{ItemLaws.Lists-within, Turns.None-from-no-Some}
-pub use Rattle.dwarf_bytes.proofs.Numbers.Advance.{bind_ok, chosen, reading-ok}
+pub use Rattle.dwarf_bytes.proofs.Numbers.Advance.{bind_ok, reading-ok}
 pub use Rattle.dwarf_bytes.proofs.Numbers.{LengthLaws.initial_length_at-moves, Moves.same-ok}
 pub use Rattle.dwarf_bytes.proofs.{Numbers.Moves.uleb-moves, Strings.SectionNames.before-all}
 pub use Rattle.dwarf_bytes.proofs.Strings.{SectionNames.string-after-end, StringLaws.text-encoded}
@@ -21,7 +21,7 @@ pub use Rattle.dwarf_units.proofs.EntryOrder.{entries_again, increasing, list-in
 pub use Rattle.dwarf_units.proofs.{TableLaws.{in_section-ok, table_for}}
 pub use Rattle.dwarf_units.proofs.{TableLaws.table_is, UnitLaws.{header_in-places, unit_at-moves}}
 pub use Rattle.dwarf_walk.proofs.BitmapLaws.{adds-more, adds-none}
-pub use Rattle.dwarf_walk.proofs.RereadLaws.{again-memory, inside-is, without_place}
+pub use Rattle.dwarf_walk.proofs.RereadLaws.{inside-is}
 pub use Rattle.dwarf_walk.proofs.StoredNodes.{names_at-stored, value-stored}
 pub use Rattle.std.proofs.Common.{All, Bool, Contains, Err, IfSome}
 pub use Rattle.std.proofs.Common.{List, None, Ok, Option, Result, Some, Vec, [], add-one, ap}
@@ -36,7 +36,7 @@ pub use Rattle.std.proofs.lemmas.{Bool.{leb-false, leb-true, lt-ltb, ne_eqb}, Gr
 pub use Rattle.std.proofs.lemmas.List.{Concat.flat_map-append, Elements.{All-cons, All-contains}}
 pub use Rattle.std.proofs.lemmas.List.Elements.{All-filter, All-map, All-nil, All-weaker}
 pub use Rattle.std.proofs.lemmas.List.{Elements.recursion_from_All, Folds.{find-append, find_at}}
-pub use Rattle.std.proofs.lemmas.List.{Folds.{fold-map, list_any-append}, Kept.AllPairs-cons}
+pub use Rattle.std.proofs.lemmas.List.Folds.{fold-map, list_any-append}
 pub use Rattle.std.proofs.lemmas.List.{Kept.AllPairs-filter, Sorted.IsPartitionPoint-from_clause}
 pub use Rattle.std.proofs.lemmas.List.{Sorted.IsPartitionedBy-leb, Sums.count_by_more_yes}
 pub use Rattle.std.proofs.lemmas.List.Sums.{position_or_len_is, prefix_len-le-length}
@@ -50,8 +50,8 @@ pub use Rattle.std.proofs.lemmas.Option.{same_Some, slice_get-get_or, slice_get-
 pub use Rattle.std.proofs.lemmas.Option.{slice_get_read, slice_get_within, unwrap_or-slice_get}
 pub use Rattle.std.proofs.lemmas.Slice.Zip.{get_or-zip, length-zip}
 pub use Rattle.std.specs.List.{AllPairs}
-pub use Rattle.std.specs.List.Sorted.{IsNonDecreasingBy, IsPartitionPoint, IsStrictlyIncreasing}
-pub use Rattle.std.specs.List.{filter_map, find, list_any, position_or_len, prefix_len}
+pub use Rattle.std.specs.List.Sorted.{IsNonDecreasingBy, IsPartitionPoint}
+pub use Rattle.std.specs.List.{filter_map, find, list_any, prefix_len}
 pub use Rattle.std.specs.{Option.option_or, Result.IsErrAnd, declared.alloc.Global.Global}
 pub use bytes.{Bind.◌>>=◌, Items.{At, Lists, each, items_from, reading, with_offset}}
 pub use bytes.Refusals.{Fails, at_item, in_section, memory_fault}
@@ -60,12 +60,12 @@ pub use bytes.declared.fault.Cause.{Cause, TheVariants.OriginDepth}
 pub use bytes.declared.fault.{Cause.TheVariants.Reference, LoadFault.LoadFault, Section.Section}
 pub use bytes.declared.fault.Section.TheVariants.{DebugAbbrev, DebugInfo, DebugLineStr, DebugStr}
 pub use bytes.declared.{format.Format.Format, tables.TableKind.TheVariants.StrOffsets}
-pub use entries.Names.{Member, first_on, member_at, members_of}
+pub use entries.Names.{Member, first_on, members_of}
 pub use entries.Names.{name_on, names_of, of_member, references_limit, target_of, text_in, text_of}
 pub use entries.Order.{AreInOrder, AreNested, AreNumbered, HasDataOf}
 pub use entries.Private.EntryOffsets.{AreStored, all_offsets, scope_count, stored_unit_of}
 pub use entries.Private.Members.{AreFirst, Finds, FindsFirst, IsFirst, IsMember}
-pub use entries.Private.{Members.{IsPlaceOf, IsWithin, LeadsTo, member_in}, NameCache.CachedNames}
+pub use entries.Private.Members.{IsPlaceOf, IsWithin, LeadsTo, member_in}
 pub use entries.Private.NameCache.{IsCacheOf, second_names, slot_at, slot_of, target_names}
 pub use entries.Private.{Narrow.are_narrow, ObjectUnits.{AreUnitsOf, ObjectUnits, units_of_object}}
 pub use entries.Private.{ObjectUnits.units_or_none, Passes.{AreParsedTo, IsScopeSite, IsSiteRead}}
@@ -87,12 +87,12 @@ pub use entries.declared.{unit_scopes.ScopeNumbers.ScopeNumbers, units.Units.The
 pub use units.Entries.{Die, IsBelow, LocatedNode, attribute, below, die_of, node_at}
 pub use units.Private.{Rising.RiseWithin, StoredAttributes.stored_attributes}
 pub use units.Units.{declarations_limit, header_at, header_in, is_read}
-pub use units.declared.attributes.{Attribute.Attribute, AttributeValue.AttributeValue}
+pub use units.declared.attributes.AttributeValue.{AttributeValue}
 pub use units.declared.unit_headers.UnitHeader.{UnitHeader}
 pub use walk.EntryBitmap.{AddsOffsets, offsets_of}
 pub use walk.Private.{Named.{named_entry_at, used_at}, Rereading.{IsReaderOf, scope_entry_at}}
 pub use walk.{References.{next_of, or_else}, ScopeEntries.{is_scope, kind_of}, Sections.Sections}
-pub use walk.{Sections.sections_of, Stored.{StoredUnit, named_entry}}
+pub use walk.{Sections.sections_of, Stored.named_entry}
 pub use walk.Stored.{root_in, scope_entry, scope_places, stored_entries, stored_of, stored_unit}
 pub use walk.declared.{entry_bitmap.EntryBitmap.EntryBitmap, entry_reader.EntryReader.EntryReader}
 pub use walk.declared.{scope_kind.ScopeKind.ScopeKind, unit_entries.NamedEntry.NamedEntry}

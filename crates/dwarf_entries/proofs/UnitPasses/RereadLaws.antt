@@ -58,6 +58,7 @@ pub sites-stored : (k : UnitEntries) (u : CompilationUnit) → stored_of k ≡ s
 sites-stored k u same =
     grind (arith, places-are u u.dies, length-map (sites_in u u.dies) place_in)
 
+-- The lemmas for the number of scopes that are stored for a unit.
 pub ruleset stored_scopes = (sites-stored, seen, stored-there)
 
 -- The site at an index of a unit can be re-read from the stored data of the unit.

@@ -164,6 +164,7 @@ pub with-parts : {v w : ObjectUnits} {u : Inside} {reader : EntryReader} {cache 
     → AreUnitsOf v (record u { reader = reader; cache = cache })
 with-parts are same reader_is cache_is = grind (arith, seen)
 
+-- The same with another reader of the same sections.
 pub with-reader : {v : ObjectUnits} {u : Inside} {reader : EntryReader} → AreUnitsOf v u
     → ((s : Sections) → IsReaderOf s u.reader → IsReaderOf s reader)
     → AreUnitsOf v (record u { reader = reader })
