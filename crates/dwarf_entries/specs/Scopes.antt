@@ -1,24 +1,23 @@
 -- The subprograms and inlined subroutines of all units (DWARF 5, 3.3), and the faults of
 -- .debug_info.
-use Rattle.std.specs.Prelude.{ℕ, ◌+◌, ◌-◌, ◌*◌, List, [], ◌∷◌, length, Option, Some, None, Result}
-use Rattle.std.specs.Prelude.{Ok, option_and_then, map, flat_map, count_by, sum_by, slice_get, take}
-use Rattle.std.specs.{Prelude.{drop, ◌==◌, ◌^◌, if◌then◌else◌, nat_lt}, List.find}
-use Rattle.std.specs.Option.{option_map_or, unwrap_or}
+use Rattle.dwarf_bytes.specs.{Bind.◌>>=◌, Items.{each, with_offset}, Refusals.in_section}
 use Rattle.dwarf_bytes.specs.declared.constants.TheConstants.{DW_AT_CALL_FILE, DW_AT_CALL_LINE}
-use Rattle.dwarf_bytes.specs.declared.constants.TheConstants.{DW_AT_STMT_LIST}
-use Rattle.dwarf_bytes.specs.{declared.fault.Cause.Cause, declared.fault.Section.Section}
-use Rattle.dwarf_bytes.specs.{declared.fault.LoadFault.LoadFault, Bind.◌>>=◌, Items.with_offset}
-use Rattle.dwarf_bytes.specs.{Items.each, Refusals.in_section}
-use Rattle.dwarf_entries.specs.declared.origin_chains.EntryNames.{EntryNames}
-use Rattle.dwarf_entries.specs.{declared.calls.CallSite.CallSite, declared.calls.Calls.Calls}
+use Rattle.dwarf_bytes.specs.declared.{constants.TheConstants.DW_AT_STMT_LIST, fault.Cause.Cause}
+use Rattle.dwarf_bytes.specs.declared.fault.{LoadFault.LoadFault, Section.Section}
+use Rattle.dwarf_entries.specs.{Names.{Member, names_of}, Units.{CompilationUnit, units_read}}
+use Rattle.dwarf_entries.specs.declared.calls.{CallSite.CallSite, Calls.Calls}
+use Rattle.dwarf_entries.specs.declared.{origin_chains.EntryNames.EntryNames, scope.Root.Root}
 use Rattle.dwarf_entries.specs.declared.scope_lists.ScopeLists.{ScopeLists}
-use Rattle.dwarf_entries.specs.{declared.scope.Root.Root, declared.scope.Scope.Scope as StoredScope}
-use Rattle.dwarf_entries.specs.{declared.text_offset.TextOffset.TextOffset, Units.CompilationUnit}
-use Rattle.dwarf_entries.specs.{Units.units_read, Names.{Member, names_of}}
-use Rattle.dwarf_ranges.specs.{declared.range.Range.Range, Ranges.{Covering, covers_of}}
+use Rattle.dwarf_entries.specs.declared.text_offset.TextOffset.{TextOffset}
+use Rattle.dwarf_ranges.specs.{Ranges.{Covering, covers_of}, declared.range.Range.Range}
 use Rattle.dwarf_units.specs.Entries.{Die, below}
-use Rattle.dwarf_walk.specs.{declared.scope_kind.ScopeKind.ScopeKind, Sections.Sections}
-use Rattle.dwarf_walk.specs.ScopeEntries.{kind_of, is_scope, number_of}
+use Rattle.dwarf_walk.specs.{ScopeEntries.{is_scope, kind_of, number_of}, Sections.Sections}
+use Rattle.dwarf_walk.specs.declared.scope_kind.ScopeKind.{ScopeKind}
+use Rattle.std.specs.{List.find, Option.{option_map_or, unwrap_or}, Prelude.{List, None, Ok}}
+use Rattle.std.specs.Prelude.{Option, Result, Some, [], count_by, drop, flat_map, if◌then◌else◌}
+use Rattle.std.specs.Prelude.{length, map, nat_lt, option_and_then, slice_get, sum_by, take, ℕ, ◌*◌}
+use Rattle.std.specs.Prelude.{◌+◌, ◌-◌, ◌==◌, ◌^◌, ◌∷◌}
+use Rattle.dwarf_entries.specs.declared.scope.Scope.{Scope as StoredScope}
 use Rattle.dwarf_bytes.specs.declared.fault.Section.TheVariants as names
 use Rattle.dwarf_entries.specs.declared.calls.Calls.TheVariants as calls
 

@@ -1,15 +1,14 @@
 -- Theorems about the result for a whole object.
-use Rattle.std.specs.Prelude.{◌≡◌, ℕ, ◌<◌, ◌≤◌, List, [], ◌∷◌, length, take, Some}
-use Rattle.std.specs.{Prelude.{Ok, All, slice_get}, List.Sorted.IsStrictlyIncreasing}
-use Rattle.dwarf_bytes.specs.{declared.fault.Section.Section, Items.Lists, Numbers.IsEncodedAt}
-use Rattle.dwarf_bytes.specs.Numbers.{IsText}
+use Rattle.dwarf_bytes.specs.{Items.Lists, Numbers.{IsEncodedAt, IsText}}
+use Rattle.dwarf_bytes.specs.declared.fault.Section.{Section}
+use Rattle.dwarf_entries.specs.{Scopes.Scope, Units.CompilationUnit, declared.scope.Root.Root}
+use Rattle.dwarf_entries.specs.declared.text_offset.TextOffset.{TextOffset}
 use Rattle.dwarf_forms.specs.Declarations.{Declaration}
-use Rattle.dwarf_units.specs.{declared.unit_headers.UnitHeader.UnitHeader, Units.unit_at}
-use Rattle.dwarf_units.specs.Entries.{LocatedNode, Die, node_at}
-use Rattle.dwarf_entries.specs.declared.scope.Root.{Root}
-use Rattle.dwarf_entries.specs.{declared.text_offset.TextOffset.TextOffset, Units.CompilationUnit}
-use Rattle.dwarf_entries.specs.Scopes.{Scope}
-use Rattle.dwarf_walk.specs.{Sections.Sections, ScopeEntries.kind_of}
+use Rattle.dwarf_units.specs.{Entries.{Die, LocatedNode, node_at}, Units.unit_at}
+use Rattle.dwarf_units.specs.declared.unit_headers.UnitHeader.{UnitHeader}
+use Rattle.dwarf_walk.specs.{ScopeEntries.kind_of, Sections.Sections}
+use Rattle.std.specs.{List.Sorted.IsStrictlyIncreasing, Prelude.{All, List, Ok, Some, [], length}}
+use Rattle.std.specs.Prelude.{slice_get, take, ℕ, ◌<◌, ◌∷◌, ◌≡◌, ◌≤◌}
 use Rattle.dwarf_bytes.specs.declared.fault.Section.TheVariants as names
 
 -- Offsets are strictly increasing and less than an end.

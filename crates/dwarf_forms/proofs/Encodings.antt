@@ -7,10 +7,9 @@ use Rattle.dwarf_bytes.specs.{Numbers.IsEncodedAt, declared.fault.Cause.Cause}
 use Rattle.dwarf_forms.specs.Declarations.{EncodesEach}
 use Rattle.std.proofs.Common.{All, AllPairs, List, Ok, Result, [], ap, append-nil, append_assoc}
 use Rattle.std.proofs.Common.{arith, drop, false, length, length-append, refl, suc, ℕ, ◌++◌, ◌+◌}
-use Rattle.std.proofs.{Common.{◌-◌, ◌<◌, ◌==◌, ◌↔◌, ◌∷◌, ◌≡◌, ◌≢◌}, lemmas.List.get_or_append_left}
-use Rattle.std.proofs.{lemmas.List.{get_or_push, take_at}, lemmas.List.Elements.All-push}
-use Rattle.std.proofs.lemmas.List.Folds.{list_any_at, list_any_none}
-use Rattle.std.proofs.lemmas.List.Quantifiers.{all_pairs_push}
+use Rattle.std.proofs.{Common.{◌-◌, ◌<◌, ◌==◌, ◌↔◌, ◌∷◌, ◌≡◌, ◌≢◌}, lemmas.List.Elements.All-push}
+use Rattle.std.proofs.lemmas.List.{Folds.{list_any_at, list_any_none}, Quantifiers.all_pairs_push}
+use Rattle.std.proofs.lemmas.List.{get_or_append_left, get_or_push, take_at}
 use Rattle.std.specs.List.{list_any}
 
 -- the bytes at the offset start with `front`, and `next` is the offset after it

@@ -1,13 +1,12 @@
 -- Attribute values (DWARF 5, 7.5.5 and 7.5.6): how a form encodes a value, and how it is read.
-use Rattle.std.specs.Prelude.{◌≡◌, ℕ, ℤ, List, [], ◌++◌, Option, Some, None, Result, Ok, Err}
-use Rattle.dwarf_bytes.specs.{Bind.◌>>=◌, Numbers.{IsUleb, uleb_at}, Position.Position}
-use Rattle.dwarf_bytes.specs.{Forms.form_of, Contents.{Content, Signed, content_of, EncodesContent}}
-use Rattle.dwarf_bytes.specs.{Contents.content_at, declared.fault.ReadFault.ReadFault}
-use Rattle.dwarf_bytes.specs.{declared.format.Format.Format, declared.form.ValueLayout.ValueLayout}
+use Rattle.dwarf_bytes.specs.{Bind.◌>>=◌, Contents.{Content, EncodesContent, Signed, content_at}}
+use Rattle.dwarf_bytes.specs.{Contents.content_of, Forms.form_of, Numbers.{IsUleb, uleb_at}}
+use Rattle.dwarf_bytes.specs.{Position.Position, declared.fault.ReadFault.ReadFault}
 use Rattle.dwarf_bytes.specs.declared.form.Form.TheVariants.{Direct, ImplicitConst, Indirect}
+use Rattle.dwarf_bytes.specs.declared.{form.ValueLayout.ValueLayout, format.Format.Format}
+use Rattle.dwarf_forms.specs.declared.values.ValueFault.{TheVariants.{Form, Read}, ValueFault}
+use Rattle.std.specs.Prelude.{Err, List, None, Ok, Option, Result, Some, [], ℕ, ℤ, ◌++◌, ◌≡◌}
 use Rattle.dwarf_forms.specs.declared.values.Value.{Value as Lent}
-use Rattle.dwarf_forms.specs.declared.values.ValueFault.{ValueFault}
-use Rattle.dwarf_forms.specs.declared.values.ValueFault.TheVariants.{Read, Form}
 
 -- a value with its form, independent of where its bytes are stored
 pub record Value : Type 0 where

@@ -1,13 +1,12 @@
 -- The entries of range lists: each takes at least one byte, and its range, if any, is nonempty.
-use Rattle.dwarf_bytes.proofs.{Numbers.Advance.{MovesOn, bind_ok}, Numbers.Moves.fixed_at-moves}
-use Rattle.dwarf_bytes.proofs.Numbers.Moves.{u8-moves, uleb-moves}
+use Rattle.dwarf_bytes.proofs.Numbers.{Advance.{MovesOn, bind_ok}, Moves.{fixed_at-moves, u8-moves}}
+use Rattle.dwarf_bytes.proofs.Numbers.Moves.{uleb-moves}
 use Rattle.dwarf_bytes.specs.{Bind.◌>>=◌, Items.{Advances, End, Item, Next, reading, refuse_if}}
 use Rattle.dwarf_bytes.specs.{Numbers.u8_at, declared.fault.Cause.Cause}
-use Rattle.dwarf_ranges.specs.Ranges.{IsValidRange, entry_at, list_entry_at}
-use Rattle.dwarf_ranges.specs.Ranges.{list_entry_of, live_range, operand_at, operands_of, range_of}
-use Rattle.dwarf_ranges.specs.{Ranges.ranges_in, declared.bases.Bases.Bases}
-use Rattle.dwarf_ranges.specs.{declared.range.Range.Range, declared.range_entries.Operand.Operand}
-use Rattle.dwarf_ranges.specs.declared.range_entries.Operands.{Operands}
+use Rattle.dwarf_ranges.specs.Ranges.{IsValidRange, entry_at, list_entry_at, list_entry_of}
+use Rattle.dwarf_ranges.specs.Ranges.{live_range, operand_at, operands_of, range_of, ranges_in}
+use Rattle.dwarf_ranges.specs.declared.{bases.Bases.Bases, range.Range.Range}
+use Rattle.dwarf_ranges.specs.declared.range_entries.{Operand.Operand, Operands.Operands}
 use Rattle.dwarf_ranges.specs.declared.range_entries.RangeListEntry.{RangeListEntry}
 use Rattle.dwarf_walk.specs.Sections.{Sections}
 use Rattle.std.proofs.Common.{All, List, None, Ok, Option, Result, Some, arith, length, nat_le}

@@ -4,19 +4,18 @@ use Rattle.dwarf_bytes.proofs.{Items.ItemLaws.Lists-within, Numbers.Advance.bind
 use Rattle.dwarf_bytes.proofs.Numbers.Moves.{same-ok}
 use Rattle.dwarf_bytes.specs.Items.{Lists, Next, items_from, without_offset}
 use Rattle.dwarf_bytes.specs.declared.constants.TheConstants.{DW_AT_HIGH_PC, DW_AT_LOW_PC}
-use Rattle.dwarf_bytes.specs.declared.constants.TheConstants.{DW_AT_RANGES}
-use Rattle.dwarf_bytes.specs.declared.fault.Cause.{Cause}
+use Rattle.dwarf_bytes.specs.declared.{constants.TheConstants.DW_AT_RANGES, fault.Cause.Cause}
+use Rattle.dwarf_ranges.proofs.EntryLaws.{AllHold, list_entry-facts, live-holds}
 use Rattle.dwarf_ranges.specs.Ranges.{AddsRanges, Covering, IsValidRange, base_after, covers_by}
 use Rattle.dwarf_ranges.specs.Ranges.{covers_of, list_at, list_entry_at, pair_at, ranges_in}
-use Rattle.dwarf_ranges.specs.{declared.bases.Bases.Bases, declared.range.Range.Range}
+use Rattle.dwarf_ranges.specs.declared.{bases.Bases.Bases, range.Range.Range}
 use Rattle.dwarf_ranges.specs.declared.range_entries.RangeListEntry.{RangeListEntry}
 use Rattle.dwarf_units.specs.Entries.{Die, attribute}
 use Rattle.dwarf_units.specs.declared.attributes.AttributeValue.{AttributeValue}
 use Rattle.dwarf_walk.specs.Sections.{Sections}
 use Rattle.std.proofs.Common.{List, Ok, Option, Result, [], arith, flat_map, length, length-append}
-use Rattle.std.proofs.Common.{ℕ, ◌++◌, ◌+◌, ◌∷◌, ◌≡◌, ◌≤◌}
-use Rattle.std.proofs.lemmas.List.Elements.{All-append, All-nil}
-use Rattle.dwarf_ranges.proofs.EntryLaws.{AllHold, list_entry-facts, live-holds}
+use Rattle.std.proofs.{Common.{ℕ, ◌++◌, ◌+◌, ◌∷◌, ◌≡◌, ◌≤◌}, lemmas.List.Elements.All-append}
+use Rattle.std.proofs.lemmas.List.Elements.{All-nil}
 
 pub record Fits (budget : ℕ) (covering : Covering) : Type 0 where
   pub hold : AllHold covering.ranges

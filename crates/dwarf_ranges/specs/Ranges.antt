@@ -1,24 +1,22 @@
 -- The address ranges of an entry (DWARF 5, 2.17 and 7.25).
-use Rattle.std.specs.Prelude.{◌≡◌, ℕ, ◌+◌, ◌-◌, ◌^◌, ◌<◌, List, [], ◌∷◌, ◌++◌, length, Option, Some}
-use Rattle.std.specs.Prelude.{None, Result, Ok, Err, nat_lt, nat_le, ◌==◌, ◌||◌, if◌then◌else◌}
-use Rattle.std.specs.Prelude.{ok_or, option_to_list, flat_map, slice_get}
-use Rattle.dwarf_bytes.specs.declared.constants.TheConstants.{DW_AT_HIGH_PC, DW_AT_LOW_PC}
-use Rattle.dwarf_bytes.specs.declared.constants.TheConstants.{DW_AT_RANGES, DW_FORM_RNGLISTX}
-use Rattle.dwarf_bytes.specs.declared.fault.Cause.{Cause}
-use Rattle.dwarf_bytes.specs.{declared.tables.TableKind.TheVariants.{Addr, RngLists}, Bind.◌>>=◌}
-use Rattle.dwarf_bytes.specs.Items.{Next, Item, End, reading, refuse_if, without_offset, items_from}
-use Rattle.dwarf_bytes.specs.{Refusals.Fails, Numbers.{u8_at, u64_at, uleb_at}}
-use Rattle.dwarf_ranges.specs.{declared.range.Range.Range, declared.bases.Bases.Bases}
-use Rattle.dwarf_ranges.specs.declared.range_entries.Operand.{Operand}
-use Rattle.dwarf_ranges.specs.declared.range_entries.Operand.TheVariants.{Index, Address, Number}
+use Rattle.dwarf_bytes.specs.{Bind.◌>>=◌, Items.{End, Item, Next, items_from, reading, refuse_if}}
+use Rattle.dwarf_bytes.specs.{Items.without_offset, Numbers.{u64_at, u8_at, uleb_at}}
+use Rattle.dwarf_bytes.specs.{Refusals.Fails, declared.constants.TheConstants.DW_AT_HIGH_PC}
+use Rattle.dwarf_bytes.specs.declared.constants.TheConstants.{DW_AT_LOW_PC, DW_AT_RANGES}
+use Rattle.dwarf_bytes.specs.declared.{constants.TheConstants.DW_FORM_RNGLISTX, fault.Cause.Cause}
+use Rattle.dwarf_bytes.specs.declared.tables.TableKind.TheVariants.{Addr, RngLists}
+use Rattle.dwarf_ranges.specs.{Bases.{address_of, item_at}, declared.bases.Bases.Bases}
+use Rattle.dwarf_ranges.specs.declared.{range.Range.Range, range_entries.Operand.Operand}
+use Rattle.dwarf_ranges.specs.declared.range_entries.Operand.TheVariants.{Address, Index, Number}
 use Rattle.dwarf_ranges.specs.declared.range_entries.Operands.{Operands}
 use Rattle.dwarf_ranges.specs.declared.range_entries.RangeListEntry.{RangeListEntry}
 use Rattle.dwarf_ranges.specs.declared.range_entries.RangeListEntry.TheVariants.{Base, Covers}
-use Rattle.dwarf_ranges.specs.Bases.{item_at, address_of}
+use Rattle.dwarf_units.specs.{Attributes.{address_forms, is_among}, Entries.{Die, attribute}}
+use Rattle.dwarf_units.specs.declared.attributes.AttributeValue.{AttributeValue}
 use Rattle.dwarf_walk.specs.Sections.{Sections}
-use Rattle.dwarf_units.specs.Attributes.{is_among, address_forms}
-use Rattle.dwarf_units.specs.{declared.attributes.AttributeValue.AttributeValue, Entries.Die}
-use Rattle.dwarf_units.specs.Entries.{attribute}
+use Rattle.std.specs.Prelude.{Err, List, None, Ok, Option, Result, Some, [], flat_map}
+use Rattle.std.specs.Prelude.{if◌then◌else◌, length, nat_le, nat_lt, ok_or, option_to_list}
+use Rattle.std.specs.Prelude.{slice_get, ℕ, ◌++◌, ◌+◌, ◌-◌, ◌<◌, ◌==◌, ◌^◌, ◌||◌, ◌∷◌, ◌≡◌}
 use Rattle.dwarf_bytes.specs.declared.fault.Cause.TheVariants as causes
 
 -- A range is nonempty, and its addresses have 64 bits.

@@ -6,18 +6,14 @@ pub use Rattle.dwarf_bytes.proofs.{Items.Turns.{None-from-no-Some, SoFar}, Numbe
 pub use Rattle.dwarf_bytes.proofs.Numbers.Advance.{after-bind}
 pub use Rattle.dwarf_bytes.specs.{Bind.◌>>=◌, Contents.{Content, Signed}, Forms.form_of}
 pub use Rattle.dwarf_bytes.specs.{Items.{Advances, Item, Lists, reading}, Numbers.uleb_at}
-pub use Rattle.dwarf_bytes.specs.Refusals.{in_section}
-pub use Rattle.dwarf_bytes.specs.declared.fault.Cause.{Cause}
-pub use Rattle.dwarf_bytes.specs.{declared.fault.ReadFault.ReadFault, declared.form.Form.Form}
+pub use Rattle.dwarf_bytes.specs.{Refusals.in_section, declared.fault.Cause.Cause}
+pub use Rattle.dwarf_bytes.specs.declared.{fault.ReadFault.ReadFault, form.Form.Form}
 pub use Rattle.dwarf_bytes.specs.declared.form.Form.TheVariants.{Direct, ImplicitConst, Indirect}
-pub use Rattle.dwarf_bytes.specs.declared.form.ValueLayout.{ValueLayout}
-pub use Rattle.dwarf_bytes.specs.declared.format.Format.{Format}
-unfoldable pub use Rattle.dwarf_bytes.specs.{Contents.content_at, Numbers.{block_at, fixed_at}}
+pub use Rattle.dwarf_bytes.specs.declared.{form.ValueLayout.ValueLayout, format.Format.Format}
 pub use Rattle.dwarf_forms.proofs.{Codes.got, Elements.at-last}
 pub use Rattle.dwarf_forms.specs.{Declarations.Declaration, Values.Value}
 pub use Rattle.dwarf_forms.specs.declared.attribute.AttributeSpecification.{AttributeSpecification}
 pub use Rattle.dwarf_forms.specs.declared.values.ValueFault.{ValueFault}
-unfoldable pub use Rattle.dwarf_forms.specs.Values.{direct_at, value_at}
 pub use Rattle.dwarf_units.specs.Attributes.{accepts, is_negative, is_negative_count, is_used}
 pub use Rattle.dwarf_units.specs.{Attributes.number_of, Entries.{Die, Entry, LocatedNode, Node}}
 pub use Rattle.dwarf_units.specs.Entries.{Null, attribute_at, depth_after, die_of, is_root, node_at}
@@ -25,18 +21,16 @@ pub use Rattle.dwarf_units.specs.Entries.{reading_value, value_of}
 pub use Rattle.dwarf_units.specs.Private.AbbreviationTables.{Table, table_size}
 pub use Rattle.dwarf_units.specs.Private.FixedSizes.{attribute_in, attributes_in, end_of}
 pub use Rattle.dwarf_units.specs.Private.FixedSizes.{layout_len, number_in, used_position}
-pub use Rattle.dwarf_units.specs.{Private.Links.IsLink, Private.Names.named_attribute, Used.name_of}
-pub use Rattle.dwarf_units.specs.{Private.Names.used_name, Private.NodeShapes.{AreShapes, shape_at}}
-pub use Rattle.dwarf_units.specs.Private.Runs.{Run, Stretch}
-pub use Rattle.dwarf_units.specs.Private.Runs.{all_at, own_runs, run_at, run_before}
-pub use Rattle.dwarf_units.specs.Private.Runs.{runs_at, runs_of, stretch_at, then_read}
-pub use Rattle.dwarf_units.specs.Private.{Names.slot_of, Slots.index_in}
+pub use Rattle.dwarf_units.specs.Private.{Links.IsLink, Names.{named_attribute, slot_of, used_name}}
+pub use Rattle.dwarf_units.specs.Private.{NodeShapes.{AreShapes, shape_at}, Runs.{Run, Stretch}}
+pub use Rattle.dwarf_units.specs.Private.Runs.{all_at, own_runs, run_at, run_before, runs_at}
+pub use Rattle.dwarf_units.specs.Private.{Runs.{runs_of, stretch_at, then_read}, Slots.index_in}
 pub use Rattle.dwarf_units.specs.Private.StoredAttributes.{stored_attributes, stored_attributes_at}
 pub use Rattle.dwarf_units.specs.Private.Tables.{AreCached, CachedTables, IsCachedOrTooLarge}
-pub use Rattle.dwarf_units.specs.Private.Tables.{IsParsedFrom, with_table}
-pub use Rattle.dwarf_units.specs.Private.Used.{used_after, used_attributes_at}
-pub use Rattle.dwarf_units.specs.{Units.{declarations_limit, header_at, is_read}, Used.Used}
-pub use Rattle.dwarf_units.specs.Used.{used_among, value_named}
+pub use Rattle.dwarf_units.specs.Private.{Tables.{IsParsedFrom, with_table}, Used.used_after}
+pub use Rattle.dwarf_units.specs.{Private.Used.used_attributes_at, Units.declarations_limit}
+pub use Rattle.dwarf_units.specs.{Units.{header_at, is_read}, Used.{Used, name_of, used_among}}
+pub use Rattle.dwarf_units.specs.Used.{value_named}
 pub use Rattle.dwarf_units.specs.declared.attribute_run.LastAttribute.TheVariants.{Checked}
 pub use Rattle.dwarf_units.specs.declared.attribute_run.LastAttribute.TheVariants.{Unchecked}
 pub use Rattle.dwarf_units.specs.declared.attributes.Attribute.{Attribute}
@@ -44,22 +38,22 @@ pub use Rattle.dwarf_units.specs.declared.attributes.AttributeValue.{AttributeVa
 pub use Rattle.dwarf_units.specs.declared.unit_headers.UnitHeader.{UnitHeader}
 pub use Rattle.dwarf_units.specs.declared.used_name.UsedName.{UsedName}
 pub use Rattle.dwarf_units.specs.declared.used_position.UsedPosition.{UsedPosition}
-unfoldable pub use Rattle.dwarf_units.specs.Entries.{attributes_at, entries_of}
-unfoldable pub use Rattle.dwarf_units.specs.Private.FixedSizes.{fixed_len, used_value}
-unfoldable pub use Rattle.dwarf_units.specs.Private.Runs.{runs_from, unchecked_layout}
-unfoldable pub use Rattle.dwarf_units.specs.Private.Used.{with_used}
 pub use Rattle.std.proofs.Common.{Bool, Err, IfSome, List, None, Ok, Option, Result, Some, []}
 pub use Rattle.std.proofs.Common.{add-one, ap, append-nil, append_assoc, arith, cond, drop, false}
 pub use Rattle.std.proofs.Common.{filter, find, get_or, inl, inr, length, length-append}
 pub use Rattle.std.proofs.Common.{length-take, length-take-le, map, nat_le, option_copied}
 pub use Rattle.std.proofs.Common.{option_map, refl, slice_get, suc, sum_by, sym, take, take_all}
-pub use Rattle.std.proofs.Common.{true, ℕ, ℤ, ◌*◌, ◌++◌, ◌+◌, ◌-◌, ◌<◌, ◌==◌, ◌∙◌, ◌∷◌, ◌≡◌, ◌≤◌}
-pub use Rattle.std.proofs.{Common.◌⊎◌, Math.Seq.{take-append_seam, take-length}}
-pub use Rattle.std.proofs.{lemmas.Bool.{cases_lt, le-ltb, ne_eqb}, lemmas.Grind.common_steps}
+pub use Rattle.std.proofs.Common.{true, zero, ℕ, ℤ, ◌*◌, ◌++◌, ◌+◌, ◌-◌, ◌<◌, ◌==◌, ◌∙◌, ◌∷◌, ◌≡◌}
+pub use Rattle.std.proofs.{Common.{◌≤◌, ◌⊎◌}, Math.Seq.{take-append_seam, take-length}}
+pub use Rattle.std.proofs.lemmas.{Bool.{cases_lt, le-ltb, ne_eqb}, Grind.common_steps}
+pub use Rattle.std.proofs.lemmas.List.{Elements.All-push, Sums.{sum_by-append, sum_by_push}}
 pub use Rattle.std.proofs.lemmas.List.{drop_all, drop_more, get_or-take}
-pub use Rattle.std.proofs.{lemmas.List.Elements.All-push, lemmas.List.Sums.sum_by-append}
-pub use Rattle.std.proofs.{lemmas.List.Sums.sum_by_push, lemmas.Option.get_or_from_slice_get}
-pub use Rattle.std.proofs.lemmas.Option.{option_and_then_some, same_Some}
-pub use Rattle.std.proofs.{lemmas.Option.slice_get_within, lemmas.Result.err_from_is_err_and}
-pub use Rattle.std.proofs.Common.{zero}
+pub use Rattle.std.proofs.lemmas.Option.{get_or_from_slice_get, option_and_then_some, same_Some}
+pub use Rattle.std.proofs.lemmas.{Option.slice_get_within, Result.err_from_is_err_and}
 pub use Rattle.std.specs.{List.{All, filter_map, list_any}, Option.{option_map_or, option_to_list}}
+unfoldable pub use Rattle.dwarf_bytes.specs.{Contents.content_at, Numbers.{block_at, fixed_at}}
+unfoldable pub use Rattle.dwarf_forms.specs.Values.{direct_at, value_at}
+unfoldable pub use Rattle.dwarf_units.specs.Entries.{attributes_at, entries_of}
+unfoldable pub use Rattle.dwarf_units.specs.Private.FixedSizes.{fixed_len, used_value}
+unfoldable pub use Rattle.dwarf_units.specs.Private.Runs.{runs_from, unchecked_layout}
+unfoldable pub use Rattle.dwarf_units.specs.Private.Used.{with_used}

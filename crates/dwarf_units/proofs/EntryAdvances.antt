@@ -1,14 +1,13 @@
 -- Each node of a unit ends after its offset and within the unit.
 use Rattle.dwarf_units.proofs.Common
-use Common.{◌≡◌, ℕ, ◌≤◌, List, [], ◌∷◌, Bool, length, arith, Result, Ok, list_any, Format, Advances}
-use Common.{after-bind, MovesOn, ValueFault, AttributeSpecification, Declaration, value_at}
-use Common.{Attribute, accepts, is_negative_count, Node, depth_after, is_root, reading_value}
-use Common.{attribute_at, attributes_at, node_at}
-use Common.{ℤ, Option, Value, ap, form_of, length-append}
-use Rattle.std.proofs.Common.{length-drop, not}
-use Rattle.dwarf_bytes.proofs.{Numbers.Advance.after-test, Numbers.Moves.uleb-moves}
-use Rattle.dwarf_units.specs.Entries.{form_at, node_at_depth}
+use Common.{Advances, Attribute, AttributeSpecification, Bool, Declaration, Format, List, MovesOn}
+use Common.{Node, Ok, Option, Result, Value, ValueFault, [], accepts, after-bind, ap, arith}
+use Common.{attribute_at, attributes_at, depth_after, form_of, is_negative_count, is_root, length}
+use Common.{length-append, list_any, node_at, reading_value, value_at, ℕ, ℤ, ◌∷◌, ◌≡◌, ◌≤◌}
+use Rattle.dwarf_bytes.proofs.Numbers.{Advance.after-test, Moves.uleb-moves}
 use Rattle.dwarf_forms.proofs.ValueEncodings.{value-decoded}
+use Rattle.dwarf_units.specs.Entries.{form_at, node_at_depth}
+use Rattle.std.proofs.Common.{length-drop, not}
 use Rattle.dwarf_bytes.specs.declared.fault.Cause.TheVariants as causes
 
 -- A read of zero or more bytes does not move the offset back or beyond the end.

@@ -1,14 +1,13 @@
 -- The entries of a unit: their offsets are increasing, and each can be re-read at its offset.
 use Rattle.dwarf_units.proofs.Common
-use Common.{◌≡◌, ℕ, zero, suc, ◌+◌, ◌≤◌, List, [], ◌∷◌, ◌++◌, length, take, map, arith, length-take}
-use Common.{add-one, Ok, filter_map, Format, Item, Lists, Declaration, UnitHeader, Some, None}
-use Common.{Option, LocatedNode, Die, depth_after, node_at, die_of, entries_of, slice_get}
-use Rattle.std.specs.List.{cons_option, Sorted.IsStrictlyIncreasing}
+use Common.{Declaration, Die, Format, Item, List, Lists, LocatedNode, None, Ok, Option, Some}
+use Common.{UnitHeader, [], add-one, arith, depth_after, die_of, entries_of, filter_map, length}
+use Common.{length-take, map, node_at, slice_get, suc, take, zero, ℕ, ◌++◌, ◌+◌, ◌∷◌, ◌≡◌, ◌≤◌}
+use Rattle.dwarf_bytes.proofs.{Items.ItemLaws.{Lists-each, Lists-within}, Numbers.Advance.bind_ok}
 use Rattle.dwarf_bytes.specs.Items.{items_from}
-use Rattle.dwarf_bytes.proofs.Items.ItemLaws.{Lists-within, Lists-each}
-use Rattle.dwarf_bytes.proofs.Numbers.Advance.{bind_ok}
-use Rattle.dwarf_units.specs.{Entries.{AreDepths, entry_at}, Private.Rising.RiseWithin}
 use Rattle.dwarf_units.proofs.EntryAdvances.{node_at-advances}
+use Rattle.dwarf_units.specs.{Entries.{AreDepths, entry_at}, Private.Rising.RiseWithin}
+use Rattle.std.specs.List.{Sorted.IsStrictlyIncreasing, cons_option}
 
 -- The depths of the nodes of a unit are the counted depths.
 pub nodes_are_depths : (format : Format) (table : List Declaration) (unit : List ℕ) (end at : ℕ)

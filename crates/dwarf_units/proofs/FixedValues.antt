@@ -1,22 +1,21 @@
 -- An attribute with a fixed form is read as its value in the layout of the form, or as the
 -- constant of its declaration. The value of an attribute of a fixed size is at its position.
 use Rattle.dwarf_units.proofs.Common
-use Common.{ne_eqb, same_Some, arith, ◌≡◌, ℕ, ℤ, List, true, false, refl, ap, sym, ◌∙◌, Bool, cond}
-use Common.{Option, Some, Result, Ok, Err, None, ReadFault, Cause, Format, Form, Direct}
-use Common.{ImplicitConst, Indirect, ValueLayout, ◌>>=◌, form_of, Content, Signed, content_at}
-use Common.{reading, ValueFault, Value, direct_at, value_at, is_negative, is_negative_count}
-use Common.{accepts, number_of, is_used, AttributeSpecification, Attribute, reading_value}
-use Common.{attribute_at, unchecked_layout, ◌+◌, ◌<◌, ◌≤◌, length, block_at, fixed_at, layout_len}
-use Common.{number_in, used_value, fixed_len, option_map_or}
+use Common.{Attribute, AttributeSpecification, Bool, Cause, Content, Direct, Err, Form, Format}
+use Common.{ImplicitConst, Indirect, List, None, Ok, Option, ReadFault, Result, Signed, Some, Value}
+use Common.{ValueFault, ValueLayout, accepts, ap, arith, attribute_at, block_at, cond, content_at}
+use Common.{direct_at, false, fixed_at, fixed_len, form_of, is_negative, is_negative_count, is_used}
+use Common.{layout_len, length, ne_eqb, number_in, number_of, option_map_or, reading, reading_value}
+use Common.{refl, same_Some, sym, true, unchecked_layout, used_value, value_at, ℕ, ℤ, ◌+◌, ◌<◌}
+use Common.{◌>>=◌, ◌∙◌, ◌≡◌, ◌≤◌}
+use Rattle.dwarf_bytes.specs.{Items.refuse_if, declared.constants.TheConstants.DW_FORM_INDIRECT}
+use Rattle.dwarf_units.specs.Private.{FixedSizes.constant_len, Runs.{is_signed, valid_layout}}
+use Rattle.dwarf_units.specs.declared.used_position.UsedValue.TheVariants.{At}
 use Rattle.std.proofs.Common.{◌&&◌}
-use Rattle.dwarf_bytes.specs.{declared.constants.TheConstants.DW_FORM_INDIRECT, Items.refuse_if}
 use Rattle.dwarf_forms.specs.Values.{reading_value as of_value}
-use Rattle.dwarf_units.specs.Private.Runs.{is_signed, valid_layout}
-use Rattle.dwarf_units.specs.Private.FixedSizes.{constant_len}
 use Rattle.dwarf_bytes.specs.declared.fault.ReadFault.TheVariants as faults
 use Rattle.dwarf_bytes.specs.declared.fault.Cause.TheVariants as causes
 use Rattle.dwarf_forms.specs.declared.values.ValueFault.TheVariants as value_faults
-use Rattle.dwarf_units.specs.declared.used_position.UsedValue.TheVariants.{At}
 
 never-count : (name : ℕ) (c : Content) → is_negative c ≡ false
     → is_negative_count name c ≡ false

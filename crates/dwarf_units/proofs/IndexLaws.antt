@@ -1,19 +1,18 @@
 -- The cache of tables: finding the table of a unit, and keeping it as tables are added.
 use Rattle.dwarf_units.proofs.Common
-use Common.{◌≡◌, ◌⊎◌, ◌∙◌, inl, inr, ℕ, ◌+◌, ◌<◌, ◌≤◌, List, length, take, length-take-le, sym}
-use Common.{get_or, [], ◌∷◌, ◌++◌, refl, append-nil, Some, slice_get, sum_by, cases_lt, get_or-take}
-use Common.{get_or_from_slice_get, slice_get_within, UnitHeader, arith}
-use Common.{declarations_limit, Table, table_size, AreCached, CachedTables, IsCachedOrTooLarge}
-use Common.{IsParsedFrom, with_table, All, take-append_seam, take-length, common_steps, All-push}
-use Common.{sum_by_push, sum_by-append, take_all, ◌-◌, length-append, drop, Format, at-last}
-use Rattle.std.proofs.{lemmas.List.take_more, lemmas.Bool.{le-leb, lt-leb}}
-use Rattle.std.proofs.lemmas.Option.{slice_get_read}
-use Rattle.dwarf_units.specs.Private.Tables.{IsIndexOf, IsTableAt, size_limit, IsAdded, StaysCached}
-use Rattle.dwarf_units.proofs.TableLaws.{all-at, parsed_at}
-use Rattle.dwarf_forms.proofs.Elements.{at-end, at-front}
-use Rattle.std.proofs.lemmas.List.{take-append-drop, Elements.All-take}
-use Rattle.dwarf_units.specs.{Private.AbbreviationTables.table_key, Private.Tables.AreElsewhere}
+use Common.{All, All-push, AreCached, CachedTables, Format, IsCachedOrTooLarge, IsParsedFrom, List}
+use Common.{Some, Table, UnitHeader, [], append-nil, arith, at-last, cases_lt, common_steps}
+use Common.{declarations_limit, drop, get_or, get_or-take, get_or_from_slice_get, inl, inr, length}
+use Common.{length-append, length-take-le, refl, slice_get, slice_get_within, sum_by, sum_by-append}
+use Common.{sum_by_push, sym, table_size, take, take-append_seam, take-length, take_all, with_table}
+use Common.{ℕ, ◌++◌, ◌+◌, ◌-◌, ◌<◌, ◌∙◌, ◌∷◌, ◌≡◌, ◌≤◌, ◌⊎◌}
 use Rattle.abbreviation_memo.proofs.MapLaws.{Puts}
+use Rattle.dwarf_forms.proofs.Elements.{at-end, at-front}
+use Rattle.dwarf_units.proofs.TableLaws.{all-at, parsed_at}
+use Rattle.dwarf_units.specs.Private.{AbbreviationTables.table_key, Tables.{AreElsewhere, IsAdded}}
+use Rattle.dwarf_units.specs.Private.Tables.{IsIndexOf, IsTableAt, StaysCached, size_limit}
+use Rattle.std.proofs.lemmas.{Bool.{le-leb, lt-leb}, List.{Elements.All-take, take-append-drop}}
+use Rattle.std.proofs.lemmas.{List.take_more, Option.slice_get_read}
 use Rattle.std.specs.{BTreeMap.{BTreeMap, get}, Ordering.nat_cmp}
 
 -- ---- one more table

@@ -1,19 +1,18 @@
 -- The precomputed shapes of nodes, and the nodes that have them.
 use Rattle.dwarf_units.proofs.Common
-use Common.{common_steps, ◌≡◌, ℕ, ◌+◌, ◌<◌, ◌≤◌, List, [], ◌∷◌, ◌++◌, Bool, true, false, cond}
-use Common.{length, length-append, refl, ap, ◌∙◌, arith, Option, Some, None, Result, Ok, Err, ◌==◌}
-use Common.{Cause, drop, slice_get, le-ltb, ne_eqb, drop_more, get_or_from_slice_get}
-use Common.{option_and_then_some, same_Some, slice_get_within, Format, ◌>>=◌, uleb_at, Declaration}
-use Common.{AttributeSpecification, Attribute, at-last, Entry, Null, attributes_at, AreShapes}
-use Common.{block_at, shape_at, Run, Stretch, runs_at, runs_of, Table}
-use Rattle.std.proofs.Common.{option_and_then}
+use Common.{AreShapes, Attribute, AttributeSpecification, Bool, Cause, Declaration, Entry, Err}
+use Common.{Format, List, None, Null, Ok, Option, Result, Run, Some, Stretch, Table, [], ap, arith}
+use Common.{at-last, attributes_at, block_at, common_steps, cond, drop, drop_more, false}
+use Common.{get_or_from_slice_get, le-ltb, length, length-append, ne_eqb, option_and_then_some}
+use Common.{refl, runs_at, runs_of, same_Some, shape_at, slice_get, slice_get_within, true, uleb_at}
+use Common.{ℕ, ◌++◌, ◌+◌, ◌<◌, ◌==◌, ◌>>=◌, ◌∙◌, ◌∷◌, ◌≡◌, ◌≤◌}
 use Rattle.dwarf_bytes.proofs.Numbers.LebEncodings.{uleb-again}
-use Rattle.dwarf_units.specs.{declared.node_shape.NodeShape.NodeShape, Entries.declaration_of}
-use Rattle.dwarf_units.specs.{Entries.depth_limit, Private.NodeShapes.{IsFixedSizeNode, code_limit}}
-use Rattle.dwarf_units.specs.{Private.NodeShapes.{shape_of, shape_of_code}, NodeShapes.null_shape}
-use Rattle.dwarf_units.specs.Private.Runs.{fixed_size}
-use Rattle.dwarf_units.proofs.RunReads.{runs-read}
-use Rattle.dwarf_units.proofs.StoredReads.{stored_all}
+use Rattle.dwarf_units.proofs.{RunReads.runs-read, StoredReads.stored_all}
+use Rattle.dwarf_units.specs.{Entries.{declaration_of, depth_limit}, NodeShapes.null_shape}
+use Rattle.dwarf_units.specs.Private.NodeShapes.{IsFixedSizeNode, code_limit, shape_of}
+use Rattle.dwarf_units.specs.Private.{NodeShapes.shape_of_code, Runs.fixed_size}
+use Rattle.dwarf_units.specs.declared.node_shape.NodeShape.{NodeShape}
+use Rattle.std.proofs.Common.{option_and_then}
 
 -- ---- the shapes by code
 

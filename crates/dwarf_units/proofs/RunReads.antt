@@ -1,20 +1,19 @@
 -- Reading attributes in runs is reading them one by one.
 use Rattle.dwarf_units.proofs.Common
-use Common.{◌≡◌, ℕ, ◌+◌, ◌≤◌, List, [], ◌∷◌, ◌++◌, Bool, cond, length, refl, arith, append_assoc}
-use Common.{append-nil, Option, Some, None, Result, Ok, nat_le, ReadFault, option_map}
-use Common.{option_map_or, option_to_list, option_and_then_some, Cause, Format, block_at, ◌∙◌}
-use Common.{ValueLayout, ◌>>=◌, AttributeSpecification, Unchecked, Checked, Attribute, UsedPosition}
-use Common.{attributes_at, attribute_at, used_value, end_of, fixed_len, used_position, run_before}
-use Common.{runs_from, runs_of, then_read, stretch_at, unchecked_layout, used_among, used_after}
-use Common.{used_attributes_at, stored_attributes, stored_attributes_at, all_at, run_at, Content}
-use Common.{content_at, reading, UsedName, number_of, attribute_in, attributes_in, number_in}
-use Common.{used_name}
-use Rattle.std.proofs.lemmas.List.{map-append}
-use Rattle.dwarf_units.specs.Private.FixedSizes.{number_or_zero}
+use Common.{Attribute, AttributeSpecification, Bool, Cause, Checked, Content, Format, List, None}
+use Common.{Ok, Option, ReadFault, Result, Some, Unchecked, UsedName, UsedPosition, ValueLayout, []}
+use Common.{all_at, append-nil, append_assoc, arith, attribute_at, attribute_in, attributes_at}
+use Common.{attributes_in, block_at, cond, content_at, end_of, fixed_len, length, nat_le, number_in}
+use Common.{number_of, option_and_then_some, option_map, option_map_or, option_to_list, reading}
+use Common.{refl, run_at, run_before, runs_from, runs_of, stored_attributes, stored_attributes_at}
+use Common.{stretch_at, then_read, unchecked_layout, used_after, used_among, used_attributes_at}
+use Common.{used_name, used_position, used_value, ℕ, ◌++◌, ◌+◌, ◌>>=◌, ◌∙◌, ◌∷◌, ◌≡◌, ◌≤◌}
 use Rattle.dwarf_units.proofs.{EntryAdvances.attributes-stay, FixedValues.{IsInLayout, after_bytes}}
 use Rattle.dwarf_units.proofs.FixedValues.{fixed-at, unchecked-read, with_number}
-use Rattle.dwarf_units.proofs.SlotLaws.{among-append, used-none, used-some}
-use Rattle.dwarf_units.proofs.StoredReads.{one-read, stored-append}
+use Rattle.dwarf_units.proofs.{SlotLaws.{among-append, used-none, used-some}, StoredReads.one-read}
+use Rattle.dwarf_units.proofs.StoredReads.{stored-append}
+use Rattle.dwarf_units.specs.Private.FixedSizes.{number_or_zero}
+use Rattle.std.proofs.lemmas.List.{map-append}
 
 -- ---- two reads
 

@@ -1,16 +1,15 @@
 -- The used attributes of an entry: their names, adding attributes one by one, and their positions.
 use Rattle.dwarf_units.proofs.Common
-use Common.{arith, ◌≡◌, ℕ, List, [], ◌∷◌, Bool, true, false, refl, ◌++◌, ◌<◌, length, get_or, Some}
-use Common.{None, ◌==◌, Option, UsedName, is_used, name_of, used_name, Attribute, AttributeValue}
-use Common.{value_of, Used, used_among, value_named, with_used, slot_of, named_attribute, filter}
-use Common.{sym, find, option_map, map, ◌∙◌, slice_get, Format, UsedPosition, attribute_in}
-use Common.{attributes_in, index_in}
-use Rattle.std.specs.List.{list_all}
-use Rattle.std.proofs.{lemmas.Bool.eqb-true, Math.ListN.set, lemmas.List.get_or-set_same}
-use Rattle.std.proofs.lemmas.List.{get_or-set_other, Folds.find_at}
-use Rattle.dwarf_units.specs.{Used.used_by, Private.Slots.{in_slot, in_slots}}
-use Rattle.dwarf_units.specs.{Private.Names.used_names, Attributes.used_attributes}
-use Rattle.std.specs.{Prelude.is_some, Option.option_or}
+use Common.{Attribute, AttributeValue, Bool, Format, List, None, Option, Some, Used, UsedName}
+use Common.{UsedPosition, [], arith, attribute_in, attributes_in, false, filter, find, get_or}
+use Common.{index_in, is_used, length, map, name_of, named_attribute, option_map, refl, slice_get}
+use Common.{slot_of, sym, true, used_among, used_name, value_named, value_of, with_used, ℕ, ◌++◌}
+use Common.{◌<◌, ◌==◌, ◌∙◌, ◌∷◌, ◌≡◌}
+use Rattle.dwarf_units.specs.{Attributes.used_attributes, Private.{Names.used_names, Slots.in_slot}}
+use Rattle.dwarf_units.specs.{Private.Slots.in_slots, Used.used_by}
+use Rattle.std.proofs.{Math.ListN.set, lemmas.{Bool.eqb-true, List.Folds.find_at}}
+use Rattle.std.proofs.lemmas.List.{get_or-set_other, get_or-set_same}
+use Rattle.std.specs.{List.list_all, Option.option_or, Prelude.is_some}
 
 -- ---- names, their codes and their slots
 

@@ -1,12 +1,11 @@
 -- Reading the attributes of an entry one by one, and storing the used ones.
 use Rattle.dwarf_units.proofs.Common
-use Common.{arith, ◌≡◌, ℕ, List, [], ◌∷◌, ◌++◌, Bool, true, refl, sym, Some, Result, Ok, Cause}
-use Common.{common_steps, None-from-no-Some}
-use Common.{Format, ◌>>=◌, AttributeSpecification, Attribute, UsedName, is_used, attribute_at}
-use Common.{attributes_at, named_attribute, used_name, then_read, stored_attributes}
-use Common.{stored_attributes_at, Used, used_among, used_after, with_used}
-use Rattle.std.proofs.lemmas.List.Elements.{filter-append}
+use Common.{Attribute, AttributeSpecification, Bool, Cause, Format, List, None-from-no-Some, Ok}
+use Common.{Result, Some, Used, UsedName, [], arith, attribute_at, attributes_at, common_steps}
+use Common.{is_used, named_attribute, refl, stored_attributes, stored_attributes_at, sym, then_read}
+use Common.{true, used_after, used_among, used_name, with_used, ℕ, ◌++◌, ◌>>=◌, ◌∷◌, ◌≡◌}
 use Rattle.dwarf_units.proofs.SlotLaws.{used-none, used-some, with_none, with_twice}
+use Rattle.std.proofs.lemmas.List.Elements.{filter-append}
 
 -- ---- two lists of attributes
 

@@ -1,20 +1,18 @@
 -- The tables of the units, and declarations that share attributes.
 use Rattle.dwarf_units.proofs.Common
-use Common.{◌≡◌, ℕ, ◌+◌, ◌-◌, ◌<◌, ◌≤◌, List, [], ◌∷◌, ◌++◌, length, take, drop, get_or, refl}
-use Common.{arith, Some, Result, Ok, slice_get, sum_by, All, slice_get_within}
-use Common.{get_or_from_slice_get, sum_by_push, drop_more, in_section, Declaration, UnitHeader}
-use Common.{Table, IsParsedFrom, declarations_limit, suc, append-nil, take-append_seam, AreShared}
-use Common.{IsShared, SharedDeclaration, full_declarations}
-use Rattle.std.proofs.{lemmas.List.take_all, lemmas.List.Sums.sum_by-cons}
-use Rattle.abbreviation_memo.specs.declared.shared.TheConstants.{UNSHARED}
+use Common.{All, AreShared, Declaration, IsParsedFrom, IsShared, List, Ok, Result}
+use Common.{SharedDeclaration, Some, Table, UnitHeader, [], append-nil, arith, declarations_limit}
+use Common.{drop, drop_more, full_declarations, get_or, get_or_from_slice_get, in_section, length}
+use Common.{refl, slice_get, slice_get_within, suc, sum_by, sum_by_push, take, take-append_seam, ℕ}
+use Common.{◌++◌, ◌+◌, ◌-◌, ◌<◌, ◌∷◌, ◌≡◌, ◌≤◌}
 use Rattle.abbreviation_memo.specs.Declarations.{SharedAttributes, all_of, full_declaration}
-use Rattle.dwarf_units.specs.Private.AbbreviationTables.{own_attributes}
-use Rattle.dwarf_bytes.specs.{declared.fault.Section.Section, Items.{At, each_from}}
-use Rattle.dwarf_bytes.proofs.Items.EachLaws.{made_front, each-next}
-use Rattle.dwarf_bytes.proofs.Items.EachPlaces.{each-place}
-use Rattle.dwarf_forms.specs.Tables.{table_at, declarations_of}
+use Rattle.abbreviation_memo.specs.declared.shared.TheConstants.{UNSHARED}
+use Rattle.dwarf_bytes.proofs.Items.{EachLaws.{each-next, made_front}, EachPlaces.each-place}
+use Rattle.dwarf_bytes.specs.{Items.{At, each_from}, declared.fault.Section.Section}
 use Rattle.dwarf_forms.proofs.EncodedTables.{table-decoded}
-use Rattle.dwarf_units.specs.Units.{tables_of}
+use Rattle.dwarf_forms.specs.Tables.{declarations_of, table_at}
+use Rattle.dwarf_units.specs.{Private.AbbreviationTables.own_attributes, Units.tables_of}
+use Rattle.std.proofs.lemmas.List.{Sums.sum_by-cons, take_all}
 use Rattle.dwarf_bytes.specs.declared.fault.Section.TheVariants as sections
 
 abbrev pub table_for : List ℕ → List (List Declaration) → UnitHeader → Result (List Declaration) At

@@ -1,15 +1,14 @@
 -- Unit headers (DWARF 5, 7.5.1) and the abbreviation tables of the units.
-use Rattle.std.specs.Prelude.{ℕ, ◌+◌, ◌-◌, List, [], length, take, Bool, true, false, Option, Some}
-use Rattle.std.specs.Prelude.{None, Result, Ok, nat_lt, nat_le, ◌==◌, not, if◌then◌else◌, filter}
-use Rattle.std.specs.Prelude.{sum_by, ok_or}
-use Rattle.dwarf_bytes.specs.declared.constants.TheConstants.{DW_UT_COMPILE, DW_UT_TYPE}
-use Rattle.dwarf_bytes.specs.declared.constants.TheConstants.{DW_UT_PARTIAL}
-use Rattle.dwarf_bytes.specs.{declared.fault.Cause.Cause, declared.format.Format.Format, Bind.◌>>=◌}
-use Rattle.dwarf_bytes.specs.Items.{Next, Item, End, At, reading, refuse_if, items_from, each}
-use Rattle.dwarf_bytes.specs.Numbers.{u8_at, u16_at, initial_length_at, offset_at}
+use Rattle.dwarf_bytes.specs.{Bind.◌>>=◌, Items.{At, End, Item, Next, each, items_from, reading}}
+use Rattle.dwarf_bytes.specs.{Items.refuse_if, Numbers.{initial_length_at, offset_at, u16_at}}
+use Rattle.dwarf_bytes.specs.{Numbers.u8_at, declared.constants.TheConstants.DW_UT_COMPILE}
+use Rattle.dwarf_bytes.specs.declared.constants.TheConstants.{DW_UT_PARTIAL, DW_UT_TYPE}
+use Rattle.dwarf_bytes.specs.declared.{fault.Cause.Cause, format.Format.Format}
 use Rattle.dwarf_forms.specs.{Declarations.Declaration, Tables.declarations_of}
-use Rattle.dwarf_units.specs.declared.unit_headers.UnitType.{UnitType}
-use Rattle.dwarf_units.specs.declared.unit_headers.UnitHeader.{UnitHeader}
+use Rattle.dwarf_units.specs.declared.unit_headers.{UnitHeader.UnitHeader, UnitType.UnitType}
+use Rattle.std.specs.Prelude.{Bool, List, None, Ok, Option, Result, Some, [], false, filter}
+use Rattle.std.specs.Prelude.{if◌then◌else◌, length, nat_le, nat_lt, not, ok_or, sum_by, take, true}
+use Rattle.std.specs.Prelude.{ℕ, ◌+◌, ◌-◌, ◌==◌}
 use Rattle.dwarf_bytes.specs.declared.fault.Cause.TheVariants as causes
 use Rattle.dwarf_units.specs.declared.unit_headers.UnitType.TheVariants as types
 

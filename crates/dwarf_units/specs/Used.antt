@@ -1,6 +1,5 @@
 -- The used attributes of an entry by name (DWARF 5, 2.2). If an attribute occurs twice, the first
 -- value counts.
-use Rattle.std.specs.Prelude.{ℕ, List, Option}
 use Rattle.dwarf_bytes.specs.declared.constants.TheConstants.{DW_AT_ABSTRACT_ORIGIN}
 use Rattle.dwarf_bytes.specs.declared.constants.TheConstants.{DW_AT_ADDR_BASE, DW_AT_CALL_FILE}
 use Rattle.dwarf_bytes.specs.declared.constants.TheConstants.{DW_AT_CALL_LINE, DW_AT_HIGH_PC}
@@ -9,16 +8,15 @@ use Rattle.dwarf_bytes.specs.declared.constants.TheConstants.{DW_AT_NAME, DW_AT_
 use Rattle.dwarf_bytes.specs.declared.constants.TheConstants.{DW_AT_RNGLISTS_BASE}
 use Rattle.dwarf_bytes.specs.declared.constants.TheConstants.{DW_AT_SPECIFICATION, DW_AT_STMT_LIST}
 use Rattle.dwarf_bytes.specs.declared.constants.TheConstants.{DW_AT_STR_OFFSETS_BASE}
-use Rattle.dwarf_units.specs.declared.attributes.Attribute.{Attribute}
+use Rattle.dwarf_units.specs.{Entries.value_of, declared.attributes.Attribute.Attribute}
 use Rattle.dwarf_units.specs.declared.attributes.AttributeValue.{AttributeValue}
-use Rattle.dwarf_units.specs.declared.used_name.UsedName.{UsedName}
-use Rattle.dwarf_units.specs.declared.used_name.UsedName.TheVariants.{Name, LinkageName, LowPc}
-use Rattle.dwarf_units.specs.declared.used_name.UsedName.TheVariants.{AbstractOrigin, HighPc}
-use Rattle.dwarf_units.specs.declared.used_name.UsedName.TheVariants.{Specification, Ranges}
-use Rattle.dwarf_units.specs.declared.used_name.UsedName.TheVariants.{CallFile, CallLine, StmtList}
-use Rattle.dwarf_units.specs.declared.used_name.UsedName.TheVariants.{StrOffsetsBase, AddrBase}
-use Rattle.dwarf_units.specs.declared.used_name.UsedName.TheVariants.{RnglistsBase}
-use Rattle.dwarf_units.specs.Entries.{value_of}
+use Rattle.dwarf_units.specs.declared.used_name.UsedName.TheVariants.{AbstractOrigin, AddrBase}
+use Rattle.dwarf_units.specs.declared.used_name.UsedName.TheVariants.{CallFile, CallLine, HighPc}
+use Rattle.dwarf_units.specs.declared.used_name.UsedName.TheVariants.{LinkageName, LowPc, Name}
+use Rattle.dwarf_units.specs.declared.used_name.UsedName.TheVariants.{Ranges, RnglistsBase}
+use Rattle.dwarf_units.specs.declared.used_name.UsedName.TheVariants.{Specification, StmtList}
+use Rattle.dwarf_units.specs.declared.used_name.UsedName.{TheVariants.StrOffsetsBase, UsedName}
+use Rattle.std.specs.Prelude.{List, Option, ℕ}
 
 -- The value of each used attribute that an entry has.
 pub record Used : Type 0 where

@@ -8,9 +8,8 @@ use Rattle.dwarf_walk.specs.declared.unit_entries.ScopePlace.{ScopePlace}
 use Rattle.std.proofs.Common.{List, [], ap, append-nil, append_assoc, arith, cond, count_by, drop}
 use Rattle.std.proofs.Common.{get_or, length, min, nat_lt, one-add, refl, suc, suc-add, sym, zero}
 use Rattle.std.proofs.Common.{zero-add, ℕ, ◌++◌, ◌+◌, ◌<◌, ◌∷◌, ◌≡◌, ◌≤◌}
-use Rattle.std.proofs.{lemmas.Grind.common_steps, lemmas.List.Elements.{All-append, All-nil}}
-use Rattle.std.proofs.{lemmas.List.Elements.All-tail, lemmas.List.Sums.sum_by-cons}
-use Rattle.std.proofs.lemmas.List.Sums.{take_while-cons}
+use Rattle.std.proofs.lemmas.{Grind.common_steps, List.Elements.{All-append, All-nil, All-tail}}
+use Rattle.std.proofs.lemmas.List.Sums.{sum_by-cons, take_while-cons}
 use Rattle.std.specs.List.{prefix_len}
 
 -- ---- one more entry

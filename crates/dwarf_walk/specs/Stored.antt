@@ -1,23 +1,21 @@
 -- The data that is stored for the entries of a unit, for the contracts of the walk.
-use Rattle.std.specs.Prelude.{ℕ, List, [], ◌∷◌, Option, Some, None, Result, Ok, option_map}
-use Rattle.std.specs.Prelude.{count_by}
-use Rattle.dwarf_bytes.specs.declared.constants.TheConstants.{DW_AT_ADDR_BASE, DW_AT_CALL_FILE}
-use Rattle.dwarf_bytes.specs.declared.constants.TheConstants.{DW_AT_CALL_LINE, DW_AT_HIGH_PC}
-use Rattle.dwarf_bytes.specs.declared.constants.TheConstants.{DW_AT_LINKAGE_NAME, DW_AT_LOW_PC}
-use Rattle.dwarf_bytes.specs.declared.constants.TheConstants.{DW_AT_NAME, DW_AT_RANGES}
-use Rattle.dwarf_bytes.specs.declared.constants.TheConstants.{DW_AT_RNGLISTS_BASE, DW_AT_STMT_LIST}
-use Rattle.dwarf_bytes.specs.{declared.constants.TheConstants.DW_AT_STR_OFFSETS_BASE, Bind.◌>>=◌}
-use Rattle.dwarf_bytes.specs.Items.{At}
+use Rattle.dwarf_bytes.specs.{Bind.◌>>=◌, Items.At, declared.constants.TheConstants.DW_AT_ADDR_BASE}
+use Rattle.dwarf_bytes.specs.declared.constants.TheConstants.{DW_AT_CALL_FILE, DW_AT_CALL_LINE}
+use Rattle.dwarf_bytes.specs.declared.constants.TheConstants.{DW_AT_HIGH_PC, DW_AT_LINKAGE_NAME}
+use Rattle.dwarf_bytes.specs.declared.constants.TheConstants.{DW_AT_LOW_PC, DW_AT_NAME}
+use Rattle.dwarf_bytes.specs.declared.constants.TheConstants.{DW_AT_RANGES, DW_AT_RNGLISTS_BASE}
+use Rattle.dwarf_bytes.specs.declared.constants.TheConstants.{DW_AT_STMT_LIST}
+use Rattle.dwarf_bytes.specs.declared.constants.TheConstants.{DW_AT_STR_OFFSETS_BASE}
 use Rattle.dwarf_forms.specs.Declarations.{Declaration}
+use Rattle.dwarf_units.specs.Entries.{Die, attribute, below, entries_of}
+use Rattle.dwarf_units.specs.declared.unit_headers.UnitHeader.{UnitHeader}
+use Rattle.dwarf_walk.specs.{References.next_of, ScopeEntries.{is_scope, kind_of, number_of}}
 use Rattle.dwarf_walk.specs.declared.scope_kind.ScopeKind.{ScopeKind}
-use Rattle.dwarf_walk.specs.declared.unit_entries.NamedEntry.{NamedEntry}
-use Rattle.dwarf_walk.specs.declared.unit_entries.ScopeEntry.{ScopeEntry}
-use Rattle.dwarf_walk.specs.declared.unit_entries.ScopePlace.{ScopePlace}
-use Rattle.dwarf_walk.specs.declared.unit_entries.RootEntry.{RootEntry}
-use Rattle.dwarf_walk.specs.{declared.unit_entries.UnitEntries.UnitEntries, References.next_of}
-use Rattle.dwarf_walk.specs.ScopeEntries.{kind_of, is_scope, number_of}
-use Rattle.dwarf_units.specs.{declared.unit_headers.UnitHeader.UnitHeader, Entries.{Die, attribute}}
-use Rattle.dwarf_units.specs.Entries.{below, entries_of}
+use Rattle.dwarf_walk.specs.declared.unit_entries.{NamedEntry.NamedEntry, RootEntry.RootEntry}
+use Rattle.dwarf_walk.specs.declared.unit_entries.{ScopeEntry.ScopeEntry, ScopePlace.ScopePlace}
+use Rattle.dwarf_walk.specs.declared.unit_entries.UnitEntries.{UnitEntries}
+use Rattle.std.specs.Prelude.{List, None, Ok, Option, Result, Some, [], count_by, option_map, ℕ}
+use Rattle.std.specs.Prelude.{◌∷◌}
 
 abbrev pub named_entry : Die → NamedEntry
 named_entry die = record {

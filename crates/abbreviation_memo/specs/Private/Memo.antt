@@ -1,12 +1,11 @@
 -- The invariant of the memo, and what the memo reads.
-use Rattle.std.specs.Prelude.{◌≡◌, ℕ, ◌<◌, ◌≤◌, ◌==◌, List, [], ◌++◌, length, Bool, true, false}
-use Rattle.std.specs.{Prelude.{Some, Ok}, List.list_any, Ordering.nat_cmp, BTreeMap.{BTreeMap, get}}
-use Rattle.dwarf_forms.specs.declared.attribute.AttributeSpecification.{AttributeSpecification}
+use Rattle.abbreviation_memo.specs.{Lists.list_at, Private.NameSets.is_in}
+use Rattle.abbreviation_memo.specs.declared.{memoized_lists.Memo.Memo, name_sets.Branch.Branch}
+use Rattle.abbreviation_memo.specs.declared.shared.TheConstants.{UNSHARED}
 use Rattle.dwarf_forms.specs.Tables.{attributes_at, shares_name}
-use Rattle.abbreviation_memo.specs.declared.memoized_lists.Memo.{Memo}
-use Rattle.abbreviation_memo.specs.declared.name_sets.Branch.{Branch}
-use Rattle.abbreviation_memo.specs.{declared.shared.TheConstants.UNSHARED, Lists.list_at}
-use Rattle.abbreviation_memo.specs.Private.NameSets.{is_in}
+use Rattle.dwarf_forms.specs.declared.attribute.AttributeSpecification.{AttributeSpecification}
+use Rattle.std.specs.{BTreeMap.{BTreeMap, get}, List.list_any, Ordering.nat_cmp, Prelude.Bool}
+use Rattle.std.specs.Prelude.{List, Ok, Some, [], false, length, true, ℕ, ◌++◌, ◌<◌, ◌==◌, ◌≡◌, ◌≤◌}
 
 -- the set contains the names of the attributes
 pub record HasNames (sets : List Branch) (set : ℕ) (attributes : List AttributeSpecification)

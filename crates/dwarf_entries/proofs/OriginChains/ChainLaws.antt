@@ -1,15 +1,14 @@
 -- The loop that follows an origin chain, the names that it finds, and the cache of the names of
 -- reference targets.
 use Rattle.dwarf_entries.proofs.Common
-use Common.{◌≡◌, ℕ, suc, ◌+◌, List, [], ◌∷◌, ◌++◌, refl, sym, ap, arith, Option, Some, None}
-use Common.{common_steps}
-use Common.{Result, Ok, Err, slice_get, option_map, ◌-◌, option_or, Cause, ◌>>=◌, AttributeValue}
-use Common.{NamedEntry, UnitPlace, CompilationUnit, Member, target_of, chain_within, IsMember}
-use Common.{Reference, first_on, IsPlaceOf, Finds, same_Some, ◌==◌, DW_AT_LINKAGE_NAME, DW_AT_NAME}
-use Common.{EntryNames, Sections, names_of, member_in, name_on, references_limit, slot_at}
-use Common.{IsCacheOf, NameCache, attribute, append_assoc, ◌&&◌, if◌then◌else◌, of_member, IsFirst}
-use Common.{AreFirst, FindsFirst, UnitAttribute, UnitEntry, FirstNames}
-use Common.{slot_of, second_names, target_names, are_narrow, or_else, next_of, OriginDepth}
+use Common.{AreFirst, AttributeValue, Cause, CompilationUnit, DW_AT_LINKAGE_NAME, DW_AT_NAME}
+use Common.{EntryNames, Err, Finds, FindsFirst, FirstNames, IsCacheOf, IsFirst, IsMember, IsPlaceOf}
+use Common.{List, Member, NameCache, NamedEntry, None, Ok, Option, OriginDepth, Reference, Result}
+use Common.{Sections, Some, UnitAttribute, UnitEntry, UnitPlace, [], ap, append_assoc, are_narrow}
+use Common.{arith, attribute, chain_within, common_steps, first_on, if◌then◌else◌, member_in}
+use Common.{name_on, names_of, next_of, of_member, option_map, option_or, or_else, references_limit}
+use Common.{refl, same_Some, second_names, slice_get, slot_at, slot_of, suc, sym, target_names}
+use Common.{target_of, ℕ, ◌&&◌, ◌++◌, ◌+◌, ◌-◌, ◌==◌, ◌>>=◌, ◌∷◌, ◌≡◌}
 
 -- ---- the first attribute with a name
 

@@ -1,15 +1,14 @@
 -- The units and scopes that a result was read from.
 use Rattle.dwarf_entries.proofs.Common
-use Common.{◌≡◌, ℕ, ◌+◌, List, [], length, take, map, arith, length-take}
-use Common.{Result, Ok, Some, Contains, slice_get, slice_get-get_or, slice_get_within, Cause}
-use Common.{bind_ok, same-ok, in_section-ok, Sections, EntryNames, CompilationUnit}
-use Common.{units_read, names_of, Tree, Scope, ScopeSite, ParsedScope, scope_at, tree_of}
-use Common.{roots_from, stmt_list_of, parse_scope, all_sites, all_scopes, with_offset}
-use Common.{covers_there, Fits, covers-fits, each-length, items_limit, length-map}
-use Common.{sum_by, ◌-◌}
+use Common.{Cause, CompilationUnit, Contains, EntryNames, Fits, List, Ok, ParsedScope, Result}
+use Common.{Scope, ScopeSite, Sections, Some, Tree, [], all_scopes, all_sites, arith, bind_ok}
+use Common.{covers-fits, covers_there, each-length, in_section-ok, items_limit, length, length-map}
+use Common.{length-take, map, names_of, parse_scope, roots_from, same-ok, scope_at, slice_get}
+use Common.{slice_get-get_or, slice_get_within, stmt_list_of, sum_by, take, tree_of, units_read}
+use Common.{with_offset, ℕ, ◌+◌, ◌-◌, ◌≡◌}
 use Rattle.dwarf_entries.proofs.ScopePasses.SiteLaws.{IsSiteAt, site-at}
-use Rattle.dwarf_entries.proofs.UnitPasses.PassLaws.{each-at, from-map}
-use Rattle.dwarf_entries.proofs.UnitPasses.UnitLaws.{AreUnitsIn, units-in}
+use Rattle.dwarf_entries.proofs.UnitPasses.{PassLaws.{each-at, from-map}, UnitLaws.AreUnitsIn}
+use Rattle.dwarf_entries.proofs.UnitPasses.UnitLaws.{units-in}
 
 -- ---- the passes of a read
 

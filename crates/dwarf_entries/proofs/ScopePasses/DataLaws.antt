@@ -1,15 +1,14 @@
 -- The data of scopes: in a scope itself, through the list of scopes, and in the lists that the
 -- scopes of a result share, to which one more scope is appended.
 use Rattle.dwarf_entries.proofs.Common
-use Common.{Global, Vec, ◌≡◌, ℕ, zero, suc, ◌-◌, List, [], ◌∷◌, length, take, drop, refl, ap}
-use Common.{arith, ◌+◌, ◌≤◌, ◌++◌, length-append, slice_get, option_map, Range, Root}
-use Common.{CallSite, scopes_from, facts_of, IsPushed, ScopeFacts, ScopeLists, common_steps}
-use Common.{length-drop, scope_of, call_site, scopes_of, ranges_start, IsInList}
-use Common.{AreConsecutive, Calls, take-append-le, drop-append-le, get_or_append_left}
-use Common.{unwrap_or-slice_get, drop-append_seam, Some, map, slice_get-map, Scope, Own, own}
-use Common.{own_of, AreNumbered, AreInOrder, HasDataOf}
-use Rattle.dwarf_entries.specs.declared.scope.Scope.{Scope as StoredScope}
+use Common.{AreConsecutive, AreInOrder, AreNumbered, CallSite, Calls, Global, HasDataOf, IsInList}
+use Common.{IsPushed, List, Own, Range, Root, Scope, ScopeFacts, ScopeLists, Some, Vec, [], ap}
+use Common.{arith, call_site, common_steps, drop, drop-append-le, drop-append_seam, facts_of}
+use Common.{get_or_append_left, length, length-append, length-drop, map, option_map, own, own_of}
+use Common.{ranges_start, refl, scope_of, scopes_from, scopes_of, slice_get, slice_get-map, suc}
+use Common.{take, take-append-le, unwrap_or-slice_get, zero, ℕ, ◌++◌, ◌+◌, ◌-◌, ◌∷◌, ◌≡◌, ◌≤◌}
 use Rattle.dwarf_entries.proofs.UnitPasses.PassLaws.{from-map}
+use Rattle.dwarf_entries.specs.declared.scope.Scope.{Scope as StoredScope}
 
 -- The number of the scope at an index.
 number-at : (first total i : ℕ) (ss : List Scope) (s : Scope) → AreNumbered first total ss

@@ -1,12 +1,11 @@
 -- The scope sites of units, by their numbers.
 use Rattle.dwarf_entries.proofs.Common
-use Common.{◌≡◌, ℕ, zero, suc, ◌+◌, ◌-◌, ◌≤◌, inl, inr, cond, List, [], ◌∷◌, ◌++◌, length, take}
-use Common.{drop, refl, ap, sym, ◌∙◌, arith, length-append, take_all, Some, count_by, slice_get}
-use Common.{sum_by-cons, slice_get_within, get_or_from_slice_get, Die, below, ScopeKind, kind_of}
-use Common.{is_scope, CompilationUnit, ScopeSite, sites_in, number_of_scopes, first_number}
-use Common.{all_sites, cases_lt, sum_by_more, add-one, at-front}
-use Rattle.dwarf_entries.proofs.UnitPasses.PassLaws.{element}
-use Rattle.dwarf_entries.proofs.Common.{common_steps}
+use Common.{CompilationUnit, Die, List, ScopeKind, ScopeSite, Some, [], add-one, all_sites, ap}
+use Common.{arith, at-front, below, cases_lt, cond, count_by, drop, first_number}
+use Common.{get_or_from_slice_get, inl, inr, is_scope, kind_of, length, length-append}
+use Common.{number_of_scopes, refl, sites_in, slice_get, slice_get_within, suc, sum_by-cons}
+use Common.{sum_by_more, sym, take, take_all, zero, ℕ, ◌++◌, ◌+◌, ◌-◌, ◌∙◌, ◌∷◌, ◌≡◌, ◌≤◌}
+use Rattle.dwarf_entries.proofs.{Common.common_steps, UnitPasses.PassLaws.element}
 
 -- ---- the sites of a unit
 

@@ -1,16 +1,14 @@
 -- Re-reading the entries of a unit at their offsets, and the scope sites of a unit from its stored
 -- data.
 use Rattle.dwarf_entries.proofs.Common
-use Common.{◌≡◌, ℕ, List, length, take, true, refl, arith, [], ◌∷◌, get_or, map, Some}
-use Common.{Ok, slice_get, UnitHeader, Die, Sections, UnitPlace, CompilationUnit}
-use Common.{Member, UnitEntries, AreStored, stored_unit_of, stored_of, length-map}
-use Common.{slice_get_within, get_or_from_slice_get, ScopeSite, sites_in, IsPlaceOf, named_entry}
-use Common.{scope_entry, scope_places, scope_entry_at, used_at, named_entry_at, ScopePlace}
-use Common.{uleb-moves, entry_at, stored_attributes, entries_again, value-stored}
-use Common.{names_at-stored, inside-is, get_or-map}
-use Rattle.dwarf_entries.proofs.ScopePasses.SiteLaws.{site-in}
-use Rattle.dwarf_entries.proofs.UnitPasses.UnitLaws.{AreUnitsIn, IsUnitIn, seen, stored-index}
-use Rattle.dwarf_entries.proofs.UnitPasses.UnitLaws.{stored-there}
+use Common.{AreStored, CompilationUnit, Die, IsPlaceOf, List, Member, Ok, ScopePlace, ScopeSite}
+use Common.{Sections, Some, UnitEntries, UnitHeader, UnitPlace, [], arith, entries_again, entry_at}
+use Common.{get_or, get_or-map, get_or_from_slice_get, inside-is, length, length-map, map}
+use Common.{named_entry, named_entry_at, names_at-stored, refl, scope_entry, scope_entry_at}
+use Common.{scope_places, sites_in, slice_get, slice_get_within, stored_attributes, stored_of}
+use Common.{stored_unit_of, take, true, uleb-moves, used_at, value-stored, ℕ, ◌∷◌, ◌≡◌}
+use Rattle.dwarf_entries.proofs.{ScopePasses.SiteLaws.site-in, UnitPasses.UnitLaws.AreUnitsIn}
+use Rattle.dwarf_entries.proofs.UnitPasses.UnitLaws.{IsUnitIn, seen, stored-index, stored-there}
 
 -- ---- the entries that were read before
 

@@ -1,14 +1,13 @@
 -- The cache of the names of reference targets, for the contracts of the pass over scopes.
-use Rattle.std.specs.Prelude.{◌≡◌, ℕ, ◌%◌, List, Option, Some, None, option_map, Result, Ok, get_or}
-use Rattle.dwarf_bytes.specs.{declared.fault.Cause.Cause, Bind.◌>>=◌}
-use Rattle.dwarf_units.specs.declared.attributes.AttributeValue.{AttributeValue}
-use Rattle.dwarf_entries.specs.declared.name_cache.NameCache.{NameCache}
-use Rattle.dwarf_entries.specs.declared.name_cache.PackedNames.{PackedNames}
+use Rattle.dwarf_bytes.specs.{Bind.◌>>=◌, declared.fault.Cause.Cause}
+use Rattle.dwarf_entries.specs.{Names.{Member, names_within, target_of}, Private.Members.member_in}
+use Rattle.dwarf_entries.specs.{Scopes.text_by, Units.CompilationUnit}
+use Rattle.dwarf_entries.specs.declared.name_cache.{NameCache.NameCache, PackedNames.PackedNames}
 use Rattle.dwarf_entries.specs.declared.origin_chains.EntryNames.{EntryNames}
-use Rattle.dwarf_entries.specs.{declared.references.UnitPlace.UnitPlace, Units.CompilationUnit}
-use Rattle.dwarf_entries.specs.{Names.{Member, target_of, names_within}, Scopes.text_by}
-use Rattle.dwarf_entries.specs.Private.Members.{member_in}
+use Rattle.dwarf_entries.specs.declared.references.UnitPlace.{UnitPlace}
+use Rattle.dwarf_units.specs.declared.attributes.AttributeValue.{AttributeValue}
 use Rattle.dwarf_walk.specs.Sections.{Sections}
+use Rattle.std.specs.Prelude.{List, None, Ok, Option, Result, Some, get_or, option_map, ℕ, ◌%◌, ◌≡◌}
 
 -- The slot of a place.
 abbrev pub slot_of : UnitPlace → ℕ

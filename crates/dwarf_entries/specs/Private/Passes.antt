@@ -1,22 +1,21 @@
 -- The results of the passes over all units, for their contracts.
-use Rattle.std.specs.Prelude.{◌≡◌, ◌⊎◌, ◌+◌, ◌-◌, ℕ, List, length, Option, Some, None, Result, Ok}
-use Rattle.std.specs.Prelude.{Err, map, flat_map, slice_get, sum_by, count_by, zip, take}
-use Rattle.dwarf_bytes.specs.{declared.fault.LoadFault.LoadFault, declared.format.Format.Format}
-use Rattle.dwarf_bytes.specs.{Items.{At, with_offset, each}, Refusals.{memory_fault, in_section}}
-use Rattle.dwarf_forms.specs.Declarations.{Declaration}
-use Rattle.dwarf_units.specs.declared.unit_headers.UnitHeader.{UnitHeader}
-use Rattle.dwarf_ranges.specs.{declared.bases.Bases.Bases, Bases.{no_bases, bases_by}}
-use Rattle.dwarf_walk.specs.{declared.unit_entries.RootEntry.RootEntry, Sections.Sections}
-use Rattle.dwarf_walk.specs.{declared.unit_entries.ScopeEntry.ScopeEntry, ScopeEntries.is_scope}
-use Rattle.dwarf_walk.specs.Stored.{scope_entry}
+use Rattle.dwarf_bytes.specs.{Items.{At, each, with_offset}, Refusals.{in_section, memory_fault}}
+use Rattle.dwarf_bytes.specs.declared.{fault.LoadFault.LoadFault, format.Format.Format}
+use Rattle.dwarf_entries.specs.{Private.Shared.AreConsecutive, Scopes.{ParsedScope, ScopeSite}}
+use Rattle.dwarf_entries.specs.Scopes.{items_limit, roots_from, scope_at, scopes_of, sites_in}
+use Rattle.dwarf_entries.specs.{Scopes.{stmt_list_by_number, stmt_list_of}, Units.CompilationUnit}
+use Rattle.dwarf_entries.specs.Units.{unit_of, with_bases}
+use Rattle.dwarf_entries.specs.declared.origin_chains.EntryNames.{EntryNames}
 use Rattle.dwarf_entries.specs.declared.scope.ScopeFacts.{ScopeFacts}
 use Rattle.dwarf_entries.specs.declared.scope_lists.ScopeLists.{ScopeLists}
-use Rattle.dwarf_entries.specs.declared.origin_chains.EntryNames.{EntryNames}
 use Rattle.dwarf_entries.specs.declared.unit_scopes.ScopeNumbers.{ScopeNumbers}
-use Rattle.dwarf_entries.specs.{Units.{CompilationUnit, unit_of, with_bases}, Scopes.ParsedScope}
-use Rattle.dwarf_entries.specs.Scopes.{ScopeSite, items_limit, sites_in, roots_from}
-use Rattle.dwarf_entries.specs.Scopes.{stmt_list_by_number, scopes_of, scope_at, stmt_list_of}
-use Rattle.dwarf_entries.specs.Private.Shared.{AreConsecutive}
+use Rattle.dwarf_forms.specs.Declarations.{Declaration}
+use Rattle.dwarf_ranges.specs.{Bases.{bases_by, no_bases}, declared.bases.Bases.Bases}
+use Rattle.dwarf_units.specs.declared.unit_headers.UnitHeader.{UnitHeader}
+use Rattle.dwarf_walk.specs.{ScopeEntries.is_scope, Sections.Sections, Stored.scope_entry}
+use Rattle.dwarf_walk.specs.declared.unit_entries.{RootEntry.RootEntry, ScopeEntry.ScopeEntry}
+use Rattle.std.specs.Prelude.{Err, List, None, Ok, Option, Result, Some, count_by, flat_map, length}
+use Rattle.std.specs.Prelude.{map, slice_get, sum_by, take, zip, ℕ, ◌+◌, ◌-◌, ◌≡◌, ◌⊎◌}
 use Rattle.dwarf_bytes.specs.declared.fault.Section.TheVariants as names
 
 -- The result of a pass, related to the outcome, or the fault of the outcome. The call may also fail

@@ -1,10 +1,9 @@
 -- Abbreviation tables for units of a format.
-use Rattle.std.specs.Prelude.{ℕ, ◌+◌, ◌*◌, List, length, take, sum_by}
-use Rattle.dwarf_bytes.specs.declared.format.Format.{Format}
-use Rattle.dwarf_bytes.specs.declared.format.Format.TheVariants.{Dwarf32, Dwarf64}
-use Rattle.dwarf_forms.specs.declared.attribute.AttributeSpecification.{AttributeSpecification}
-use Rattle.dwarf_forms.specs.Declarations.{Declaration}
 use Rattle.abbreviation_memo.specs.declared.shared.TheConstants.{UNSHARED}
+use Rattle.dwarf_bytes.specs.declared.format.Format.{Format, TheVariants.{Dwarf32, Dwarf64}}
+use Rattle.dwarf_forms.specs.Declarations.{Declaration}
+use Rattle.dwarf_forms.specs.declared.attribute.AttributeSpecification.{AttributeSpecification}
+use Rattle.std.specs.Prelude.{List, length, sum_by, take, ℕ, ◌*◌, ◌+◌}
 
 -- The table of declarations at an offset of `.debug_abbrev`, for units of a format.
 pub record Table : Type 0 where

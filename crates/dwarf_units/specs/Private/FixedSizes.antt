@@ -1,20 +1,19 @@
 -- The sizes of attributes, and the positions of used attributes after attributes of a fixed size.
-use Rattle.std.specs.Prelude.{ℕ, ◌+◌, List, map, Option, Some, None, Result, Ok, Err, nat_le}
-use Rattle.std.specs.{Prelude.{if◌then◌else◌, option_and_then, option_map}, Option.option_map_or}
-use Rattle.dwarf_bytes.specs.{declared.fault.Cause.Cause, declared.format.Format.Format}
-use Rattle.dwarf_bytes.specs.declared.form.ValueLayout.{ValueLayout}
-use Rattle.dwarf_bytes.specs.declared.form.ValueLayout.TheVariants.{Fixed, Offset, Present}
-use Rattle.dwarf_bytes.specs.declared.form.ValueLayout.TheVariants.{Sixteen}
-use Rattle.dwarf_bytes.specs.declared.form.Form.TheVariants.{Direct, ImplicitConst, Indirect}
-use Rattle.dwarf_bytes.specs.{Bind.◌>>=◌, Contents.{Signed, content_at}, Forms.{form_of, byte_len}}
+use Rattle.dwarf_bytes.specs.{Bind.◌>>=◌, Contents.{Signed, content_at}, Forms.{byte_len, form_of}}
 use Rattle.dwarf_bytes.specs.{Items.reading, Numbers.{block_at, offset_len}}
+use Rattle.dwarf_bytes.specs.declared.{fault.Cause.Cause, form.Form.TheVariants.Direct}
+use Rattle.dwarf_bytes.specs.declared.form.Form.TheVariants.{ImplicitConst, Indirect}
+use Rattle.dwarf_bytes.specs.declared.form.ValueLayout.TheVariants.{Fixed, Offset, Present, Sixteen}
+use Rattle.dwarf_bytes.specs.declared.{form.ValueLayout.ValueLayout, format.Format.Format}
 use Rattle.dwarf_forms.specs.declared.attribute.AttributeSpecification.{AttributeSpecification}
-use Rattle.dwarf_units.specs.declared.attributes.Attribute.{Attribute}
-use Rattle.dwarf_units.specs.declared.used_position.UsedPosition.{UsedPosition}
-use Rattle.dwarf_units.specs.declared.used_position.UsedValue.{UsedValue}
-use Rattle.dwarf_units.specs.declared.used_position.UsedValue.TheVariants.{Constant, At}
 use Rattle.dwarf_units.specs.Attributes.{accepts, is_negative_count, number_of}
 use Rattle.dwarf_units.specs.Private.Names.{named_attribute, used_name}
+use Rattle.dwarf_units.specs.declared.attributes.Attribute.{Attribute}
+use Rattle.dwarf_units.specs.declared.used_position.UsedPosition.{UsedPosition}
+use Rattle.dwarf_units.specs.declared.used_position.UsedValue.TheVariants.{At, Constant}
+use Rattle.dwarf_units.specs.declared.used_position.UsedValue.{UsedValue}
+use Rattle.std.specs.{Option.option_map_or, Prelude.{Err, List, None, Ok, Option, Result, Some}}
+use Rattle.std.specs.Prelude.{if◌then◌else◌, map, nat_le, option_and_then, option_map, ℕ, ◌+◌}
 
 -- ---- sizes of attributes
 

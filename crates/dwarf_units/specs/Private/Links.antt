@@ -1,14 +1,13 @@
 -- Links skip the attributes of a shared list that are unused and have no bytes.
-use Rattle.std.specs.Prelude.{◌≡◌, ℕ, ◌<◌, ◌≤◌, List, length, Bool, false, IfSome, not, ◌&&◌, ◌==◌}
-use Rattle.std.specs.{Prelude.Some, Option.option_map_or, Ordering.nat_cmp, BTreeMap.BTreeMap}
-use Rattle.std.specs.BTreeMap.{get}
-use Rattle.dwarf_bytes.specs.declared.format.Format.{Format}
-use Rattle.dwarf_bytes.specs.declared.format.Format.TheVariants.{Dwarf32}
+use Rattle.abbreviation_memo.specs.Lists.{IsListAt, list_at, list_from}
+use Rattle.abbreviation_memo.specs.declared.list_start.ListStart.{ListStart}
+use Rattle.dwarf_bytes.specs.declared.format.Format.{Format, TheVariants.Dwarf32}
 use Rattle.dwarf_forms.specs.declared.attribute.AttributeSpecification.{AttributeSpecification}
-use Rattle.abbreviation_memo.specs.{declared.list_start.ListStart.ListStart, Lists.IsListAt}
-use Rattle.abbreviation_memo.specs.Lists.{list_at, list_from}
 use Rattle.dwarf_units.specs.{Attributes.is_used, Private.FixedSizes.fixed_len}
 use Rattle.dwarf_units.specs.Private.StoredAttributes.{stored_attributes_at}
+use Rattle.std.specs.{BTreeMap.{BTreeMap, get}, Option.option_map_or, Ordering.nat_cmp}
+use Rattle.std.specs.Prelude.{Bool, IfSome, List, Some, false, length, not, ℕ, ◌&&◌, ◌<◌, ◌==◌, ◌≡◌}
+use Rattle.std.specs.Prelude.{◌≤◌}
 
 -- Whether an attribute is unused and has no bytes. Offsets have bytes in both formats, so this does
 -- not depend on the format.

@@ -1,14 +1,13 @@
 -- The names of the used attributes (DWARF 5, 2.2 and 7.5.4), and their slots.
-use Rattle.std.specs.Prelude.{ℕ, List, [], ◌∷◌, Option, ◌==◌, find}
-use Rattle.dwarf_units.specs.{declared.attributes.Attribute.Attribute, Used.name_of}
+use Rattle.dwarf_units.specs.{Used.name_of, declared.attributes.Attribute.Attribute}
 use Rattle.dwarf_units.specs.declared.attributes.AttributeValue.{AttributeValue}
-use Rattle.dwarf_units.specs.declared.used_name.UsedName.{UsedName}
-use Rattle.dwarf_units.specs.declared.used_name.UsedName.TheVariants.{Name, LinkageName, LowPc}
-use Rattle.dwarf_units.specs.declared.used_name.UsedName.TheVariants.{AbstractOrigin, HighPc}
-use Rattle.dwarf_units.specs.declared.used_name.UsedName.TheVariants.{Specification, Ranges}
-use Rattle.dwarf_units.specs.declared.used_name.UsedName.TheVariants.{CallFile, CallLine, StmtList}
-use Rattle.dwarf_units.specs.declared.used_name.UsedName.TheVariants.{StrOffsetsBase, AddrBase}
-use Rattle.dwarf_units.specs.declared.used_name.UsedName.TheVariants.{RnglistsBase}
+use Rattle.dwarf_units.specs.declared.used_name.UsedName.TheVariants.{AbstractOrigin, AddrBase}
+use Rattle.dwarf_units.specs.declared.used_name.UsedName.TheVariants.{CallFile, CallLine, HighPc}
+use Rattle.dwarf_units.specs.declared.used_name.UsedName.TheVariants.{LinkageName, LowPc, Name}
+use Rattle.dwarf_units.specs.declared.used_name.UsedName.TheVariants.{Ranges, RnglistsBase}
+use Rattle.dwarf_units.specs.declared.used_name.UsedName.TheVariants.{Specification, StmtList}
+use Rattle.dwarf_units.specs.declared.used_name.UsedName.{TheVariants.StrOffsetsBase, UsedName}
+use Rattle.std.specs.Prelude.{List, Option, [], find, ℕ, ◌==◌, ◌∷◌}
 
 abbrev pub used_names : List UsedName
 used_names = Name ∷ LinkageName ∷ AbstractOrigin ∷ Specification ∷ LowPc ∷ HighPc ∷ Ranges

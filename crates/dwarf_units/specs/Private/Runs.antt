@@ -1,23 +1,22 @@
 -- The attributes of a declaration in runs: attributes of a fixed size, and the attribute after
 -- them.
-use Rattle.std.specs.Prelude.{◌≡◌, ℕ, List, [], ◌∷◌, ◌++◌, length, ◌==◌, map, Option, Some, None}
-use Rattle.std.specs.Prelude.{Result, Ok, Bool, true, false, ◌&&◌, if◌then◌else◌}
-use Rattle.std.specs.Option.{option_map_or, option_to_list}
-use Rattle.dwarf_bytes.specs.{declared.fault.Cause.Cause, declared.format.Format.Format}
-use Rattle.dwarf_bytes.specs.declared.form.ValueLayout.{ValueLayout}
-use Rattle.dwarf_bytes.specs.declared.form.Form.TheVariants.{Direct, ImplicitConst, Indirect}
-use Rattle.dwarf_bytes.specs.{Bind.◌>>=◌, Contents.content_at, Forms.form_of, Items.reading}
-use Rattle.dwarf_bytes.specs.Numbers.{block_at}
-use Rattle.dwarf_forms.specs.declared.attribute.AttributeSpecification.{AttributeSpecification}
-use Rattle.dwarf_forms.specs.Declarations.{Declaration}
 use Rattle.abbreviation_memo.specs.Declarations.{IsShared, SharedDeclaration, full_declaration}
-use Rattle.dwarf_units.specs.declared.attributes.Attribute.{Attribute}
-use Rattle.dwarf_units.specs.declared.attribute_run.LastAttribute.{LastAttribute}
-use Rattle.dwarf_units.specs.declared.attribute_run.LastAttribute.TheVariants.{Checked, Unchecked}
-use Rattle.dwarf_units.specs.{declared.used_position.UsedPosition.UsedPosition, Attributes.accepts}
-use Rattle.dwarf_units.specs.{Attributes.is_used, Entries.declaration_of}
+use Rattle.dwarf_bytes.specs.{Bind.◌>>=◌, Contents.content_at, Forms.form_of, Items.reading}
+use Rattle.dwarf_bytes.specs.{Numbers.block_at, declared.fault.Cause.Cause}
+use Rattle.dwarf_bytes.specs.declared.form.Form.TheVariants.{Direct, ImplicitConst, Indirect}
+use Rattle.dwarf_bytes.specs.declared.{form.ValueLayout.ValueLayout, format.Format.Format}
+use Rattle.dwarf_forms.specs.Declarations.{Declaration}
+use Rattle.dwarf_forms.specs.declared.attribute.AttributeSpecification.{AttributeSpecification}
+use Rattle.dwarf_units.specs.{Attributes.{accepts, is_used}, Entries.declaration_of}
 use Rattle.dwarf_units.specs.Private.FixedSizes.{attributes_in, end_of, used_position}
 use Rattle.dwarf_units.specs.Private.StoredAttributes.{stored_attributes_at}
+use Rattle.dwarf_units.specs.declared.attribute_run.LastAttribute.{LastAttribute}
+use Rattle.dwarf_units.specs.declared.attribute_run.LastAttribute.TheVariants.{Checked, Unchecked}
+use Rattle.dwarf_units.specs.declared.attributes.Attribute.{Attribute}
+use Rattle.dwarf_units.specs.declared.used_position.UsedPosition.{UsedPosition}
+use Rattle.std.specs.{Option.{option_map_or, option_to_list}, Prelude.{Bool, List, None, Ok}}
+use Rattle.std.specs.Prelude.{Option, Result, Some, [], false, if◌then◌else◌, length, map, true, ℕ}
+use Rattle.std.specs.Prelude.{◌&&◌, ◌++◌, ◌==◌, ◌∷◌, ◌≡◌}
 use Rattle.dwarf_bytes.specs.declared.form.ValueLayout.TheVariants as layouts
 
 -- ---- attributes whose values need no check

@@ -1,14 +1,12 @@
 -- The cached tables of units, for the contracts of the functions that decode by them.
-use Rattle.std.specs.Prelude.{◌≡◌, ℕ, ◌⊎◌, ◌+◌, ◌*◌, ◌<◌, ◌≤◌, List, [], ◌∷◌, ◌++◌, length, take}
-use Rattle.std.specs.Prelude.{Some, Result, Ok, Err, IfErr, nat_le, if◌then◌else◌, slice_get}
-use Rattle.std.specs.{Prelude.sum_by, List.All}
-use Rattle.dwarf_bytes.specs.{declared.format.Format.Format, declared.fault.LoadFault.LoadFault}
 use Rattle.dwarf_bytes.specs.Refusals.{in_section, memory_fault}
+use Rattle.dwarf_bytes.specs.declared.{fault.LoadFault.LoadFault, format.Format.Format}
 use Rattle.dwarf_forms.specs.{Declarations.Declaration, Tables.declarations_of}
-use Rattle.dwarf_units.specs.declared.unit_headers.UnitHeader.{UnitHeader}
-use Rattle.dwarf_units.specs.Units.{declarations_limit}
 use Rattle.dwarf_units.specs.Private.AbbreviationTables.{Table, table_key, table_size}
-use Rattle.std.specs.{BTreeMap.{BTreeMap, get}, Ordering.nat_cmp}
+use Rattle.dwarf_units.specs.{Units.declarations_limit, declared.unit_headers.UnitHeader.UnitHeader}
+use Rattle.std.specs.{BTreeMap.{BTreeMap, get}, List.All, Ordering.nat_cmp, Prelude.{Err, IfErr}}
+use Rattle.std.specs.Prelude.{List, Ok, Result, Some, [], if◌then◌else◌, length, nat_le, slice_get}
+use Rattle.std.specs.Prelude.{sum_by, take, ℕ, ◌*◌, ◌++◌, ◌+◌, ◌<◌, ◌∷◌, ◌≡◌, ◌≤◌, ◌⊎◌}
 use Rattle.dwarf_bytes.specs.declared.fault.Section.TheVariants as sections
 
 -- The tables of a section by index, and the number of those that are cached permanently. A table

@@ -1,11 +1,10 @@
 -- The used attributes of an entry as they are added one by one.
-use Rattle.std.specs.{Prelude.{ℕ, List, Bool, Result, Ok, Err}, Option.option_or}
-use Rattle.dwarf_bytes.specs.{declared.fault.Cause.Cause, declared.format.Format.Format, Bind.◌>>=◌}
+use Rattle.dwarf_bytes.specs.{Bind.◌>>=◌, declared.{fault.Cause.Cause, format.Format.Format}}
 use Rattle.dwarf_forms.specs.declared.attribute.AttributeSpecification.{AttributeSpecification}
-use Rattle.dwarf_units.specs.declared.attributes.Attribute.{Attribute}
-use Rattle.dwarf_units.specs.Entries.{value_of}
+use Rattle.dwarf_units.specs.{Entries.value_of, Private.StoredAttributes.stored_attributes_at}
 use Rattle.dwarf_units.specs.Used.{Used, name_of, used_among, used_by, value_named}
-use Rattle.dwarf_units.specs.Private.StoredAttributes.{stored_attributes_at}
+use Rattle.dwarf_units.specs.declared.attributes.Attribute.{Attribute}
+use Rattle.std.specs.{Option.option_or, Prelude.{Bool, Err, List, Ok, Result, ℕ}}
 
 -- The used attributes of `front`, and from a list the used attributes that `front` lacks.
 unfoldable pub with_used : Used → List Attribute → Used

@@ -1,12 +1,11 @@
 -- The cache of long entries, for the contracts of the entry reader.
-use Rattle.std.specs.{Prelude.{◌≡◌, ℕ, List, take, Option, Some, Ok}, BTreeMap.get}
-use Rattle.std.specs.Ordering.{nat_cmp}
 use Rattle.dwarf_forms.specs.{Declarations.Declaration, Tables.declarations_of}
-use Rattle.dwarf_units.specs.{declared.unit_headers.UnitHeader.UnitHeader, Units.declarations_limit}
-use Rattle.dwarf_walk.specs.declared.unit_entries.NamedEntry.{NamedEntry}
-use Rattle.dwarf_walk.specs.declared.long_entries.LongEntry.{LongEntry}
-use Rattle.dwarf_walk.specs.declared.long_entries.LongEntries.{LongEntries}
+use Rattle.dwarf_units.specs.{Units.declarations_limit, declared.unit_headers.UnitHeader.UnitHeader}
 use Rattle.dwarf_walk.specs.Private.Named.{named_entry_at}
+use Rattle.dwarf_walk.specs.declared.long_entries.{LongEntries.LongEntries, LongEntry.LongEntry}
+use Rattle.dwarf_walk.specs.declared.unit_entries.NamedEntry.{NamedEntry}
+use Rattle.std.specs.{BTreeMap.get, Ordering.nat_cmp, Prelude.{List, Ok, Option, Some, take, ℕ}}
+use Rattle.std.specs.Prelude.{◌≡◌}
 
 -- The cached entry at an offset.
 abbrev pub cached_at : LongEntries → ℕ → Option LongEntry

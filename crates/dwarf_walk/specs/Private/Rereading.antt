@@ -1,20 +1,17 @@
 -- Re-reading entries, for the contracts of the entry reader.
-use Rattle.std.specs.Prelude.{◌≡◌, ℕ, ◌-◌, ◌<◌, ◌≤◌, List, take, Option, Some, Result, Ok, Err}
-use Rattle.std.specs.Prelude.{ok_or, slice_get}
-use Rattle.dwarf_bytes.specs.{declared.fault.Cause.Cause, declared.format.Format.Format, Bind.◌>>=◌}
-use Rattle.dwarf_bytes.specs.Refusals.{Fails, Gives}
+use Rattle.dwarf_bytes.specs.{Bind.◌>>=◌, Refusals.{Fails, Gives}, declared.fault.Cause.Cause}
+use Rattle.dwarf_bytes.specs.declared.format.Format.{Format}
 use Rattle.dwarf_forms.specs.{Declarations.Declaration, Tables.declarations_of}
+use Rattle.dwarf_units.specs.{Entries.entry_at, Private.{AbbreviationTables.Table, Tables.IsAt}}
 use Rattle.dwarf_units.specs.{Units.declarations_limit, declared.unit_headers.UnitHeader.UnitHeader}
-use Rattle.dwarf_units.specs.{Private.AbbreviationTables.Table, Private.Tables.IsAt}
-use Rattle.dwarf_units.specs.Entries.{entry_at}
-use Rattle.dwarf_walk.specs.declared.entry_reader.EntryReader.{EntryReader}
+use Rattle.dwarf_walk.specs.Private.{Long.{AreCachedOf, cached_at, long_entry}, Named.entry_with}
+use Rattle.dwarf_walk.specs.{Private.Named.{named_entry_at, used_at}, Sections.Sections}
+use Rattle.dwarf_walk.specs.{Stored.scope_entry_of, declared.entry_reader.EntryReader.EntryReader}
 use Rattle.dwarf_walk.specs.declared.entry_reader.TheConstants.{LONG}
-use Rattle.dwarf_walk.specs.declared.unit_entries.NamedEntry.{NamedEntry}
-use Rattle.dwarf_walk.specs.declared.unit_entries.ScopeEntry.{ScopeEntry}
-use Rattle.dwarf_walk.specs.{declared.long_entries.LongEntry.LongEntry, Sections.Sections}
-use Rattle.dwarf_walk.specs.{Stored.scope_entry_of, Private.Long.{cached_at, long_entry}}
-use Rattle.dwarf_walk.specs.{Private.Long.AreCachedOf, Private.Named.{entry_with, used_at}}
-use Rattle.dwarf_walk.specs.Private.Named.{named_entry_at}
+use Rattle.dwarf_walk.specs.declared.long_entries.LongEntry.{LongEntry}
+use Rattle.dwarf_walk.specs.declared.unit_entries.{NamedEntry.NamedEntry, ScopeEntry.ScopeEntry}
+use Rattle.std.specs.Prelude.{Err, List, Ok, Option, Result, Some, ok_or, slice_get, take, ℕ, ◌-◌}
+use Rattle.std.specs.Prelude.{◌<◌, ◌≡◌, ◌≤◌}
 use Rattle.dwarf_bytes.specs.declared.fault.Cause.TheVariants as causes
 
 -- The call returns the first part of the outcome and stores the second part in the output argument.

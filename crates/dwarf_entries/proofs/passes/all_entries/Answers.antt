@@ -1,15 +1,13 @@
 use Rattle.dwarf_entries.proofs
-use proofs.{common_steps}
-use proofs.{bind_ok, ◌≡◌, ◌⊎◌, ℕ, ◌+◌, ◌<◌, List, [], ◌∷◌, ◌++◌, length, get_or, refl, sym, ◌∙◌}
-use proofs.{arith, append-nil, inl, Some, Ok, Err, zip, slice_get, Result, map_push}
-use proofs.{slice_get-get_or, same_Some, slice_get_within, LoadFault, in_section, each-length}
-use proofs.{Declaration, UnitHeader, tables_of, Die, in_section-ok, UnitEntries, EntryBitmap}
-use proofs.{AddsOffsets, offsets_of, stored_of, CompilationUnit, all_offsets, DebugAbbrev}
-use proofs.{DebugInfo, At, memory_fault, declarations_of, declarations_limit, entries_of, table_is}
-use proofs.{all_entries, table_for, stored_entries, flat_map-append, length-zip, get_or-zip}
-use proofs.{adds-none, adds-more, no_bases, Faults, pass-none, pass-next, pass-end, pass-fault}
-use proofs.{exit}
 use Rattle.dwarf_entries.proofs.passes.all_entries.Invariants.{EntriesSoFar}
+use proofs.{AddsOffsets, At, CompilationUnit, DebugAbbrev, DebugInfo, Declaration, Die, EntryBitmap}
+use proofs.{Err, Faults, List, LoadFault, Ok, Result, Some, UnitEntries, UnitHeader, [], adds-more}
+use proofs.{adds-none, all_entries, all_offsets, append-nil, arith, bind_ok, common_steps}
+use proofs.{declarations_limit, declarations_of, each-length, entries_of, exit, flat_map-append}
+use proofs.{get_or, get_or-zip, in_section, in_section-ok, inl, length, length-zip, map_push}
+use proofs.{memory_fault, no_bases, offsets_of, pass-end, pass-fault, pass-next, pass-none, refl}
+use proofs.{same_Some, slice_get, slice_get-get_or, slice_get_within, stored_entries, stored_of}
+use proofs.{sym, table_for, table_is, tables_of, zip, ℕ, ◌++◌, ◌+◌, ◌<◌, ◌∙◌, ◌∷◌, ◌≡◌, ◌⊎◌}
 use Rattle.dwarf_entries.proofs.passes.all_entries.Goals as goal
 
 -- Re-reading a valid table fails only because memory ran out.

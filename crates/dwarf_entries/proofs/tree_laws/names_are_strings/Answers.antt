@@ -1,11 +1,10 @@
 use Rattle.dwarf_entries.proofs
-use proofs.{◌>>=◌, Cause, Bool, cond, Result, bind_ok, ◌≡◌, ℕ, ◌+◌, List, length, arith, Option}
-use proofs.{Some, None, Ok, All, same-ok, AttributeValue}
-use proofs.{EntryNames, Sections, CompilationUnit, Member, names_of, Scope, Tree}
-use proofs.{tree_of, DebugInfo, TextOffset, text_in, text_of}
-use proofs.{section_bytes, IsTextOf, reading-ok, text-encoded, IfSome, Section, StrOffsets, reading}
-use proofs.{cstr_at, text_at, DebugLineStr, DebugStr, Table, item_at, optional, tree-parts, get_or}
-use proofs.{scope-at, slice_get-get_or}
+use proofs.{All, AttributeValue, Bool, Cause, CompilationUnit, DebugInfo, DebugLineStr, DebugStr}
+use proofs.{EntryNames, IfSome, IsTextOf, List, Member, None, Ok, Option, Result, Scope, Section}
+use proofs.{Sections, Some, StrOffsets, Table, TextOffset, Tree, arith, bind_ok, cond, cstr_at}
+use proofs.{get_or, item_at, length, names_of, optional, reading, reading-ok, same-ok, scope-at}
+use proofs.{section_bytes, slice_get-get_or, text-encoded, text_at, text_in, text_of, tree-parts}
+use proofs.{tree_of, ℕ, ◌+◌, ◌>>=◌, ◌≡◌}
 use Rattle.dwarf_entries.proofs.tree_laws.names_are_strings.Goals as goal
 
 -- ---- a string that is found in a section

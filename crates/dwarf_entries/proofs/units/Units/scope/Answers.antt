@@ -1,10 +1,9 @@
 use Rattle.dwarf_entries.proofs
-use proofs.{[], Result, Err, ◌≡◌, ℕ, List, get_or, refl, ap, ◌∙◌, arith, Ok}
-use proofs.{get_or_from_slice_get, slice_get-map, Cause, ◌>>=◌, sections_of}
-use proofs.{Bases, EntryNames, Range, names_of, ParsedScope, ScopeSite, scope_at}
-use proofs.{roots_from, IsMember, bases_of, ObjectUnits, ScopeEntry, ScopeNumbers, scope_of_site}
-use proofs.{IsScopeSite, AddsFacts, scope_facts, covers_by, covers_of, AddsRanges, budget-left}
-use proofs.{step-fault, exit, seen, AreUnitsOf, Inside, Member}
+use proofs.{AddsFacts, AddsRanges, AreUnitsOf, Bases, Cause, EntryNames, Err, Inside, IsMember}
+use proofs.{IsScopeSite, List, Member, ObjectUnits, Ok, ParsedScope, Range, Result, ScopeEntry}
+use proofs.{ScopeNumbers, ScopeSite, [], ap, arith, bases_of, budget-left, covers_by, covers_of}
+use proofs.{exit, get_or, get_or_from_slice_get, names_of, refl, roots_from, scope_at, scope_facts}
+use proofs.{scope_of_site, sections_of, seen, slice_get-map, step-fault, ℕ, ◌>>=◌, ◌∙◌, ◌≡◌}
 use Rattle.dwarf_entries.proofs.units.Units.scope.Goals as goal
 
 module _ {w : ObjectUnits} {u : Inside} (are : AreUnitsOf w u) {before : List ParsedScope}

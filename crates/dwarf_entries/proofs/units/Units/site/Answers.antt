@@ -1,6 +1,5 @@
-use Rattle.dwarf_entries.proofs.{arith, sites_in}
-use Rattle.dwarf_entries.proofs.{sites-stored, site-read}
-use Rattle.dwarf_entries.proofs.{seen, with-reader, element, stored-there, object-units}
+use Rattle.dwarf_entries.proofs.{arith, element, object-units, seen, site-read, sites-stored}
+use Rattle.dwarf_entries.proofs.{sites_in, stored-there, with-reader}
 use Rattle.dwarf_entries.proofs.units.Units.site.Goals as goal
 
 pub index-place-requires : goal.index-place-requires

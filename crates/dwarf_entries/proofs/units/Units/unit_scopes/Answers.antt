@@ -1,12 +1,11 @@
 use Rattle.dwarf_entries.proofs
-use proofs.{common_steps}
-use proofs.{Range, Global, Vec, ◌<◌, ◌≡◌, ℕ, ◌+◌, List, length, ap, arith, refl}
-use proofs.{◌∙◌, Ok, Some, slice_get, map_push, length-map, Cause, LoadFault, at_item, Sections}
-use proofs.{Root, CompilationUnit, ParsedScope, ScopeSite, scope_at, sites_in, roots_from}
-use proofs.{AreParsedTo, first_number, all_sites, all_scopes, DebugInfo, Fails, ScopeEntry}
-use proofs.{ScopeFacts, ScopeLists, ScopeNumbers, IsScopeSite, AddsFacts, facts_of, IsPushed}
-use proofs.{IsSiteRead, sum_by_push, by_number, pushed, scopes-length, site-in, sites-count}
-use proofs.{first-next, all-sites-at, Faults, item-fault, pass-next, pass-fault, element, exit}
+use proofs.{AddsFacts, AreParsedTo, Cause, CompilationUnit, DebugInfo, Fails, Faults, Global}
+use proofs.{IsPushed, IsScopeSite, IsSiteRead, List, LoadFault, Ok, ParsedScope, Range, Root}
+use proofs.{ScopeEntry, ScopeFacts, ScopeLists, ScopeNumbers, ScopeSite, Sections, Some, Vec}
+use proofs.{all-sites-at, all_scopes, all_sites, ap, arith, at_item, by_number, common_steps}
+use proofs.{element, exit, facts_of, first-next, first_number, item-fault, length, length-map}
+use proofs.{map_push, pass-fault, pass-next, pushed, refl, roots_from, scope_at, scopes-length}
+use proofs.{site-in, sites-count, sites_in, slice_get, sum_by_push, ℕ, ◌+◌, ◌<◌, ◌∙◌, ◌≡◌}
 use Rattle.dwarf_entries.proofs.units.Units.unit_scopes.Goals as goal
 
 module _ {s : Sections} {us : List CompilationUnit} {number : ℕ} {lists : ScopeLists} {left : ℕ}
