@@ -1,0 +1,3 @@
+pub mod AttributeTurns
+pub mod WalkTurns
+pub mod UnitTurns

@@ -29,6 +29,7 @@ mod overlapping_tables;
 mod pairs;
 #[cfg(test)]
 mod passes;
+pub mod plain;
 #[cfg(test)]
 mod range_limits;
 #[cfg(test)]

@@ -1,0 +1,6 @@
+//! A reference implementation of the reader of scopes. It follows the definitions of
+//! `dwarf_entries/specs` step by step and caches nothing, so it is slow.
+
+mod attributes;
+mod entries;
+mod units;
