@@ -1,7 +1,7 @@
 -- The iterations of the loop over the attributes of an entry.
-use Rattle.std.proofs.Common.{◌≡◌, ℕ, ◌+◌, ◌≤◌, List, [], ◌∷◌, ◌++◌, length, drop, refl, sym, ◌∙◌}
-use Rattle.std.proofs.Common.{arith, append_assoc, append-nil}
-use Rattle.std.proofs.lemmas.{Grind.common_steps, List.drop_all}
+use Rattle.std.proofs.Common.{◌≡◌, ℕ, ◌+◌, ◌≤◌, List, [], ◌∷◌, ◌++◌, length, drop, refl, ◌∙◌}
+use Rattle.std.proofs.Common.{append_assoc, append-nil}
+use Rattle.std.proofs.lemmas.{List.drop_all}
 use Rattle.std.specs.Prelude.{Result, Ok, Err}
 use Rattle.dwarf_bytes.specs.{declared.fault.Cause.Cause, declared.format.Format.Format}
 use Rattle.dwarf_bytes.specs.{Bind.◌>>=◌, Position.Position}

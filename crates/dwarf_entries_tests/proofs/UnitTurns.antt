@@ -1,5 +1,5 @@
 -- The iterations of the loops over the units of an object.
-use Rattle.std.proofs.Common.{◌≡◌, ℕ, ◌+◌, ◌-◌, ◌<◌, ◌≤◌, ◌⊎◌, List, [], ◌∷◌, ◌++◌, length, refl}
+use Rattle.std.proofs.Common.{◌≡◌, ℕ, ◌+◌, ◌-◌, ◌<◌, ◌≤◌, ◌⊎◌, List, [], ◌∷◌, ◌++◌, length}
 use Rattle.std.proofs.Common.{arith, get_or, sum_by, Some, Ok, Err, slice_get, zip, min}
 use Rattle.std.proofs.lemmas.List.Sums.{sum_by_push}
 use Rattle.std.proofs.lemmas.{Option.slice_get-get_or, Slice.Zip.{get_or-zip, length-zip}}
@@ -10,7 +10,7 @@ use Rattle.dwarf_units.proofs.TableLaws.{table_for, in_section-ok}
 use Rattle.dwarf_units.specs.Units.{tables_of, declarations_limit}
 use Rattle.dwarf_units.specs.declared.unit_headers.UnitHeader.{UnitHeader}
 use Rattle.dwarf_entries.specs.Private.Passes.{PassedTo}
-use Rattle.dwarf_entries.proofs.UnitPasses.PassLaws.{pass-next, pass-end, pass-refused, pass-none}
+use Rattle.dwarf_entries.proofs.UnitPasses.PassLaws.{pass-next, pass-end, pass-refused}
 use Rattle.dwarf_bytes.specs.declared.fault.Section.TheVariants as sections
 
 -- The tables of the headers before an index, and the rest of the limit.

@@ -5,7 +5,7 @@ use Rattle.std.proofs.Common.{count_by, option_to_list}
 use Rattle.std.proofs.lemmas.{Bool.{lt-leb, le-leb}, Grind.common_steps, List.Sums.sum_by-append}
 use Rattle.std.proofs.lemmas.List.Elements.{filter_map-append}
 use Rattle.std.specs.List.{filter_map, list_any}
-use Rattle.dwarf_bytes.specs.{Bind.◌>>=◌, Items.{Next, Item, End, Advances, At}}
+use Rattle.dwarf_bytes.specs.{Bind.◌>>=◌, Items.{Next, Item, End, Advances}}
 use Rattle.dwarf_bytes.specs.Refusals.{memory_fault, at_item, in_section, Fails}
 use Rattle.dwarf_bytes.specs.{declared.fault.Cause.Cause, declared.fault.LoadFault.LoadFault}
 use Rattle.dwarf_bytes.proofs.Items.Turns.{SoFar, so-far-none, so-far-item, so-far-end}

@@ -1,1 +1,3 @@
 pub mod Plain
+pub mod PlainNames
+pub mod PlainScopes

@@ -3,4 +3,12 @@
 
 mod attributes;
 mod entries;
+mod names;
+mod references;
+mod scopes;
+mod sites;
+mod tree;
 mod units;
+
+pub use scopes::PlainScope;
+pub use tree::PlainScopes;

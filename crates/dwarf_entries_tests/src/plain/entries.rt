@@ -6,9 +6,11 @@ ghost use Rattle.dwarf_bytes.specs.Refusals.{Decodes, Gives, in_section};
 ghost use Rattle.dwarf_bytes.specs.declared.fault.Section.TheVariants as sections;
 ghost use Rattle.dwarf_units.specs.Entries.{attribute, declaration_of, node_at_depth, entries_of};
 ghost use Rattle.dwarf_units.specs.Entries.{depth_limit};
+ghost use Rattle.dwarf_walk.specs.{References.next_of, ScopeEntries.number_of};
 ghost use Rattle.dwarf_entries_tests.specs.Plain.{node_of, state_of, after_node, walk_of, is_top};
 
 use crate::plain::attributes::attributes;
+use dwarf_bytes::constants::{DW_AT_ABSTRACT_ORIGIN, DW_AT_SPECIFICATION, DW_FORM_REF_SIG8};
 use dwarf_bytes::{Cause, Cursor, Format, LoadFault, Section, Span};
 use dwarf_forms::Decl;
 use dwarf_units::{Attribute, AttributeValue, UnitHeader};
@@ -62,6 +64,26 @@ impl Die {
     {
         let found = self.attributes.iter().find(|a| a.name == name)?;
         Some(found.value)
+    }
+
+    /// Returns the value of an attribute as a number, if the entry has it.
+    pub(crate) fn number(&self, name: u64) -> Option<u64>
+        ensures { result ≡ number_of name self.now }
+    {
+        Some(self.attribute(name)?.number)
+    }
+
+    /// Returns the reference to the next entry of the origin chain. A type signature is not
+    /// followed.
+    pub(crate) fn next(&self) -> Option<AttributeValue>
+        ensures { result ≡ next_of self.now }
+    {
+        let origin = self.attribute(DW_AT_ABSTRACT_ORIGIN);
+        let reference = origin.or(self.attribute(DW_AT_SPECIFICATION))?;
+        if reference.form == DW_FORM_REF_SIG8 {
+            return None;
+        }
+        Some(reference)
     }
 }
 

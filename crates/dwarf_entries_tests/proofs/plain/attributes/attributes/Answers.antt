@@ -1,8 +1,7 @@
-use Rattle.std.proofs.Common.{arith, inr}
+use Rattle.std.proofs.Common.{inr}
 use Rattle.std.proofs.lemmas.{List.drop_more, Result.err_from_is_err_and}
 use Rattle.dwarf_entries_tests.proofs.AttributeTurns.{attributes-none, attributes-next}
 use Rattle.dwarf_entries_tests.proofs.AttributeTurns.{attributes-fault, attributes-end}
-use Rattle.dwarf_units.specs.declared.attributes.Attribute.{Attribute}
 use Rattle.dwarf_entries_tests.proofs.plain.attributes.attributes.Goals as goal
 
 pub loop-specification-init : goal.loop-specification-init
