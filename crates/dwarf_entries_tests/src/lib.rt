@@ -6,6 +6,8 @@ mod attributes;
 #[cfg(test)]
 mod bases;
 #[cfg(test)]
+mod both_readers;
+#[cfg(test)]
 mod checks;
 #[cfg(test)]
 mod codes;
@@ -29,7 +31,6 @@ mod overlapping_tables;
 mod pairs;
 #[cfg(test)]
 mod passes;
-pub mod plain;
 #[cfg(test)]
 mod range_limits;
 #[cfg(test)]

@@ -1,7 +1,0 @@
-use Rattle.dwarf_walk.specs.Sections.{sections_of}
-use Rattle.dwarf_entries_tests.proofs.ScopeTurns.{ScopesSoFar}
-use Rattle.dwarf_entries_tests.proofs.plain.scopes.all_scopes.Given as goal
-
-abbrev pub invariant-loop-site : goal.invariant-loop-site
-invariant-loop-site l =
-    ScopesSoFar (sections_of l.sections) l.units l.site-index l.left l.scopes.items

@@ -1,0 +1,5 @@
+pub mod AttributeTurns
+pub mod WalkTurns
+pub mod UnitTurns
+pub mod ReferenceTurns
+pub mod ScopeTurns
