@@ -1,9 +1,7 @@
--- The iterations of the loops that look up entries, follow origin chains and collect scopes.
-use Rattle.std.proofs.Common.{◌≡◌, ℕ, ◌+◌, ◌<◌, ◌≤◌, List, [], ◌∷◌, ◌++◌, length, drop, refl, sym}
-use Rattle.std.proofs.Common.{arith, append_assoc, get_or, Option, Some, None, Result, Ok, Err}
-use Rattle.std.proofs.Common.{option_map, ok_or}
-use Rattle.std.proofs.lemmas.Bool.{ne_eqb}
-use Rattle.dwarf_bytes.specs.declared.constants.TheConstants.{DW_FORM_REF_ADDR}
+-- The iterations of the loops that look up entries and follow origin chains.
+use Rattle.std.proofs.Common.{◌≡◌, ℕ, ◌+◌, ◌<◌, ◌≤◌, List, [], ◌∷◌, ◌++◌, length, drop, refl}
+use Rattle.std.proofs.Common.{arith, append_assoc, get_or, Some, None, Result, Ok, Err}
+use Rattle.std.proofs.Common.{option_map}
 use Rattle.std.proofs.lemmas.List.{drop_more, drop_all}
 use Rattle.std.specs.List.{find}
 use Rattle.dwarf_bytes.specs.{declared.fault.Cause.Cause, Bind.◌>>=◌}
@@ -13,7 +11,7 @@ use Rattle.dwarf_entries.specs.{Names.{Member, member_at, members_of, chain_with
 use Rattle.dwarf_entries.specs.{Names.target_of}
 use Rattle.dwarf_entries.specs.{Units.CompilationUnit}
 use Rattle.dwarf_entries.proofs.OriginChains.ReferenceLaws.{is_at_offset, member_of, die_at}
-use Rattle.dwarf_entries.proofs.OriginChains.ReferenceLaws.{find-units, member-is}
+use Rattle.dwarf_entries.proofs.OriginChains.ReferenceLaws.{find-units}
 use Rattle.dwarf_entries.proofs.OriginChains.ChainLaws.{in_front, stepped}
 use Rattle.dwarf_bytes.specs.declared.fault.Cause.TheVariants.{OriginDepth, Reference}
 
@@ -47,16 +45,6 @@ module _ {us : List CompilationUnit} {offset index : ℕ} (so_far : NoneBefore u
 pub no-unit : {us : List CompilationUnit} {offset index : ℕ} → NoneBefore us offset index
     → length us ≤ index → member_at (members_of us) offset ≡ Err Reference
 no-unit {us} {offset} {index} so_far past = grind (arith, so_far.found, drop_all index us past)
-
--- The target of a reference in the same unit.
-pub target-own : (us : List CompilationUnit) (u : CompilationUnit) (reference : AttributeValue)
-    (found : Option Member) (result : Result Member Cause)
-    → (reference.form ≡ DW_FORM_REF_ADDR → ⊥)
-    → found ≡ option_map (member_of u) (die_at u (u.header.start + reference.number))
-    → result ≡ ok_or found Reference → result ≡ target_of us u reference
-target-own us u reference found result form found_is result_is =
-    let own = member-is (u ∷ []) 0 (u.header.start + reference.number) u refl in
-    rw (ne_eqb reference.form DW_FORM_REF_ADDR form, result_is, found_is) (sym own)
 
 -- ---- origin chains
 

@@ -12,6 +12,7 @@ use dwarf_bytes::constants::DW_FORM_REF_ADDR;
 use dwarf_units::AttributeValue;
 use std::alloc::Global;
 use std::marker::Model;
+use std::slice::from_ref;
 
 /// The maximum number of references followed in an origin chain.
 const REFERENCES_LIMIT: u32 = 16;
@@ -98,7 +99,7 @@ fn target<'a>(
     if reference.form == DW_FORM_REF_ADDR {
         return member_at(units, number);
     }
-    member_in(unit, unit.start() as u128 + number).ok_or(Cause::Reference)
+    member_at(from_ref(unit), unit.start() as u128 + number)
 }
 
 /// Returns the origin chain of an entry: the entry, its next entry, and so on, up to an entry

@@ -10,7 +10,7 @@ ghost use Rattle.dwarf_entries.specs.Private.Passes.{all_entries, all_bases};
 
 use crate::entries::{Die, entries};
 use dwarf_bytes::constants::*;
-use dwarf_bytes::{Format, LoadFault, Section};
+use dwarf_bytes::{LoadFault, Section};
 use dwarf_forms::Abbrevs;
 use dwarf_ranges::{Bases, root_bases};
 use dwarf_units::UnitHeader;
@@ -154,12 +154,13 @@ fn root_entry(root: &Die) -> RootEntry
     }
 }
 
-/// Returns the bases that the first of these entries defines.
-fn bases_of_first(sections: &Sections<'_>, format: Format, dies: &[Die]) -> Result<Bases, LoadFault>
-    ensures { Decodes (λ bases. bases) result (in_section names.DebugInfo
-        (bases_of_first (sections_of sections.now) format dies.now)) }
+/// Returns the bases that the first entry of a unit defines.
+fn bases_of_unit(sections: &Sections<'_>, unit: &ParsedUnit) -> Result<Bases, LoadFault>
+    ensures { Decodes (λ bases. bases) result (in_section names.DebugInfo (bases_of_first
+        (sections_of sections.now) unit.now.header.format unit.now.dies)) }
 {
-    let Some(root) = dies.first() else {
+    let format = unit.header().format;
+    let Some(root) = unit.dies().first() else {
         return Ok(Bases {
             str_offsets: None,
             addr: None,
@@ -184,7 +185,7 @@ fn with_bases<'a>(
     ensures { Decodes (λ unit. unit) result (in_section names.DebugInfo
         (unit_with_bases (sections_of sections.now) unit.now)) }
 {
-    let bases = bases_of_first(sections, unit.header().format, unit.dies())?;
+    let bases = bases_of_unit(sections, unit)?;
     Ok(CompilationUnit { unit, bases })
 }
 
