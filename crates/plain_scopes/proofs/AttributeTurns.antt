@@ -1,7 +1,7 @@
 -- The iterations of the loop over the attributes of an entry.
 use Rattle.std.proofs.Common.{◌≡◌, ℕ, ◌+◌, ◌≤◌, List, [], ◌∷◌, ◌++◌, length, drop, refl, ◌∙◌}
 use Rattle.std.proofs.Common.{append_assoc, append-nil}
-use Rattle.std.proofs.lemmas.{List.drop_all}
+use Rattle.std.proofs.lemmas.List.{drop_all}
 use Rattle.std.specs.Prelude.{Result, Ok, Err}
 use Rattle.dwarf_bytes.specs.{declared.fault.Cause.Cause, declared.format.Format.Format}
 use Rattle.dwarf_bytes.specs.{Bind.◌>>=◌, Position.Position}
@@ -17,6 +17,7 @@ abbrev after_front : List Attribute → Read → Read
 after_front front (Ok rest) = Ok (front ++ rest.0, rest.1)
 after_front front (Err cause) = Err cause
 
+-- An attribute, followed by the rest.
 abbrev then : Result (Attribute × ℕ) Cause → (ℕ → Read) → Read
 then first rest = first >>= λ a. rest a.1 >>= λ more. Ok (a.0 ∷ more.0, more.1)
 
@@ -30,6 +31,7 @@ front-none : (rest : Read) → rest ≡ after_front [] rest
 front-none (Ok more) = refl
 front-none (Err cause) = refl
 
+-- The attributes before an index are read, and the cursor is after them.
 pub record AttributesSoFar (format : Format) (all : List AttributeSpecification) (index : ℕ)
     (first : Position) (made : List Attribute) (cursor : Position) : Type 0 where
   pub bytes_are : cursor.bytes ≡ first.bytes

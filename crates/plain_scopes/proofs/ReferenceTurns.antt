@@ -6,10 +6,9 @@ use Rattle.std.proofs.lemmas.List.{drop_more, drop_all}
 use Rattle.std.specs.List.{find}
 use Rattle.dwarf_bytes.specs.{declared.fault.Cause.Cause, Bind.◌>>=◌}
 use Rattle.dwarf_units.specs.declared.attributes.AttributeValue.{AttributeValue}
-use Rattle.dwarf_walk.specs.{References.next_of}
-use Rattle.dwarf_entries.specs.{Names.{Member, member_at, members_of, chain_within}}
-use Rattle.dwarf_entries.specs.{Names.target_of}
-use Rattle.dwarf_entries.specs.{Units.CompilationUnit}
+use Rattle.dwarf_walk.specs.References.{next_of}
+use Rattle.dwarf_entries.specs.Names.{Member, member_at, members_of, chain_within, target_of}
+use Rattle.dwarf_entries.specs.Units.{CompilationUnit}
 use Rattle.dwarf_entries.proofs.OriginChains.ReferenceLaws.{is_at_offset, member_of, die_at}
 use Rattle.dwarf_entries.proofs.OriginChains.ReferenceLaws.{find-units}
 use Rattle.dwarf_entries.proofs.OriginChains.ChainLaws.{in_front, stepped}
@@ -48,6 +47,7 @@ no-unit {us} {offset} {index} so_far past = grind (arith, so_far.found, drop_all
 
 -- ---- origin chains
 
+-- The entries so far, followed by the rest of the chain.
 abbrev prepend : List Member → Result (List Member) Cause → Result (List Member) Cause
 prepend path rest = rest >>= λ later. Ok (path ++ later)
 

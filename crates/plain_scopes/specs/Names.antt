@@ -1,4 +1,4 @@
--- The names that the reference implementation returns.
+-- The names of an entry, as the program stores them.
 use Rattle.std.specs.Prelude.{◌≡◌, List, Result, Ok, Err}
 use Rattle.dwarf_bytes.specs.{declared.fault.Cause.Cause, Refusals.Fails}
 use Rattle.dwarf_entries.specs.Names.{Member, names_of}

@@ -1,4 +1,4 @@
--- The scopes and ranges that the reference implementation returns.
+-- The scopes and ranges, as the program stores them.
 use Rattle.std.specs.Prelude.{ℕ, Vec}
 use Rattle.std.specs.declared.alloc.Global.{Global}
 use Rattle.dwarf_ranges.specs.{declared.range.Range.Range, Ranges.Covering}

@@ -1,4 +1,4 @@
--- What the reference implementation of the reader of scopes returns.
+-- The walk over the entries of a unit: what it has read, and the depth that it is at.
 use Rattle.std.specs.Prelude.{ℕ, ◌+◌, ◌-◌, List, [], ◌∷◌, ◌++◌, Bool, Option, Some, None, Result, Ok}
 use Rattle.std.specs.{Prelude.{◌==◌, if◌then◌else◌, take}, List.filter_map}
 use Rattle.dwarf_bytes.specs.{Bind.◌>>=◌, Items.{At, items_from}}
