@@ -1,12 +1,12 @@
 //! The reader of scopes and the reference implementation return the same roots, scopes and faults.
 
 use crate::fixtures::*;
-use plain_scopes::{PlainScope, PlainScopes};
 use dwarf_entries::{Scope, Scopes, Sections};
 use dwarf_samples::{
     call_file_outside, circular_origins, cut_abbreviations, format_of_64_bits, inlined,
     leaf_without_code, origin_of_no_entry, two_sequences, version_four,
 };
+use plain_scopes::{PlainScope, PlainScopes};
 use std::process::Abort;
 use std::test::*;
 
@@ -163,23 +163,40 @@ fn two_units(rt: HostRuntime) {
     agree(&rt, (0, 0), &all);
 }
 
+/// Returns values that a byte is changed to.
+fn changes_of(byte: u8) -> [u8; 6] {
+    [
+        0,
+        1,
+        byte.wrapping_add(1),
+        byte.wrapping_sub(1),
+        byte ^ 0x80,
+        0xff,
+    ]
+}
+
 /// Each byte of the two units and their tables, changed to several other values.
 #[test]
 fn changed_bytes(rt: HostRuntime) {
     let whole = object();
     for place in 0..whole.len() {
-        let byte = whole[place];
-        for new in [
-            0,
-            1,
-            byte.wrapping_add(1),
-            byte.wrapping_sub(1),
-            byte ^ 0x80,
-            0xff,
-        ] {
+        for new in changes_of(whole[place]) {
             let mut bytes = object();
             bytes[place] = new;
             agree(&rt, (place, new), &sections_in(&bytes));
+        }
+    }
+}
+
+/// The same for `.debug_abbrev` and `.debug_info` of the sample in the 64-bit format.
+#[test]
+fn changed_bytes_of_a_sample(rt: HostRuntime) {
+    let whole = format_of_64_bits();
+    for place in 120..275 {
+        for new in changes_of(whole[place]) {
+            let mut bytes = format_of_64_bits();
+            bytes[place] = new;
+            agree(&rt, (place, new), &sections_of(&rt, &bytes));
         }
     }
 }

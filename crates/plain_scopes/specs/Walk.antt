@@ -1,6 +1,6 @@
 -- The walk over the entries of a unit: what it has read, and the depth that it is at.
-use Rattle.std.specs.Prelude.{ℕ, ◌+◌, ◌-◌, List, [], ◌∷◌, ◌++◌, Bool, Option, Some, None, Result, Ok}
-use Rattle.std.specs.{Prelude.{◌==◌, if◌then◌else◌, take}, List.filter_map}
+use Rattle.std.specs.Prelude.{ℕ, ◌+◌, ◌-◌, List, [], ◌∷◌, ◌++◌, Bool, Option, Some, None}
+use Rattle.std.specs.{Prelude.{Result, Ok, ◌==◌, if◌then◌else◌, take}, List.filter_map}
 use Rattle.dwarf_bytes.specs.{Bind.◌>>=◌, Items.{At, items_from}}
 use Rattle.dwarf_forms.specs.Declarations.{Declaration}
 use Rattle.dwarf_units.specs.Entries.{Node, Entry, Null, Die, LocatedNode, depth_after, die_of}

@@ -218,7 +218,7 @@ fn walk(
 
 /// Reads the entries of a unit. A list of children that is not terminated is reported at the offset
 /// of the unit.
-#[tactic(auto, unfolding(crate::specs::Walk::walk_of, dwarf_units::specs::Entries::entries_of,))]
+#[tactic(auto, unfolding(crate::specs::Walk::walk_of, dwarf_units::specs::Entries::entries_of))]
 pub(crate) fn entries(
     alloc: Global,
     info: &[u8],

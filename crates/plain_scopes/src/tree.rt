@@ -68,7 +68,7 @@ fn roots_of(alloc: Global, units: &[CompilationUnit<'_>]) -> Result<Vec<Root>, L
 
 impl PlainScopes {
     /// Parses all units, as `Scopes::read` does.
-    #[tactic(auto, unfolding(dwarf_entries::specs::Scopes::tree_of, dwarf_entries::specs::Units::units_read,))]
+    #[tactic(auto, unfolding(crate::specs::Scopes::tree_of, crate::specs::Scopes::units_read))]
     pub fn read(alloc: Global, sections: &Sections<'_>) -> Result<PlainScopes, LoadFault>
         ensures { Decodes (λ scopes. scopes) result (tree_of (sections_of sections.now)) }
     {
