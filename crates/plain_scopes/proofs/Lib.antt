@@ -1,4 +1,4 @@
-pub mod AttributeTurns
+pub mod Fronts
 pub mod WalkTurns
 pub mod UnitTurns
 pub mod ReferenceTurns

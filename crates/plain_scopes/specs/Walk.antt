@@ -7,6 +7,7 @@ use Rattle.dwarf_units.specs.Entries.{Node, Entry, Null, Die, LocatedNode, depth
 use Rattle.dwarf_units.specs.{Entries.node_at, declared.unit_headers.UnitHeader.UnitHeader}
 use Rattle.plain_scopes.specs.declared.entries.Entry.{Entry as Parsed}
 use Rattle.plain_scopes.specs.declared.entries.UnitWalk.{UnitWalk}
+unfoldable pub use Rattle.dwarf_units.specs.Entries.{attributes_at}
 
 -- An entry of the program, or a null entry.
 abbrev pub node_of : Option Parsed → Node

@@ -166,6 +166,7 @@ fn attribute(
 }
 
 /// Reads the attributes of an entry at the cursor, as their specifications declare them.
+#[tactic(auto, unfolding(crate::specs::Walk::attributes_at), using(crate::proofs::Fronts::next))]
 pub(crate) fn attributes(
     alloc: Global,
     format: Format,

@@ -1,8 +1,9 @@
 //! The units of an object, each with its entries and its bases (DWARF 5, 3.1.1 and 7.5).
 
 ghost use Rattle.std.specs.Prelude.{◌≡◌};
-ghost use Rattle.dwarf_bytes.specs.Refusals.{Decodes, in_section};
+ghost use Rattle.dwarf_bytes.specs.{Items.with_offset, Refusals.{Decodes, in_section}};
 ghost use Rattle.dwarf_bytes.specs.declared.fault.Section.TheVariants as names;
+ghost use Rattle.dwarf_ranges.specs.Bases.{bases_at};
 ghost use Rattle.dwarf_units.specs.Units.{tables_of};
 ghost use Rattle.dwarf_walk.specs.{Sections.sections_of, Stored.root_entry};
 ghost use Rattle.dwarf_entries.specs.Units.{unit_of, bases_of_first, with_bases as unit_with_bases};
@@ -10,7 +11,7 @@ ghost use Rattle.dwarf_entries.specs.Private.Passes.{all_entries, all_bases};
 
 use crate::entries::{Die, entries};
 use dwarf_bytes::constants::*;
-use dwarf_bytes::{LoadFault, Section};
+use dwarf_bytes::{Format, LoadFault, Section};
 use dwarf_forms::Abbrevs;
 use dwarf_ranges::{Bases, root_bases};
 use dwarf_units::UnitHeader;
@@ -154,26 +155,33 @@ fn root_entry(root: &Die) -> RootEntry
     }
 }
 
-/// Returns the bases that the first entry of a unit defines.
-fn bases_of_unit(sections: &Sections<'_>, unit: &ParsedUnit) -> Result<Bases, LoadFault>
-    ensures { Decodes (λ bases. bases) result (in_section names.DebugInfo (bases_of_first
-        (sections_of sections.now) unit.now.header.format unit.now.dies)) }
+/// Returns the bases that a root defines. A fault is reported at the offset of the root.
+fn bases_of_root(sections: &Sections<'_>, format: Format, root: &Die) -> Result<Bases, LoadFault>
+    ensures { Decodes (λ bases. bases) result (in_section names.DebugInfo
+        (with_offset root.now.offset (bases_at (sections_of sections.now) format root.now))) }
 {
-    let format = unit.header().format;
-    let Some(root) = unit.dies().first() else {
-        return Ok(Bases {
-            str_offsets: None,
-            addr: None,
-            rnglists: None,
-            low_pc: None,
-        });
-    };
     match root_bases(sections, format, &root_entry(root)) {
         Ok(bases) => Ok(bases),
         Err(cause) => {
             let at = root.offset() as u64;
             Err(LoadFault::at_item(Section::DebugInfo, cause, at))
         }
+    }
+}
+
+/// Returns the bases that the first entry of a unit defines.
+fn bases_of_unit(sections: &Sections<'_>, unit: &ParsedUnit) -> Result<Bases, LoadFault>
+    ensures { Decodes (λ bases. bases) result (in_section names.DebugInfo (bases_of_first
+        (sections_of sections.now) unit.now.header.format unit.now.dies)) }
+{
+    match unit.dies().first() {
+        None => Ok(Bases {
+            str_offsets: None,
+            addr: None,
+            rnglists: None,
+            low_pc: None,
+        }),
+        Some(root) => bases_of_root(sections, unit.header().format, root),
     }
 }
 
