@@ -66,8 +66,9 @@ pub use entries.Private.Members.{IsFirst, IsMember, IsPlaceOf, IsWithin, LeadsTo
 pub use entries.Private.NameCache.{IsCacheOf, second_names, slot_at, slot_of, target_names}
 pub use entries.Private.{Narrow.are_narrow, ObjectUnits.{AreUnitsOf, ObjectUnits, units_of_object}}
 pub use entries.Private.{ObjectUnits.units_or_none, Passes.{AreParsedTo, IsScopeSite, IsSiteRead}}
-pub use entries.Private.Passes.{PassedTo, all_bases, all_entries, all_scopes, all_sites, bases_in}
-pub use entries.Private.Passes.{bases_of, first_number, number_of_scopes, parse_scope, scope_facts}
+pub use entries.Private.Passes.{bases_in, bases_of, first_number, number_of_scopes, scope_facts}
+pub use entries.{Passes.PassedTo, Scopes.{all_scopes, all_sites, parse_scope}}
+pub use entries.Units.{all_bases, all_entries}
 pub use entries.Private.Shared.{AddsFacts, AreConsecutive, IsInList, IsPushed, facts_of}
 pub use entries.{Private.Shared.ranges_start, Scopes.{Own, ParsedScope, Scope, ScopeSite, Tree}}
 pub use entries.Scopes.{call_site, covers_there, items_limit, own, own_of, root_of, roots_from}

@@ -1,6 +1,6 @@
 -- The subprograms and inlined subroutines of all units (DWARF 5, 3.3), and the faults of
 -- .debug_info.
-use Rattle.dwarf_bytes.specs.{Bind.◌>>=◌, Items.{each, with_offset}, Refusals.in_section}
+use Rattle.dwarf_bytes.specs.{Bind.◌>>=◌, Items.{At, each, with_offset}, Refusals.in_section}
 use Rattle.dwarf_bytes.specs.declared.constants.TheConstants.{DW_AT_CALL_FILE, DW_AT_CALL_LINE}
 use Rattle.dwarf_bytes.specs.declared.{constants.TheConstants.DW_AT_STMT_LIST, fault.Cause.Cause}
 use Rattle.dwarf_bytes.specs.declared.fault.{LoadFault.LoadFault, Section.Section}
@@ -202,6 +202,18 @@ abbrev pub scope_at : Sections → List CompilationUnit → List ParsedScope →
     → Result ParsedScope Cause
 scope_at sections units before p = scope_by (names_of sections units p.member) sections before p
 
+-- The same. A fault is reported at the offset of the entry.
+abbrev pub parse_scope : Sections → List CompilationUnit → List ParsedScope → ScopeSite
+    → Result ParsedScope At
+parse_scope s units before p = with_offset p.member.die.offset (scope_at s units before p)
+
+-- The scope sites of all units, and their scopes.
+abbrev pub all_sites : List CompilationUnit → List ScopeSite
+all_sites us = flat_map (λ u. sites_in u u.dies) us
+
+abbrev pub all_scopes : Sections → List CompilationUnit → Result (List ParsedScope) At
+all_scopes s us = each (parse_scope s us) (all_sites us)
+
 -- Prepends the root of a unit, if the unit has one.
 abbrev pub root_of : ℕ → ℕ → List Die → List Root → List Root
 root_of first past [] roots = roots
@@ -224,7 +236,5 @@ roots_from number (unit ∷ units) =
 unfoldable pub tree_of : Sections → Result Tree LoadFault
 tree_of s = do
   units ← units_read s
-  parsed ← in_section names.DebugInfo (each
-      (λ before p. with_offset p.member.die.offset (scope_at s units before p))
-      (flat_map (λ unit. sites_in unit unit.dies) units))
+  parsed ← in_section names.DebugInfo (all_scopes s units)
   Ok (record { roots = roots_from 0 units; scopes = map (λ j. j.scope) parsed })

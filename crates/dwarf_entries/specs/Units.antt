@@ -34,11 +34,19 @@ with_bases sections unit =
     bases_of_first sections unit.header.format unit.dies
     >>= λ bases. Ok (record { header = unit.header; dies = unit.dies; bases = bases })
 
+-- The units with their entries.
+abbrev pub all_entries : List ℕ → List UnitHeader → List (List Declaration)
+    → Result (List CompilationUnit) At
+all_entries info headers tables = each (λ _ p. unit_of info p.0 p.1) (zip headers tables)
+
+-- The units with the bases that their roots define.
+abbrev pub all_bases : Sections → List CompilationUnit → Result (List CompilationUnit) At
+all_bases s us = each (λ _ unit. with_bases s unit) us
+
 -- The units of an object. The passes over all units read headers, tables, entries and roots.
 unfoldable pub units_read : Sections → Result (List CompilationUnit) LoadFault
 units_read s = do
   headers ← in_section names.DebugInfo (units_of s.debug_info)
   tables ← in_section names.DebugAbbrev (tables_of s.debug_abbrev headers)
-  units ← in_section names.DebugInfo
-      (each (λ _ p. unit_of s.debug_info p.0 p.1) (zip headers tables))
-  in_section names.DebugInfo (each (λ _ unit. with_bases s unit) units)
+  units ← in_section names.DebugInfo (all_entries s.debug_info headers tables)
+  in_section names.DebugInfo (all_bases s units)

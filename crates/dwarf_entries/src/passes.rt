@@ -9,7 +9,7 @@ ghost use Rattle.dwarf_walk.specs.Sections.{sections_of};
 ghost use Rattle.dwarf_walk.specs.EntryBitmap.{AddsOffsets};
 ghost use Rattle.dwarf_entries.specs.Units.{CompilationUnit};
 ghost use Rattle.dwarf_entries.specs.Private.EntryOffsets.{AreStored, all_offsets};
-ghost use Rattle.dwarf_entries.specs.Private.Passes.{PassGives, all_entries, all_bases};
+ghost use Rattle.dwarf_entries.specs.{Passes.PassGives, Units.{all_entries, all_bases}};
 ghost use Rattle.dwarf_entries.specs.Private.Passes.{bases_in, bases_of};
 
 use dwarf_bytes::{LoadFault, Section};

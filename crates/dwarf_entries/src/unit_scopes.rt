@@ -7,8 +7,8 @@ ghost use Rattle.dwarf_entries.specs.Units.{CompilationUnit};
 ghost use Rattle.dwarf_entries.specs.Scopes.{ParsedScope, ScopeSite, scope_at, sites_in};
 ghost use Rattle.dwarf_entries.specs.Scopes.{roots_from, scopes_of};
 ghost use Rattle.dwarf_entries.specs.Private.Passes.{IsScopeSite, IsSiteRead, scope_facts};
-ghost use Rattle.dwarf_entries.specs.Private.Passes.{PassGives, AreParsedTo, ParsesTo};
-ghost use Rattle.dwarf_entries.specs.Private.Passes.{first_number, all_scopes};
+ghost use Rattle.dwarf_entries.specs.Private.Passes.{AreParsedTo, ParsesTo, first_number};
+ghost use Rattle.dwarf_entries.specs.{Passes.PassGives, Scopes.all_scopes};
 ghost use Rattle.dwarf_entries.specs.Private.EntryOffsets.{scope_count};
 ghost use Rattle.dwarf_entries.specs.Private.Shared.{AddsFacts};
 

@@ -11,7 +11,7 @@ use Rattle.dwarf_entries.specs.Names.{Member, member_at, members_of, chain_withi
 use Rattle.dwarf_entries.specs.Units.{CompilationUnit}
 use Rattle.dwarf_entries.proofs.OriginChains.ReferenceLaws.{is_at_offset, member_of, die_at}
 use Rattle.dwarf_entries.proofs.OriginChains.ReferenceLaws.{find-units}
-use Rattle.dwarf_entries.proofs.OriginChains.ChainLaws.{in_front, stepped}
+use Rattle.dwarf_entries.proofs.OriginChains.ChainLaws.{prepend, stepped}
 use Rattle.dwarf_bytes.specs.declared.fault.Cause.TheVariants.{OriginDepth, Reference}
 
 -- The element at an index is the first of the rest.
@@ -47,12 +47,8 @@ no-unit {us} {offset} {index} so_far past = grind (arith, so_far.found, drop_all
 
 -- ---- origin chains
 
--- The entries so far, followed by the rest of the chain.
-abbrev prepend : List Member → Result (List Member) Cause → Result (List Member) Cause
-prepend path rest = rest >>= λ later. Ok (path ++ later)
-
 prepend-next : (path : List Member) (m : Member) (rest : Result (List Member) Cause)
-    → prepend path (in_front m rest) ≡ prepend (path ++ m ∷ []) rest
+    → prepend path (prepend (m ∷ []) rest) ≡ prepend (path ++ m ∷ []) rest
 prepend-next path m (Ok later) = rw (append_assoc path (m ∷ []) later) refl
 prepend-next path m (Err cause) = refl
 

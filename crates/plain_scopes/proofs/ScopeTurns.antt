@@ -8,7 +8,7 @@ use Rattle.dwarf_bytes.specs.{declared.fault.Cause.Cause, declared.fault.LoadFau
 use Rattle.dwarf_walk.specs.Sections.{Sections}
 use Rattle.dwarf_entries.specs.{Units.CompilationUnit, Scopes.{Scope, ParsedScope, ScopeSite}}
 use Rattle.dwarf_entries.specs.Scopes.{scope_at, items_limit}
-use Rattle.dwarf_entries.specs.Private.Passes.{PassedTo, all_scopes, all_sites, parse_scope}
+use Rattle.dwarf_entries.specs.{Passes.PassedTo, Scopes.{all_scopes, all_sites, parse_scope}}
 use Rattle.dwarf_entries.proofs.UnitPasses.PassLaws.{pass-next, pass-fault, pass-none, item-fault}
 use Rattle.dwarf_bytes.specs.declared.fault.Section.TheVariants.{DebugInfo}
 

@@ -9,7 +9,7 @@ use Rattle.dwarf_forms.specs.{Declarations.Declaration, Tables.declarations_of}
 use Rattle.dwarf_units.proofs.TableLaws.{table_for, in_section-ok}
 use Rattle.dwarf_units.specs.Units.{tables_of, declarations_limit}
 use Rattle.dwarf_units.specs.declared.unit_headers.UnitHeader.{UnitHeader}
-use Rattle.dwarf_entries.specs.Private.Passes.{PassedTo}
+use Rattle.dwarf_entries.specs.Passes.{PassedTo}
 use Rattle.dwarf_entries.proofs.UnitPasses.PassLaws.{pass-next, pass-end, pass-refused}
 use Rattle.dwarf_bytes.specs.declared.fault.Section.TheVariants as sections
 

@@ -9,7 +9,7 @@ ghost use Rattle.dwarf_units.specs.Entries.{attribute};
 ghost use Rattle.dwarf_walk.specs.Sections.{sections_of};
 ghost use Rattle.dwarf_entries.specs.Scopes.{ParsedScope, items_limit, stmt_list_of};
 ghost use Rattle.dwarf_entries.specs.Scopes.{scope_at as parsed_scope};
-ghost use Rattle.dwarf_entries.specs.Private.Passes.{PassGives, all_scopes};
+ghost use Rattle.dwarf_entries.specs.{Passes.PassGives, Scopes.all_scopes};
 ghost use Rattle.plain_scopes.specs.Scopes.{covering, parsed};
 
 use crate::entries::Die;

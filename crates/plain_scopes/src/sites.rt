@@ -3,7 +3,7 @@
 ghost use Rattle.std.specs.Prelude.{◌≡◌, ◌++◌, [], count_by, IfOk, OnOk};
 ghost use Rattle.dwarf_units.specs.Entries.{below};
 ghost use Rattle.dwarf_walk.specs.ScopeEntries.{kind_of, is_scope};
-ghost use Rattle.dwarf_entries.specs.{Scopes.{site_of, sites_in}, Private.Passes.all_sites};
+ghost use Rattle.dwarf_entries.specs.Scopes.{site_of, sites_in, all_sites};
 
 use crate::entries::Die;
 use crate::references::Member;

@@ -7,7 +7,7 @@ ghost use Rattle.dwarf_ranges.specs.Bases.{bases_at};
 ghost use Rattle.dwarf_units.specs.Units.{tables_of};
 ghost use Rattle.dwarf_walk.specs.{Sections.sections_of, Stored.root_entry};
 ghost use Rattle.dwarf_entries.specs.Units.{unit_of, bases_of_first, with_bases as unit_with_bases};
-ghost use Rattle.dwarf_entries.specs.Private.Passes.{all_entries, all_bases};
+ghost use Rattle.dwarf_entries.specs.Units.{all_entries, all_bases};
 
 use crate::entries::{Die, entries};
 use dwarf_bytes::constants::*;

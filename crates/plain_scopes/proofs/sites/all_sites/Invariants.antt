@@ -1,5 +1,5 @@
 use Rattle.std.proofs.Common.{◌≡◌, ◌++◌, drop}
-use Rattle.dwarf_entries.specs.Private.Passes.{all_sites}
+use Rattle.dwarf_entries.specs.Scopes.{all_sites}
 use Rattle.plain_scopes.proofs.sites.all_sites.Given as goal
 
 abbrev pub invariant-loop-unit : goal.invariant-loop-unit

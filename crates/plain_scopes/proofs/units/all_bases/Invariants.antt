@@ -1,4 +1,4 @@
-use Rattle.dwarf_entries.specs.{Private.Passes.PassedTo, Units.with_bases}
+use Rattle.dwarf_entries.specs.{Passes.PassedTo, Units.with_bases}
 use Rattle.dwarf_walk.specs.Sections.{sections_of}
 use Rattle.plain_scopes.proofs.units.all_bases.Given as goal
 

@@ -1,5 +1,5 @@
 use Rattle.std.proofs.Common.{zip}
-use Rattle.dwarf_entries.specs.{Private.Passes.PassedTo, Units.unit_of}
+use Rattle.dwarf_entries.specs.{Passes.PassedTo, Units.unit_of}
 use Rattle.plain_scopes.proofs.units.all_entries.Given as goal
 
 abbrev pub invariant-loop-index : goal.invariant-loop-index
