@@ -41,5 +41,4 @@ pub adds-more : (old mid new : EntryBitmap) (xs ys : List ℕ) → AddsOffsets o
     → AddsOffsets mid new ys
     → AddsOffsets old new (xs ++ ys)
 adds-more old mid new xs ys first second at =
-    let p : ℕ → Bool = λ place. place == at in
-    grind (arith, first at, second at, list_any-append p xs ys)
+    grind (arith, first at, second at, list_any-append (λ (place : ℕ). place == at) xs ys)

@@ -1,5 +1,5 @@
 -- Entries that are read at their offsets, and cached entries.
-use Rattle.dwarf_bytes.specs.{Bind.◌>>=◌, Refusals.Fails, declared.fault.Cause.Cause}
+use Rattle.dwarf_bytes.specs.{Bind.◌>>=◌, declared.fault.Cause.Cause}
 use Rattle.dwarf_bytes.specs.declared.format.Format.{Format}
 use Rattle.dwarf_forms.specs.Declarations.{Declaration}
 use Rattle.dwarf_units.specs.{Entries.entry_at, Private.StoredAttributes.stored_attributes}
@@ -10,7 +10,6 @@ use Rattle.dwarf_walk.specs.declared.long_entries.LongEntry.{LongEntry}
 use Rattle.dwarf_walk.specs.declared.unit_entries.NamedEntry.{NamedEntry}
 use Rattle.std.proofs.{Common.{List, arith, length, refl, true, ℕ, ◌≡◌, ◌≤◌}, lemmas.Bool.le-ltb}
 use Rattle.std.specs.Prelude.{Ok, Option, Result, Some}
-use Rattle.dwarf_bytes.specs.declared.fault.Cause.TheVariants as causes
 
 -- ---- the used attributes
 
@@ -30,10 +29,3 @@ pub cached-again : (header : UnitHeader) (read entry : NamedEntry) (r : Result N
     (cached : Option LongEntry) → cached ≡ Some (long_entry header read) → r ≡ Ok read
     → r ≡ Ok entry → cached ≡ Some (long_entry header entry)
 cached-again header read entry r cached is first second = grind arith
-
--- ---- allocation failures
-
--- Reading an entry that can be read fails only because memory ran out.
-pub again-memory : {X : Type 0} (cause : Cause) (r : Result X Cause) (x : X) → r ≡ Ok x
-    → Fails cause r → cause ≡ causes.Memory
-again-memory cause r x is fails = grind arith

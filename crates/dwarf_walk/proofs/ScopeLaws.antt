@@ -6,7 +6,7 @@ use Rattle.dwarf_walk.specs.{Private.WalkedScopes.walked_scopes, ScopeEntries.is
 use Rattle.dwarf_walk.specs.{Stored.scope_places, declared.descendants.WalkedScope.WalkedScope}
 use Rattle.dwarf_walk.specs.declared.unit_entries.ScopePlace.{ScopePlace}
 use Rattle.std.proofs.Common.{List, [], ap, append-nil, append_assoc, arith, cond, count_by, drop}
-use Rattle.std.proofs.Common.{get_or, length, min, nat_lt, one-add, refl, suc, suc-add, sym, zero}
+use Rattle.std.proofs.Common.{get_or, length, min, nat_lt, one-add, refl, suc, suc-add, zero}
 use Rattle.std.proofs.Common.{zero-add, ℕ, ◌++◌, ◌+◌, ◌<◌, ◌∷◌, ◌≡◌, ◌≤◌}
 use Rattle.std.proofs.lemmas.{Grind.common_steps, List.Elements.{All-append, All-nil, All-tail}}
 use Rattle.std.proofs.lemmas.List.Sums.{sum_by-cons, take_while-cons}
@@ -19,8 +19,7 @@ pub walked-push : (least : ℕ) (dies : List Die) (die : Die)
     ≡ walked_scopes least dies ++ walked_scope (least_after least dies) die
 walked-push least [] die = append-nil (walked_scope least die)
 walked-push least (d ∷ dies) die =
-    let rest = walked-push (least_after_entry least d) dies die in
-    rw rest (sym (append_assoc (walked_scope least d) _ _))
+    rw (walked-push (least_after_entry least d) dies die, append_assoc) refl
 
 pub least-push : (least : ℕ) (dies : List Die) (die : Die)
     → least_after least (dies ++ die ∷ []) ≡ least_after_entry (least_after least dies) die
@@ -37,7 +36,7 @@ deeper depth least dies = prefix_len (is_deeper depth) (walked_scopes least dies
 deeper-none : (depth least : ℕ) (dies : List Die) → least ≤ depth → deeper depth least dies ≡ 0
 deeper-none depth least [] le = refl
 deeper-none depth least (d ∷ dies) le =
-    let rest = deeper-none depth (min least d.depth) dies in grind arith
+    grind (arith, deeper-none depth (min least d.depth) dies)
 
 below-deeper : (die : Die) (least : ℕ) (dies : List Die) → die.depth < least
     → count_by is_scope (below die dies) ≡ deeper die.depth least dies
@@ -66,8 +65,7 @@ places-counted least (die ∷ rest) =
 pub are-bounded : (least : ℕ) (dies : List Die) → AreBounded (walked_scopes least dies)
 are-bounded least [] = All-nil IsBounded
 are-bounded least (die ∷ rest) =
-    All-append IsBounded (walked_scope least die)
-    (walked_scopes (least_after_entry least die) rest) (λ k d lt. grind arith)
+    All-append IsBounded (walked_scope least die) _ (λ k d lt. grind arith)
     (are-bounded (least_after_entry least die) rest)
 
 -- ---- counting from the last scope to the first

@@ -36,5 +36,4 @@ pub entry-added : (w kept : WalkState) (at depth tag : ℕ) (children : Bool) (a
     → depth ≡ kept.depth + from_bool children
     → record kept { depth = depth } ≡ after_node w at (Entry tag children all)
 entry-added w kept at depth tag children all is deep =
-    let stored = root-stored (die_at w at tag all) in
-    grind (arith, stored, is, deep)
+    grind (arith, root-stored (die_at w at tag all), is, deep)

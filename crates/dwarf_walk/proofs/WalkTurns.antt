@@ -1,7 +1,7 @@
 -- The loop of the walk over a unit.
 use Rattle.std.proofs.Common.{◌≡◌, ℕ, ◌<◌, ◌≤◌, ◌⊎◌, List, [], ◌∷◌, ◌++◌, false, length, take, refl}
 use Rattle.std.proofs.Common.{ap, sym, ◌∙◌, arith, length-take, is_some, Result, Ok, Err, nat_le}
-use Rattle.std.proofs.Common.{cond, Some, None, count_by, option_to_list}
+use Rattle.std.proofs.Common.{cond, Some, None, count_by}
 use Rattle.std.proofs.{lemmas.Bool.{lt-leb, le-leb}, lemmas.Grind.common_steps}
 use Rattle.std.proofs.{lemmas.List.map-append, lemmas.List.Elements.filter_map-append}
 use Rattle.std.proofs.{lemmas.List.Folds.list_any-append, lemmas.List.Sums.sum_by-append}
@@ -14,7 +14,7 @@ use Rattle.dwarf_bytes.proofs.Items.Turns.{SoFar, so-far-item, so-far-end, so-fa
 use Rattle.dwarf_bytes.proofs.Numbers.Moves.{same-ok}
 use Rattle.dwarf_forms.specs.Declarations.{Declaration}
 use Rattle.dwarf_units.specs.Entries.{Node, LocatedNode, die_of, node_at_depth, node_at, Die}
-use Rattle.dwarf_units.specs.Entries.{die_in, opens, closes, is_root, depth_after}
+use Rattle.dwarf_units.specs.Entries.{opens, closes, is_root, depth_after}
 use Rattle.dwarf_units.specs.declared.unit_headers.UnitHeader.{UnitHeader}
 use Rattle.dwarf_units.proofs.EntryAdvances.{node_at_depth-moves, node_at-advances}
 use Rattle.dwarf_walk.specs.{EntryBitmap.{AddsOffsets, offsets_of}, Private.Readers.WalkState}
@@ -49,24 +49,20 @@ node-push : (before : List LocatedNode) (at : ℕ) (node : Node) → IsTree befo
     ≡ offsets_of (filter_map die_of all)) × IsTree all)
 node-push before at node tree =
     let x : LocatedNode = standing before at node in
-    let dies : filter_map die_of (before ++ x ∷ [])
-    ≡ filter_map die_of before ++ option_to_list (die_in at (depth_after before) node) =
-    grind (arith, filter_map-append die_of before (x ∷ [])) in
+    let dies = filter_map-append die_of before (x ∷ []) in
     let opened = sum_by-append (λ y. cond (opens y) 1 0) before (x ∷ []) in
     let closed = sum_by-append (λ y. cond (closes y) 1 0) before (x ∷ []) in
-    let known = tree.closed in
-    let outside = tree.outside in
     let root = root_in-push (filter_map die_of before) in
     let scopes = walked-push 0 (filter_map die_of before) in
     let least = least-push 0 (filter_map die_of before) in
     let roots = list_any-append is_root before (x ∷ []) in
     let offsets = map-append (λ (d : Die). d.offset) (filter_map die_of before) in (
-      grind (arith, common_steps, opened, closed, known, dies, root, scopes, least),
+      grind (arith, common_steps, opened, closed, tree.closed, dies, root, scopes, least),
       grind (arith, common_steps, dies, offsets),
       record {
-        closed = grind (arith, opened, closed, known);
-        rooted = grind (arith, common_steps, roots, tree.rooted, outside, dies, root);
-        outside = λ none. grind (arith, common_steps, opened, closed, known, outside, dies, root);
+        closed = grind (arith, opened, closed, tree.closed);
+        rooted = grind (arith, common_steps, roots, tree.rooted, tree.outside, dies, root);
+        outside = λ none. grind (arith, common_steps, opened, closed, tree, dies, root);
       },
     )
 

@@ -3,12 +3,6 @@ use Rattle.dwarf_walk.proofs.entry_reader.EntryReader.cache_unit.Goals as goal
 use Rattle.dwarf_walk.proofs.entry_reader.EntryReader.cache_unit.Goals.{then-has_entry+in_ok-cache_entry}
 use Rattle.dwarf_walk.proofs.entry_reader.EntryReader.cache_unit.Goals.{else-has_entry}
 
-pub loop-offset-init : goal.loop-offset-init
-loop-offset-init c = record {
-  reader = λ s reader. reader;
-  cached = λ s at reader from below marked. absurd (omega (arith, from, below));
-}
-
 pub returns-in_err-cache_entry-clause-reader : goal.returns-in_err-cache_entry-clause-reader
 returns-in_err-cache_entry-clause-reader c s reader =
     c.in_err-cache_entry.ensures.reader s (c.loop-offset.invariant.reader s reader)
@@ -40,8 +34,3 @@ loop-offset-preserved c = record {
         ])
       ];
 }
-
-pub returns-clause-cached : goal.returns-clause-cached
-returns-clause-cached c s at reader from below marked =
-    c.loop-offset.invariant.cached s at reader from (omega (arith, below, c.loop-offset-test.false))
-    marked

@@ -1,5 +1,5 @@
 use Rattle.dwarf_walk.specs.Private.Long.{long_entry}
-use Rattle.std.proofs.Common.{arith, inl}
+use Rattle.std.proofs.Common.{inl}
 use Rattle.dwarf_walk.proofs.RereadLaws.{cached-again}
 use Rattle.dwarf_walk.proofs.entry_reader.EntryReader.names_at.Goals as goal
 
@@ -37,9 +37,3 @@ returns-in_ok-cache_unit-clause-holds c s table reader is from below marked =
     inl (c.in_ok-cache_unit.ensures.cached s c.args.offset (c.in_ok-entry.ensures.reader s reader)
     from
     below marked)
-
-pub returns-in_ok-cache_names-clause-holds : goal.returns-in_ok-cache_names-clause-holds
-returns-in_ok-cache_names-clause-holds c s table reader is from below marked =
-    inl (λ other entry other_is names_at. cached-again c.args.header.now c.in_ok-entry.entry entry
-    _ _ (grind (arith, c.in_ok-cache_names.ensures.cached c.args.offset))
-    (c.in_ok-entry.ensures.names_at s other reader other_is) names_at)
