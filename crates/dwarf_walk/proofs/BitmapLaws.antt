@@ -1,7 +1,7 @@
 -- The bitmap of entry offsets: the bits that a walk sets, and how they are looked up.
 use Rattle.dwarf_walk.specs.{EntryBitmap.AddsOffsets, declared.entry_bitmap.EntryBitmap.EntryBitmap}
 use Rattle.std.proofs.Common.{Bool, List, [], arith, bit_or, get_or, if◌then◌else◌, length, set}
-use Rattle.std.proofs.Common.{zero-mul, ℕ, ◌%◌, ◌*◌, ◌++◌, ◌/◌, ◌<◌, ◌==◌, ◌^◌, ◌||◌, ◌∷◌, ◌≡◌}
+use Rattle.std.proofs.Common.{ℕ, ◌%◌, ◌*◌, ◌++◌, ◌/◌, ◌<◌, ◌==◌, ◌^◌, ◌||◌, ◌∷◌, ◌≡◌}
 use Rattle.std.proofs.{lemmas.Bool.Decides.nat_tests, lemmas.Grind.get_or-set_at}
 use Rattle.std.proofs.{lemmas.List.get_or-set_other, lemmas.List.Folds.list_any-append}
 use Rattle.std.proofs.lemmas.Nat.Bits.{bit_at_set_other, bit_at_set_same}
@@ -29,7 +29,6 @@ adds_bit words k v j is_entry lt is =
       bit_at_set_same w64 word (k % 64) within,
       bit_at_set_other w64 word (k % 64) within (j % 64),
       or_zero_r word,
-      zero-mul (2 ^ (k % 64)),
     )
 
 -- ---- setting bits

@@ -1,4 +1,4 @@
-use Rattle.std.proofs.{Common.{arith, inl, inr, ◌∙◌}, lemmas.Bool.Decides.eqb_tells}
+use Rattle.std.proofs.{Common.{arith, inl, inr}, lemmas.Bool.Decides.eqb_tells}
 use Rattle.dwarf_walk.proofs.entry_reader.EntryReader.cache_unit.Goals as goal
 use Rattle.dwarf_walk.proofs.entry_reader.EntryReader.cache_unit.Goals.{then-has_entry+in_ok-cache_entry}
 use Rattle.dwarf_walk.proofs.entry_reader.EntryReader.cache_unit.Goals.{else-has_entry}
@@ -17,20 +17,18 @@ loop-offset-preserved c = record {
         | else-has_entry w ↦ rw w.self-is before
       ];
   cached = λ s at reader from below marked.
+      let before = c.loop-offset.invariant.cached s at reader from in
       elim c.if-has_entry.branch [
         | then-has_entry+in_ok-cache_entry w ↦ rw w.self-is
             (elim (eqb_tells at c.loop-offset.offset) [
               | inl here ↦ rw here.1 (w.in_ok-cache_entry.ensures.cached s
                   (c.loop-offset.invariant.reader s reader))
-              | inr other ↦ λ table entry is names_at. w.in_ok-cache_entry.ensures.others at other.1
-                  ∙ c.loop-offset.invariant.cached s at reader from (omega (arith, below, other.1))
-                  marked
-                  table entry is names_at
+              | inr other ↦ λ table entry is names_at. grind (
+                arith,
+                before,
+                w.in_ok-cache_entry.ensures.others at other.1,
+              )
             ])
-        | else-has_entry w ↦ rw w.self-is (elim (eqb_tells at c.loop-offset.offset) [
-          | inl here ↦ absurd cc
-          | inr other ↦ c.loop-offset.invariant.cached s at reader from
-              (omega (arith, below, other.1)) marked
-        ])
+        | else-has_entry w ↦ rw w.self-is (λ table entry is names_at. grind (arith, before))
       ];
 }

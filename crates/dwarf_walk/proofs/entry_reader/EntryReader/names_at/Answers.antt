@@ -1,6 +1,5 @@
 use Rattle.dwarf_walk.specs.Private.Long.{long_entry}
-use Rattle.std.proofs.Common.{inl}
-use Rattle.dwarf_walk.proofs.RereadLaws.{cached-again}
+use Rattle.std.proofs.Common.{arith, inl}
 use Rattle.dwarf_walk.proofs.entry_reader.EntryReader.names_at.Goals as goal
 
 pub returns-in-Some-clause-names_at : goal.returns-in-Some-clause-names_at
@@ -28,9 +27,12 @@ returns-in_ok-cache_names-clause-reader c s reader =
 
 pub returns-in-Some-clause-holds : goal.returns-in-Some-clause-holds
 returns-in-Some-clause-holds c s table reader is from below marked =
-    inl (λ other entry other_is names_at. cached-again c.args.header.now c.in-Some.entry entry _ _
-    c.in-Some.ensures.some
-    (reader.long c.args.offset _ c.in-Some.ensures.some other other_is) names_at)
+    inl (λ other entry other_is names_at. grind (
+      arith,
+      c.in-Some.ensures.some,
+      names_at,
+      reader.long c.args.offset _ c.in-Some.ensures.some other other_is,
+    ))
 
 pub returns-in_ok-cache_unit-clause-holds : goal.returns-in_ok-cache_unit-clause-holds
 returns-in_ok-cache_unit-clause-holds c s table reader is from below marked =
