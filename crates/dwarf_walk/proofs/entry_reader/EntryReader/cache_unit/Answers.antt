@@ -1,4 +1,4 @@
-use Rattle.std.proofs.{Common.{arith, inl, inr}, lemmas.Bool.Decides.eqb_tells}
+use Rattle.std.proofs.{Common.{arith}, lemmas.Bool.Decides.eqb_tells}
 use Rattle.dwarf_walk.proofs.entry_reader.EntryReader.cache_unit.Goals as goal
 use Rattle.dwarf_walk.proofs.entry_reader.EntryReader.cache_unit.Goals.{then-has_entry+in_ok-cache_entry}
 use Rattle.dwarf_walk.proofs.entry_reader.EntryReader.cache_unit.Goals.{else-has_entry}
@@ -16,19 +16,14 @@ loop-offset-preserved c = record {
             s before)
         | else-has_entry w ↦ rw w.self-is before
       ];
-  cached = λ s at reader from below marked.
+  cached = λ s at reader from below marked table entry is names_at.
       let before = c.loop-offset.invariant.cached s at reader from in
       elim c.if-has_entry.branch [
-        | then-has_entry+in_ok-cache_entry w ↦ rw w.self-is
-            (elim (eqb_tells at c.loop-offset.offset) [
-              | inl here ↦ rw here.1 (w.in_ok-cache_entry.ensures.cached s
-                  (c.loop-offset.invariant.reader s reader))
-              | inr other ↦ λ table entry is names_at. grind (
-                arith,
-                before,
-                w.in_ok-cache_entry.ensures.others at other.1,
-              )
-            ])
-        | else-has_entry w ↦ rw w.self-is (λ table entry is names_at. grind (arith, before))
+        | then-has_entry+in_ok-cache_entry w ↦
+            let here = w.in_ok-cache_entry.ensures.cached s
+            (c.loop-offset.invariant.reader s reader) table entry is in
+            let others = w.in_ok-cache_entry.ensures.others at in
+            rw w.self-is (grind (arith, eqb_tells at c.loop-offset.offset, before, here, others))
+        | else-has_entry w ↦ rw w.self-is (grind (arith, before))
       ];
 }
