@@ -129,7 +129,6 @@ module _ (info : List ℕ) (header : UnitHeader) (table : List Declaration) (old
       → (in_section sections.DebugInfo (walk_of info header table) ≡ Ok w)
       × ((all : List LocatedNode × ℕ) → nodes_of info header table ≡ Ok all
       → AddsOffsets old marked (offsets_of (filter_map die_of all.0)))
-  unfolding walk_of
   walk-end {place} same past so_far =
       let end : read_after so_far.before place ≡ Ok (End place) =
       rw (le-leb (length unit) place (rw (← same) past)) refl in
@@ -147,7 +146,6 @@ module _ (info : List ℕ) (header : UnitHeader) (table : List Declaration) (old
       → fault ≡ at_item sections.DebugInfo cause at
       → (fault ≡ memory_fault) ⊎ (in_section sections.DebugInfo (walk_of info header table)
       ≡ Err fault)
-  unfolding walk_of
   walk-fault {at} {cause} format_is same within so_far fails is =
       let here = λ (read : _). so-far-fault header.end read_after advances header.first
       so_far.before at cause so_far.read

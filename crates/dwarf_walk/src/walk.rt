@@ -38,6 +38,7 @@ pub(crate) struct Walk {
 /// Parses the entries of a unit and sets the bit of each in `bitmap`. A fault is reported at the
 /// offset of its entry. A list of children that is not terminated is reported at the offset of the
 /// unit. Both are offsets in `.debug_info`.
+#[tactic(auto, unfolding(dwarf_units::specs::Entries::entries_of))]
 pub fn entries(
     alloc: Global,
     info: &[u8],

@@ -131,7 +131,7 @@ nodes_of info header table =
     items_from header.end (node_at header.format table (take header.end info)) [] header.first
 
 -- The state after all nodes of a unit.
-unfoldable pub walk_of : List ℕ → UnitHeader → List Declaration → Result WalkState At
+abbrev pub walk_of : List ℕ → UnitHeader → List Declaration → Result WalkState At
 walk_of info header table = do
   all ← nodes_of info header table
   Ok (state_after all.0)

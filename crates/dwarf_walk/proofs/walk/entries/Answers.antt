@@ -1,26 +1,15 @@
-use Rattle.std.proofs.Common.{arith, rules}
+use Rattle.std.proofs.Common.{arith}
 use Rattle.dwarf_units.specs.Entries.{entries_of}
-use Rattle.dwarf_walk.specs.Private.Readers.{nodes_of, walk_of}
 use Rattle.dwarf_units.proofs.EntryOrder.{list-in}
 use Rattle.dwarf_walk.proofs.{ScopeLaws.places-counted, WalkTurns.walk-bounded}
 use Rattle.dwarf_walk.proofs.walk.entries.Goals as goal
 
-pub returns-in_err-walk-clause-decodes : goal.returns-in_err-walk-clause-decodes
-unfolding walk_of entries_of
-returns-in_err-walk-clause-decodes c = search rules
-
-pub returns-then-walk-gt0-clause-decodes : goal.returns-then-walk-gt0-clause-decodes
-unfolding walk_of entries_of
-returns-then-walk-gt0-clause-decodes c = search rules
-
 pub count_descendants-requires : goal.count_descendants-requires
-unfolding walk_of
 count_descendants-requires c =
-    rw c.deref.ensures.value (walk-bounded (nodes_of c.args.info.now c.args.header
-    c.args.table.now.declarations) _ c.in_ok-walk.ensures.decodes)
+    rw c.deref.ensures.value (walk-bounded _ _ c.in_ok-walk.ensures.decodes)
 
 pub returns-clause-decodes : goal.returns-clause-decodes
-unfolding walk_of entries_of
+unfolding entries_of
 returns-clause-decodes c = grind (arith, places-counted)
 
 pub returns-clause-bitmap : goal.returns-clause-bitmap
