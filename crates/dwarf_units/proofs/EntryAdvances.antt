@@ -2,8 +2,8 @@
 use Rattle.dwarf_units.proofs.Common
 use Common.{Advances, Attribute, AttributeSpecification, Bool, Declaration, Format, List, MovesOn}
 use Common.{Node, Ok, Option, Result, Value, ValueFault, [], accepts, after-bind, ap, arith}
-use Common.{attribute_at, attributes_at, depth_after, form_of, is_negative_count, is_root, length}
-use Common.{length-append, list_any, node_at, reading_value, value_at, ℕ, ℤ, ◌∷◌, ◌≡◌, ◌≤◌}
+use Common.{attribute_at, attributes_at, form_of, is_negative_count, length, length-append, node_at}
+use Common.{reading_value, value_at, ℕ, ℤ, ◌∷◌, ◌≡◌, ◌≤◌}
 use Rattle.dwarf_bytes.proofs.Numbers.{Advance.after-test, Moves.uleb-moves}
 use Rattle.dwarf_forms.proofs.ValueEncodings.{value-decoded}
 use Rattle.dwarf_units.specs.Entries.{form_at, node_at_depth}
@@ -21,8 +21,7 @@ unfolding value_at
 value-stays form format constant bytes at x le h =
     let s = (value-decoded form format (form_of form) constant bytes at x.0 x.1).0 h in
     let size = length-drop at bytes in
-    let parts = length-append s.front s.rest in
-    (omega (arith, s.next_is), omega (arith, s.next_is, ap length s.parts))
+    grind (arith, s, size, ap length s.parts, length-append s.front s.rest)
 
 reading_value-ok : {A : Type 0} (r : Result A ValueFault) (x : A) → reading_value r ≡ Ok x
     → r ≡ Ok x
@@ -52,8 +51,7 @@ attributes-stay format (s ∷ ss) bytes at x le h =
     after-bind (attribute_at format s bytes at) _ x h (StaysWithin bytes at x.1)
     (λ first first_is h1.
     let here = attribute-stays format s bytes at first le first_is in
-    let rest = attributes-stay format ss bytes first.1 in
-    grind (arith, here, rest, h1))
+    grind (arith, here, attributes-stay format ss bytes first.1, h1))
 
 pub node_at_depth-moves : (format : Format) (table : List Declaration) (depth : ℕ) (rooted : Bool)
     (unit : List ℕ) (at : ℕ) (x : Node × ℕ) → node_at_depth format table depth rooted unit at ≡ Ok x
@@ -64,5 +62,4 @@ node_at_depth-moves format table depth rooted unit at x h =
 pub node_at-advances : (format : Format) (table : List Declaration) (unit : List ℕ)
     → Advances (length unit) (node_at format table unit)
 node_at-advances format table unit before at x after h =
-    let rooted = list_any is_root before in
-    grind (arith, node_at_depth-moves format table (depth_after before) rooted unit at)
+    grind (arith, node_at_depth-moves format table)

@@ -47,9 +47,8 @@ list-rises format table unit end size before at [] after h from le within =
     omega (arith, le, within)
 list-rises format table unit end size before at (x ∷ all) after h from le within =
     let moved = node_at-advances format table unit before at x h.0 h.1 in
-    let here : x.offset ≡ at = grind (arith, h.1) in
     let rest = list-rises format table unit end size (before ++ x ∷ []) h.0 all after h.2 in
-    grind (arith, here, moved, rest)
+    grind (arith, h.1, moved, rest)
 
 -- The offsets of the entries of a unit are increasing, from the start of the unit up to its end.
 pub entries-rise : (info : List ℕ) (header : UnitHeader) (table : List Declaration)

@@ -182,11 +182,9 @@ module _ (format : Format) (s : AttributeSpecification) (bytes : List ℕ) where
   fixed-at first n m h le = by-form (layout_len format) (constant_len s) m
       (accepts s.name s.form) (form_of s.form) h
       (λ layout fine is len.
-      let content = content_at layout format bytes (first + n) in
       let fixed = content-fixed layout format m bytes (first + n) len le in
-      let valid = fixed-fine s.name m bytes (first + n) content fixed in
-      in-layout layout (first + n) fine is valid
-      ∙ rw (is, used_value) (in-block first n m layout content refl le fixed))
+      in-layout layout (first + n) fine is (fixed-fine s.name m bytes (first + n) _ fixed)
+      ∙ rw (is, used_value) (in-block first n m layout _ refl le fixed))
       (λ fine is len. attribute-direct ImplicitConst (first + n) fine is (λ e. cc)
       ∙ rw (is, value_at, used_value)
       (constant-read s (is_negative_count s.name) s.constant bytes (first + n) m len le))

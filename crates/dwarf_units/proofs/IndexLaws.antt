@@ -48,8 +48,8 @@ cached-truncated {section = section} {tables = tables} {permanent = permanent} f
           grind (
             arith,
             common_steps,
+            same-key,
             puts (table_key table.format table.offset),
-            same-key table.format format table.offset offset,
             elsewhere i table here,
             all.found i table here,
           );
@@ -97,24 +97,18 @@ added {section = section} {tables = tables} {after = after} {permanent = permane
             grind (arith, is, at-last before table t i (rw is at at), here, len, short.found i t);
         counted = grind (
           arith,
-          is,
-          placed,
-          size_is,
           all.counted,
           sum,
           rw len at (take-append_seam before (table ∷ [])),
           take-length (before ++ table ∷ []),
         );
-        within = grind (arith, is, placed, more, len);
-        one = grind (arith, is, placed, more, len);
+        within = grind (arith, more);
+        one = grind (arith, more);
         past = λ t at. grind (
           arith,
-          is,
-          placed,
-          size_is,
-          slice_get_within after now t at,
-          at-end before table permanent (sym len),
           at,
+          slice_get_within after now t,
+          at-end before table permanent (sym len),
         );
       },
       rw is (grind (arith, common_steps, is, placed, size_is, all.counted, sum)),

@@ -11,7 +11,7 @@ use Common.{used_name, used_position, used_value, ℕ, ◌++◌, ◌+◌, ◌>>=
 use Rattle.dwarf_units.proofs.{EntryAdvances.attributes-stay, FixedValues.{IsInLayout, after_bytes}}
 use Rattle.dwarf_units.proofs.FixedValues.{fixed-at, unchecked-read, with_number}
 use Rattle.dwarf_units.proofs.{SlotLaws.{among-append, used-none, used-some}, StoredReads.one-read}
-use Rattle.dwarf_units.proofs.StoredReads.{stored-append}
+use Rattle.dwarf_units.proofs.StoredReads.{stored-append, used_both}
 use Rattle.dwarf_units.specs.Private.FixedSizes.{number_or_zero}
 use Rattle.std.proofs.lemmas.List.{map-append}
 
@@ -137,8 +137,7 @@ module _ (keep : Bool) (format : Format) (bytes : List ℕ) where
   one-more : (done : List AttributeSpecification) (n : ℕ) (used : List UsedPosition)
       (s : AttributeSpecification) (at : ℕ) → stretch n used at ≡ stored done at
       → then_one n used s at ≡ stored (done ++ s ∷ []) at
-  one-more done n used s at is =
-      rw (is, stored-append keep format done (s ∷ []) bytes at) refl
+  one-more done n used s at is = rw (is, stored-append) refl
 
   -- `done` are the attributes of the stretch so far.
   have-runs : (done : List AttributeSpecification) (n : ℕ) (used : List UsedPosition)
@@ -187,13 +186,16 @@ module _ (keep : Bool) (format : Format) (bytes : List ℕ) where
 
 -- The runs of the unshared attributes and then the shared attributes give all of a declaration.
 pub own-rest : (keep : Bool) (format : Format) (own rest : List AttributeSpecification)
-    (bytes : List ℕ) (at : ℕ) → at ≤ length bytes → used_after (used_among [])
+    (bytes : List ℕ) (at : ℕ) → at ≤ length bytes
+    → used_attributes_at keep format (own ++ rest) bytes at ≡ used_after (used_among [])
     (then_read (all_at keep format (runs_of format own) bytes at)
     (λ place. stored_attributes_at keep format rest bytes place))
-    ≡ used_attributes_at keep format (own ++ rest) bytes at
 own-rest keep format own rest bytes at le =
     rw (runs-read keep format bytes own at le, ← stored-append keep format own rest bytes at)
     (grind (arith, among-append []))
+
+-- What the read of all attributes needs.
+pub ruleset all_reads = (own-rest, used_both)
 
 -- What the read of unshared attributes needs.
 pub ruleset own_reads = (runs-read, append-nil)

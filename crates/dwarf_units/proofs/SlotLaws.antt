@@ -94,7 +94,7 @@ with_twice u xs ys = same-used _ _ (λ name. grind (
   with-named (with_used u xs) ys name,
   with-named u xs name,
   with-named u (xs ++ ys) name,
-  value-append xs ys (name_of name),
+  value-append,
 ))
 
 -- ---- adding one used attribute in its slot
@@ -106,13 +106,8 @@ put-slot : (has : List Bool) (values : List AttributeValue) (value : AttributeVa
     → in_slot (set has slot true) (set values slot value) other
     ≡ option_or (in_slot has values other)
     (value_of (record { name = own; value = value } ∷ []) number)
-put-slot has values value slot other own number within place free same = grind (
-  arith,
-  get_or-set_same has slot true false within,
-  get_or-set_same values slot value (record { form = 0; number = 0 }) place,
-  get_or-set_other has slot other true false,
-  get_or-set_other values slot other value (record { form = 0; number = 0 }),
-)
+put-slot has values value slot other own number within place free same =
+    grind (arith, get_or-set_same has, get_or-set_same values, get_or-set_other)
 
 taken-slot : (has : List Bool) (values : List AttributeValue) (value : AttributeValue)
     (slot other own number : ℕ) → get_or has slot false ≡ true → (slot == other) ≡ (own == number)

@@ -86,13 +86,8 @@ pub parsed_at : (section : List ℕ) (budget : ℕ) (table : Table) (offset : �
     → table.section ≡ section → table.offset ≡ offset
     → in_section sections.DebugAbbrev (declarations_of budget section offset)
     ≡ Ok table.declarations → budget ≤ declarations_limit → IsParsedFrom section table
-parsed_at section budget table offset in_same same read few = grind (
-  arith,
-  in_same,
-  same,
-  read,
-  table-whole budget section offset table.declarations few,
-)
+parsed_at section budget table offset in_same same read few =
+    grind (arith, table-whole budget section offset table.declarations few)
 
 -- A property of every element is a property of the element at an index.
 pub all-at : {X : Type 0} (P : X → Type 0) (xs : List X) (i : ℕ) (x : X) → All P xs
@@ -113,27 +108,16 @@ pub parsed-too-long : {X : Type 0} (section : List ℕ) (table : Table) (offset 
     (read : List Declaration) → IsParsedFrom section table → table.offset ≡ offset
     → in_section sections.DebugAbbrev (declarations_of left section offset) ≡ Ok read
     → left ≤ declarations_limit → left < length table.declarations → X
-parsed-too-long section table offset left read parsed same is_read few past = grind (
-  arith,
-  table-whole left section offset read few,
-  is_read,
-  same,
-  parsed.1,
-  past,
-)
+parsed-too-long section table offset left read parsed same is_read few past =
+    grind (arith, table-whole left section offset read few, parsed.1)
 
 -- ---- declarations that share attributes
 
 -- The unshared attributes of a declaration are the first ones of all.
 own-first : (section : List ℕ) (list : SharedAttributes) → IsShared section list
     → take UNSHARED (all_of section list) ≡ list.own
-own-first section list is = grind (
-  arith,
-  is.full,
-  append-nil list.own,
-  take_all UNSHARED list.own is.few,
-  take-append_seam list.own,
-)
+own-first section list is =
+    grind (arith, append-nil list.own, take_all UNSHARED list.own, take-append_seam list.own)
 
 pub own_sum : (section : List ℕ) (ds : List SharedDeclaration) → AreShared section ds
     → sum_by (λ d. length (own_attributes d)) (full_declarations section ds)

@@ -19,3 +19,6 @@ unit_at-moves info at header h =
 
 pub header_at-advances : (info : List ℕ) → Advances (length info) (header_at info)
 header_at-advances info before at x after h = grind (arith, unit_at-moves info at)
+
+-- What the end of a loop over units needs.
+pub ruleset unit_moves = (unit_at-moves)

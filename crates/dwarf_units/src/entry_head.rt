@@ -173,6 +173,7 @@ impl<'a> EntryHead<'a> {
     /// `found` by the used attributes if `keep` is set, and otherwise by none.
     // Inlined: called for each entry.
     #[inline(always)]
+    #[tactic(auto, using(crate::proofs::RunReads::all_reads))]
     pub fn read_attributes(
         &self,
         keep: bool,

@@ -68,6 +68,7 @@ pub fn units(alloc: Global, info: &[u8]) -> Result<Vec<UnitHeader>, LoadFault>
 }
 
 /// Parses the headers of all units, type units included.
+#[tactic(auto, using(crate::proofs::UnitLaws::unit_moves))]
 fn headers(alloc: Global, info: &[u8]) -> Result<Vec<UnitHeader>, LoadFault>
     ensures { Decodes (λ headers. headers.items) result (in_section sections.DebugInfo
         (headers_of info.now)) }

@@ -6,4 +6,4 @@ returns-in-Some c =
     let stored = one-stored c.args.keep c.args.format c.args.specification.now
     c.args.cursor.now.bytes c.args.cursor.now.place c.args.found.now c.in-Some.name
     (c.in_ok-attribute.attribute, c.read_attribute.new.cursor.place) c.if-not-keep.false in
-    grind (arith, stored, c.of.ensures, c.in-Some.is, c.add.ensures, c.in_ok-attribute.ensures)
+    grind (arith, stored)

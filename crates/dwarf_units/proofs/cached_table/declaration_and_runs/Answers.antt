@@ -15,36 +15,25 @@ found-full section code ds = find-map (full_declaration section) (λ d. d.code =
 
 pub returns-in_err-place-clause-none : goal.returns-in_err-place-clause-none
 returns-in_err-place-clause-none c = λ section format are.
-    let none = find-place (λ (d : SharedDeclaration). d.code == c.args.code) c.args.table.now None
-    (sym c.in_err-place.ensures) in
-    rw (c.from_residual.ensures, found-full section c.args.code c.args.table.now, none) refl
+    let table = c.args.table.now in
+    let none = find-place (λ (d : SharedDeclaration). d.code == c.args.code) table None in
+    grind (arith, none, found-full section c.args.code table)
 
 pub returns-clause-some : goal.returns-clause-some
 returns-clause-some c = λ section format shared are.
     let table = c.args.table.now in
     let place = c.in_ok-place.place in
     let declaration = c.in_ok-declaration.declaration.now in
-    let here : slice_get table place ≡ Some declaration = grind (
-      arith,
-      c.declarations.ensures,
-      got c.declarations.result.now place c.get.result,
-      c.get.ensures.lookup,
-      c.in_ok-declaration.was,
-    ) in
-    let found : find (λ d. d.code == c.args.code) table ≡ Some declaration =
-    find-place (λ (d : SharedDeclaration). d.code == c.args.code) table (Some place)
+    let there = got c.declarations.result.now place c.get.result in
+    let here : slice_get table place ≡ Some declaration =
+    grind (arith, there, c.declarations.ensures, c.in_ok-declaration.was) in
+    let found = find-place (λ (d : SharedDeclaration). d.code == c.args.code) table (Some place)
     (sym c.in_ok-place.ensures) ∙ here in
+    let runs = got c.args.runs.now place c.get-2.result in
+    let each = slice_get-map (λ (d : SharedDeclaration). runs_of format d.list.own) table place in
     record {
       declared = rw (found-full section c.args.code table, found) refl;
       shared = all-at (λ (d : SharedDeclaration). IsShared section d.list) table place declaration
           shared here;
-      runs = grind (
-        arith,
-        here,
-        got c.args.runs.now place c.get-2.result,
-        c.get-2.ensures.lookup,
-        c.in_ok-runs.was,
-        are,
-        slice_get-map (λ (d : SharedDeclaration). runs_of format d.list.own) table place,
-      );
+      runs = grind (arith, here, runs, each, are, c.in_ok-runs.was);
     }

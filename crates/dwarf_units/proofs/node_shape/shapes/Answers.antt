@@ -7,8 +7,7 @@ use Rattle.dwarf_units.proofs.node_shape.shapes.Goals as goal
 pub loop-code-preserved : goal.loop-code-preserved
 loop-code-preserved c section format shared are =
     let table = full_declarations section c.args.table.now in
-    rw c.in_ok-push.ensures.items
-    (shapes-more format table c.loop-code.code c.loop-code.shapes.items c.shape_of_code.result
+    rw c.in_ok-push.ensures.items (shapes-more format table c.loop-code.code _ _
     (c.loop-code.invariant section format shared are)
     (c.shape_of_code.ensures section format shared are))
 

@@ -7,19 +7,7 @@ returns-in_err-position c =
     let value = value-at inside.format inside.first.bytes inside.first.place c.args.name
     inside.used.now in
     let each = c.self.invariant.each c.slot.result c.slot.ensures.bound in
-    let here = got inside.used.now c.from.result c.get.result c.get.ensures.lookup.0
-    c.get.ensures.lookup.1 in
-    grind (
-      arith,
-      value,
-      each,
-      here,
-      c.self.view_is,
-      c.in_err-position.was,
-      c.slot.ensures.slot,
-      c.from.ensures,
-      c.from_residual.ensures,
-    )
+    grind (arith, value, each, got inside.used.now c.from.result c.get.result)
 
 pub returns : goal.returns
 returns c =
@@ -27,16 +15,4 @@ returns c =
     let value = value-at inside.format inside.first.bytes inside.first.place c.args.name
     inside.used.now in
     let each = c.self.invariant.each c.slot.result c.slot.ensures.bound in
-    let here = got inside.used.now c.from.result c.get.result c.get.ensures.lookup.0
-    c.get.ensures.lookup.1 in
-    grind (
-      arith,
-      value,
-      each,
-      here,
-      c.self.view_is,
-      c.in_ok-position.was,
-      c.slot.ensures.slot,
-      c.from.ensures,
-      c.read.ensures,
-    )
+    grind (arith, value, each, got inside.used.now c.from.result c.get.result)

@@ -31,11 +31,8 @@ loop-link-preserved c =
       bytes = same;
       stored = grind (
         arith,
-        (next-link c).stored c.args.keep c.args.format c.args.cursor.now.bytes
-            c.read_one.new.cursor.place within,
         first_read c.args.keep c.args.format c.in-Some.attribute,
-        c.in-Some.is,
         loop.invariant,
-        c.in_ok-read_one.ensures,
+        (next-link c).stored c.args.keep c.args.format c.args.cursor.now.bytes,
       );
     }

@@ -19,9 +19,7 @@ returns-in_err-validate_unit-clause-err c =
     (get_or units loop.unit-index d) (drop (loop.unit-index + 1) units) in
     let budget : loop.left ≡ declarations_limit - sum_by length so_far.made =
     omega (arith, so_far.counted) in
-    let same = loop.invariant.section in
-    let refused = c.in_err-validate_unit.ensures.err in
-    rw (p.1, p.2) (grind (arith, left, faults, budget, so_far.read, same, refused))
+    rw (p.1, p.2) (grind (arith, left, faults, budget, c.in_err-validate_unit.ensures.err))
 
 pub loop-unit-preserved : goal.loop-unit-preserved
 loop-unit-preserved c =
@@ -41,10 +39,9 @@ loop-unit-preserved c =
 pub returns-clause-ok : goal.returns-clause-ok
 unfolding tables_of
 returns-clause-ok c =
-    let so_far = c.loop-unit.invariant.checked in
-    let none = drop_all c.loop-unit.unit-index c.args.units.now c.loop-unit-test.false in
-    let all = each-end (table_for c.args.section.now) so_far.made in
-    (so_far.made, grind (arith, so_far.read, none, all))
+    let none = drop_all c.loop-unit.unit-index c.args.units.now in
+    let all = each-end (table_for c.args.section.now) in
+    (c.loop-unit.invariant.checked.made, grind (arith, none, all))
 
 pub returns-clause-stays : goal.returns-clause-stays
 returns-clause-stays c =
