@@ -16,11 +16,9 @@ is_code code other = other == code
 -- no element is a code that the list lacks
 lacks : (xs : List ℕ) (code : ℕ) → list_any (is_code code) xs ≡ false
     → (i d : ℕ) → slice_get xs i ≡ Some d → d ≢ code
-lacks xs code none i d at is = grind (
-  arith,
-  get_or_from_slice_get xs i d d at,
-  list_any_at (is_code code) xs i d (slice_get_within xs i d at),
-)
+lacks xs code none i d at is =
+    let any = list_any_at (is_code code) xs i d (slice_get_within xs i d at) in
+    grind (arith, any, get_or_from_slice_get xs i d d at)
 
 -- ---- the position of a code
 
