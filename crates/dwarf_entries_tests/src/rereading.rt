@@ -61,8 +61,8 @@ fn is_entry(rt: &impl Abort, table: &UnitTable<'_>, info: &[u8], values: &[Value
     are_equal(rt, null, Err(Cause::AbbrevCode));
 }
 
-/// Reads the values of the entry at offset 13 by their positions. Checks that it is not found if its
-/// last byte is missing, and that the null entry after it is not found.
+/// Reads the values of the entry at offset 13 by their positions. Checks that it is not found if
+/// its last byte is missing, and that the null entry after it is not found.
 fn is_fixed(rt: &impl Abort, table: &UnitTable<'_>, info: &[u8], values: &[Value], end: usize) {
     let Some(entry) = table.fixed_size_entry(info, 13) else {
         panic!(rt; "no entry of a fixed size");

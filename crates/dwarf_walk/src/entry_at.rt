@@ -12,8 +12,8 @@ use dwarf_bytes::{Cause, Cursor};
 use dwarf_units::{FixedSizeEntry, UnitHeader};
 
 impl<'a> EntryReader<'a> {
-    /// Returns the entry at an offset in the unit of `header`, if all of its attributes have a fixed
-    /// size and the table of the unit is the one that was used last.
+    /// Returns the entry at an offset in the unit of `header`, if all of its attributes have a
+    /// fixed size and the table of the unit is the one that was used last.
     // Inlined: called for each scope and each reference.
     #[inline(always)]
     pub(crate) fn fixed_size_entry(
