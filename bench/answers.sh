@@ -50,9 +50,13 @@ for line in sys.stdin.buffer:
 print(*lengths, sep="\n")'
 }
 
-# Prints one line: the question, and the result of the turn with the median rate.
+# Prints one line: the question, the turn with the median rate, and the range of the rates.
 print_median() {
-    printf '  %-44s %s\n' "$1" "$(sort -n "$2" | sed -n "$((($(wc -l < "$2") + 1) / 2))p")"
+    local what=$1 results count
+    mapfile -t results <<< "$(sort -n "$2")"
+    count=${#results[@]}
+    printf '  %-44s %s, %d turns from %s to %s\n' "$what" "${results[(count - 1) / 2]}" "$count" \
+        "${results[0]%% *}" "${results[count - 1]%% *}"
 }
 
 # Adds a question for the fast programs.
