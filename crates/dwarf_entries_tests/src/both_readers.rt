@@ -191,8 +191,10 @@ fn changed_bytes(rt: HostRuntime) {
 /// The same for `.debug_abbrev` and `.debug_info` of the sample in the 64-bit format.
 #[test]
 fn changed_bytes_of_a_sample(rt: HostRuntime) {
+    let abbreviations_start = 120;
+    let units_end = 275;
     let whole = format_of_64_bits();
-    for place in 120..275 {
+    for place in abbreviations_start..units_end {
         for new in changes_of(whole[place]) {
             let mut bytes = format_of_64_bits();
             bytes[place] = new;
