@@ -22,9 +22,9 @@ pub use Rattle.dwarf_units.specs.Private.AbbreviationTables.{Table, table_size}
 pub use Rattle.dwarf_units.specs.Private.FixedSizes.{attribute_in, attributes_in, end_of}
 pub use Rattle.dwarf_units.specs.Private.FixedSizes.{layout_len, number_in, used_position}
 pub use Rattle.dwarf_units.specs.Private.{Links.IsLink, Names.{named_attribute, slot_of, used_name}}
-pub use Rattle.dwarf_units.specs.Private.{NodeShapes.{AreShapes, shape_at}, Runs.{Run, Stretch}}
+pub use Rattle.dwarf_units.specs.Private.{NodeLayouts.shape_at, Runs.{Run, Stretch}}
 pub use Rattle.dwarf_units.specs.Private.Runs.{all_at, own_runs, run_at, run_before, runs_at}
-pub use Rattle.dwarf_units.specs.Private.{Runs.{runs_of, stretch_at, then_read}, Slots.index_in}
+pub use Rattle.dwarf_units.specs.Private.Runs.{runs_of, stretch_at, then_read}
 pub use Rattle.dwarf_units.specs.Private.StoredAttributes.{stored_attributes, stored_attributes_at}
 pub use Rattle.dwarf_units.specs.Private.Tables.{AreCached, CachedTables, IsCachedOrTooLarge}
 pub use Rattle.dwarf_units.specs.Private.{Tables.{IsParsedFrom, with_table}, Used.used_after}

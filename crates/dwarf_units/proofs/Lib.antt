@@ -8,10 +8,11 @@ pub mod EntryOrder
 pub mod FixedValues
 pub mod RunReads
 pub mod StoredReads
-pub mod NodeShapes
+pub mod NodeLayouts
 pub mod LinkLaws
 pub mod IndexLaws
 pub mod SlotLaws
+pub mod LayoutLaws
 unfoldable pub use Common.*
 pub use UnitLaws.*
 pub use TableLaws.*
@@ -20,7 +21,8 @@ pub use EntryOrder.*
 pub use FixedValues.*
 pub use RunReads.*
 pub use StoredReads.*
-pub use NodeShapes.*
+pub use NodeLayouts.*
 pub use LinkLaws.*
 pub use IndexLaws.*
 pub use SlotLaws.*
+pub use LayoutLaws.*

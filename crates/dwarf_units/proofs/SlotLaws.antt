@@ -2,12 +2,16 @@
 use Rattle.dwarf_units.proofs.Common
 use Common.{Attribute, AttributeValue, Bool, Format, List, None, Option, Some, Used, UsedName}
 use Common.{UsedPosition, [], arith, attribute_in, attributes_in, false, filter, find, get_or}
-use Common.{index_in, is_used, length, map, name_of, named_attribute, option_map, refl, slice_get}
-use Common.{slot_of, sym, true, used_among, used_name, value_named, value_of, with_used, ℕ, ◌++◌}
-use Common.{◌<◌, ◌==◌, ◌∙◌, ◌∷◌, ◌≡◌}
+use Common.{ValueLayout, content_at, is_used, length, map, name_of, named_attribute, number_in}
+use Common.{option_map, refl, slot_of, sym, true, used_among, used_name, value_named, value_of}
+use Common.{with_used, ℕ, ◌++◌, ◌<◌, ◌==◌, ◌∙◌, ◌∷◌, ◌≡◌}
+use Rattle.dwarf_bytes.specs.declared.form.Width.{Width}
+use Rattle.dwarf_units.specs.declared.value_slot.ValueSlot.{TheVariants.{At, Missing}, ValueSlot}
+use Rattle.dwarf_units.specs.Private.Slots.{AreSlots, slot_value, used_in, value_in, width_in}
+use Rattle.dwarf_units.specs.declared.used_position.UsedValue.TheVariants as positions
 use Rattle.dwarf_units.specs.{Attributes.used_attributes, Private.{Names.used_names, Slots.in_slot}}
 use Rattle.dwarf_units.specs.{Private.Slots.in_slots, Used.used_by}
-use Rattle.std.proofs.{Math.ListN.set, lemmas.{Bool.eqb-true, List.Folds.find_at}}
+use Rattle.std.proofs.{Math.ListN.set, lemmas.Bool.eqb-true}
 use Rattle.std.proofs.lemmas.List.{get_or-set_other, get_or-set_same}
 use Rattle.std.specs.{List.list_all, Option.option_or, Prelude.is_some}
 
@@ -144,23 +148,37 @@ stored_is has values name value slot at taken = same-used _ _ (λ x. rw
 
 -- ---- the attributes of an entry at their positions
 
--- The value of the attribute at a position.
-abbrev value_in : Format → List ℕ → ℕ → UsedPosition → AttributeValue
-value_in format bytes first p = (attribute_in format bytes first p).value
-
 pub find-map : {X Y : Type 0} (f : X → Y) (p : X → Bool) (q : Y → Bool)
     → ((x : X) → q (f x) ≡ p x) → (xs : List X) → find q (map f xs) ≡ option_map f (find p xs)
 find-map f p q same [] = refl
 find-map f p q same (x ∷ xs) = let rest = find-map f p q same xs in grind (arith, same x)
 
 -- The value of a name is the one at the first position in its slot.
-pub value-at : (format : Format) (bytes : List ℕ) (first : ℕ) (n : UsedName)
-    (used : List UsedPosition) → value_named n (used_among (attributes_in format bytes first used))
-    ≡ option_map (value_in format bytes first) (slice_get used (index_in (slot_of n) used))
+value-at : (format : Format) (bytes : List ℕ) (first : ℕ) (n : UsedName) (used : List UsedPosition)
+    → value_named n (used_among (attributes_in format bytes first used))
+    ≡ option_map (value_in format bytes first) (find (λ p. slot_of p.name == slot_of n) used)
 value-at format bytes first n used = among-named n (attributes_in format bytes first used)
-    ∙ (rw (
-      find-map (attribute_in format bytes first) (λ p. slot_of p.name == slot_of n)
-          (λ a. a.name == name_of n) (λ p. sym (same-slot p.name n)) used,
-      find_at _ used,
-    )
+    ∙ (rw (find-map (attribute_in format bytes first) (λ p. slot_of p.name == slot_of n)
+    (λ a. a.name == name_of n) (λ p. sym (same-slot p.name n)) used)
     (grind arith))
+
+slot-small : (n : UsedName) → slot_of n < 13
+slot-small n = grind arith
+
+-- The slots of the positions have the used attributes at these positions.
+pub slots-used : (format : Format) (used : List UsedPosition) (slots : List ValueSlot)
+    (bytes : List ℕ) (first : ℕ) → AreSlots format used slots
+    → used_in slots bytes first ≡ used_among (attributes_in format bytes first used)
+slots-used format used slots bytes first are = same-used _ _
+    (λ n. by-named (λ name. slot_value bytes first (get_or slots (slot_of name) Missing)) n
+    ∙ are.each (slot_of n) (slot-small n) bytes first ∙ sym (value-at format bytes first n used))
+
+-- ---- the value in a slot
+
+-- A value in a layout of a fixed width is the number of this width.
+pub width-value : (format : Format) (layout : ValueLayout) (width : Width) (form n : ℕ)
+    (bytes : List ℕ) (first : ℕ) → width_in format layout ≡ Some width
+    → slot_value bytes first (At form width n)
+    ≡ Some (record { form = form; number = number_in format bytes first (positions.At n layout) })
+unfolding content_at
+width-value format layout width form n bytes first is = grind (arith, is)

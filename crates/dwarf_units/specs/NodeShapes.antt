@@ -1,6 +1,6 @@
 -- What the nodes with a code have in common, if their size is fixed.
 use Rattle.std.specs.Prelude.{◌≡◌, true, false}
-use Rattle.dwarf_units.specs.{declared.node_shape.NodeShape.NodeShape, Entries.{Node, Entry, Null}}
+use Rattle.dwarf_units.specs.{declared.node_layout.NodeShape.NodeShape, Entries.{Node, Entry, Null}}
 
 -- The shape of a null entry.
 abbrev pub null_shape : NodeShape

@@ -6,10 +6,8 @@ ghost use Rattle.dwarf_units.specs.Private.Runs.{all_at, fixed_size, own_runs, r
 ghost use Rattle.dwarf_units.specs.{Private.StoredAttributes.Fills, Private.Used.used_after};
 
 use crate::attribute_run::{AttributeRun, Stretch, push_position};
-use crate::fixed_size_values::{FixedSizeValues, indices_of};
 use crate::fixed_sizes::end_of;
 use crate::used_attributes::UsedAttributes;
-use crate::used_name::SLOTS;
 use crate::used_position::UsedPosition;
 use abbreviation_memo::AbbreviationTable;
 use dwarf_bytes::{Cause, Cursor, Format};
@@ -23,19 +21,14 @@ pub(crate) struct AttributeRuns {
     runs: Vec<AttributeRun>,
     /// The attributes after the runs.
     rest: Stretch,
-    /// The index of the position of each used attribute in `rest`, by slot.
-    indices: Option<[u8; SLOTS]>,
 }
 
 impl Model for AttributeRuns {
-    ghost use Rattle.std.specs.Prelude.{IfSome};
-    ghost use Rattle.dwarf_units.specs.{Private.Runs.Runs, Private.Slots.AreIndices};
+    ghost use Rattle.dwarf_units.specs.{Private.Runs.Runs};
 
     ghost Value = { Runs };
 
     ghost view = { λ r. record { runs = r.runs.items; rest = r.rest } };
-
-    ghost invariant = { λ r. IfSome r.indices (AreIndices r.rest.used) };
 }
 
 impl AttributeRuns {
@@ -61,13 +54,8 @@ impl AttributeRuns {
             len = 0;
             used = Vec::new(alloc);
         }
-        let indices = indices_of(&used);
         let rest = Stretch { len, used };
-        Ok(AttributeRuns {
-            runs,
-            rest,
-            indices,
-        })
+        Ok(AttributeRuns { runs, rest })
     }
 
     /// Returns the size of all attributes in bytes, if it is fixed.
@@ -77,33 +65,11 @@ impl AttributeRuns {
         self.runs.is_empty().then_some(self.rest.len)
     }
 
-    /// Returns the used attributes of an entry whose attributes start at the cursor, and skips all
-    /// of its attributes. Returns `None` if their size is not fixed, or if bytes are missing.
-    // Inlined: called for each scope and each reference.
-    #[inline(always)]
-    pub(crate) fn fixed_size_values<'b>(
-        &'b self,
-        format: Format,
-        cursor: &mut Cursor<'b>,
-    ) -> Option<FixedSizeValues<'b>>
-        ensures { IfSome result (λ values. (all_at true format self.now cursor.old.bytes
-            cursor.old.place ≡ Ok (
-              attributes_in format cursor.old.bytes cursor.old.place
-                  self.now.rest.used,
-              cursor.new.place,
-            ))
-            × (values ≡ used_among (attributes_in format cursor.old.bytes cursor.old.place
-            self.now.rest.used)) × (cursor.new.bytes ≡ cursor.old.bytes)) }
+    /// Returns the positions of the used attributes after the runs.
+    pub(crate) fn last_positions(&self) -> &[UsedPosition]
+        ensures { result.now ≡ self.now.rest.used }
     {
-        if !self.runs.is_empty() {
-            return None;
-        }
-        let indices = self.indices.as_ref()?;
-        let values = FixedSizeValues::new(format, cursor.fork(), &self.rest.used, indices);
-        if cursor.block(u64::from(self.rest.len)).is_err() {
-            return None;
-        }
-        Some(values)
+        self.rest.used.as_slice()
     }
 
     /// Reads the attributes of an entry, which start at the cursor. Adds the used ones to `found`

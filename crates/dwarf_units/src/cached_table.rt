@@ -1,19 +1,19 @@
 //! A cached abbreviation table (DWARF 5, 7.5.3).
 
 ghost use Rattle.std.specs.Prelude.{◌≡◌, ℕ, ◌≤◌, ◌+◌, ◌-◌, ◌*◌, ◌^◌, None, length, List, sum_by};
-ghost use Rattle.std.specs.Prelude.{IsTrue, ◌↔◌, IfOk, IfNone, IfSome};
+ghost use Rattle.std.specs.Prelude.{IsTrue, ◌↔◌, IfOk, IfNone, IfSome, option_copied};
 ghost use Rattle.dwarf_bytes.specs.{declared.format.Format.Format, Refusals.{Decodes, in_section}};
 ghost use Rattle.dwarf_forms.specs.Tables.{declarations_of};
 ghost use Rattle.abbreviation_memo.specs.Declarations.{AreShared, full_declarations};
 ghost use Rattle.dwarf_units.specs.Entries.{declaration_of};
 ghost use Rattle.dwarf_units.specs.Private.AbbreviationTables.{table_key, table_size};
 ghost use Rattle.dwarf_units.specs.Private.Runs.{IsDeclaration, own_runs};
-ghost use Rattle.dwarf_units.specs.{Private.NodeShapes.shape_at, Private.Tables.IsAt};
+ghost use Rattle.dwarf_units.specs.Private.{NodeLayouts.{IsLayoutAt, shape_at}, Tables.IsAt};
 ghost use Rattle.dwarf_bytes.specs.declared.fault.Section.TheVariants as sections;
 
 use crate::attribute_runs::{AttributeRuns, own_runs};
 use crate::linked_lists::LinkedLists;
-use crate::node_shape::{NodeShape, shapes};
+use crate::node_layout::{NodeLayout, NodeShape, layouts};
 use crate::unit_headers::UnitHeader;
 use abbreviation_memo::{AbbreviationDeclaration, AbbreviationTable};
 use dwarf_bytes::{Format, LoadFault};
@@ -30,15 +30,15 @@ pub(crate) struct CachedTable<'a> {
     table: AbbreviationTable,
     /// The unshared attributes of each declaration.
     runs: Vec<AttributeRuns>,
-    /// The shapes of nodes by their code.
-    shapes: Vec<Option<NodeShape>>,
+    /// The layouts of nodes by their code.
+    layouts: Vec<Option<NodeLayout>>,
 }
 
 impl<'a> Model for CachedTable<'a> {
     ghost use Rattle.std.specs.Prelude.{◌≡◌};
     ghost use Rattle.abbreviation_memo.specs.Declarations.{AreShared, full_declarations};
     ghost use Rattle.dwarf_units.specs.{Private.AbbreviationTables.Table, Private.Runs.own_runs};
-    ghost use Rattle.dwarf_units.specs.Private.NodeShapes.{AreShapes, shape_count};
+    ghost use Rattle.dwarf_units.specs.Private.NodeLayouts.{AreLayouts, code_count};
 
     ghost Value = { Table };
 
@@ -51,8 +51,8 @@ impl<'a> Model for CachedTable<'a> {
 
     ghost invariant = { λ t. AreShared t.section.now t.table
         × (t.runs.items ≡ own_runs t.format t.table)
-        × AreShapes t.format (full_declarations t.section.now t.table) (shape_count t.table)
-        t.shapes.items };
+        × AreLayouts t.format (full_declarations t.section.now t.table) (code_count t.table)
+        t.layouts.items };
 }
 
 impl<'a> CachedTable<'a> {
@@ -73,14 +73,14 @@ impl<'a> CachedTable<'a> {
         let section = lists.section();
         let table = lists.table(offset, left)?;
         let runs = own_runs(alloc, format, &table)?;
-        let shapes = shapes(alloc, &table, &runs)?;
+        let layouts = layouts(alloc, format, &table, &runs)?;
         Ok(CachedTable {
             section,
             offset,
             format,
             table,
             runs,
-            shapes,
+            layouts,
         })
     }
 
@@ -113,7 +113,16 @@ impl<'a> CachedTable<'a> {
     pub(crate) fn shape(&self, code: u8) -> Option<NodeShape>
         ensures { result ≡ shape_at self.now code }
     {
-        *self.shapes.get(usize::from(code))?
+        Some(self.layout(code)?.shape)
+    }
+
+    /// Returns the layout of the nodes with a one-byte code, if there is one.
+    // Inlined: called for each entry.
+    #[inline(always)]
+    pub(crate) fn layout(&self, code: u8) -> Option<&NodeLayout>
+        ensures { IsLayoutAt self.now code (option_copied result) }
+    {
+        self.layouts.get(usize::from(code))?.as_ref()
     }
 
     /// Returns the number of declarations.

@@ -1,6 +1,6 @@
 //! Reading entries and null entries of a unit (DWARF 5, 2.3, 7.5.2 and 7.5.3).
 
-ghost use Rattle.std.specs.Prelude.{◌≡◌, ◌≤◌, IsSome, IfOk, IfSome, Ok, true, length, option_map};
+ghost use Rattle.std.specs.Prelude.{◌≡◌, ◌≤◌, IsSome, IfOk, option_map};
 ghost use Rattle.dwarf_bytes.specs.Refusals.{ReadsField};
 ghost use Rattle.dwarf_units.specs.{Entries.{declaration_of, depth_limit}, Private.Heads.head_at};
 ghost use Rattle.dwarf_units.specs.Private.Heads.{head_in, used_entry_at, ReturnsAndFills};
@@ -8,7 +8,6 @@ ghost use Rattle.dwarf_units.specs.Private.StoredAttributes.{Fills};
 ghost use Rattle.dwarf_units.specs.Private.Used.{used_attributes_at};
 
 use crate::attribute_runs::AttributeRuns;
-use crate::fixed_size_values::FixedSizeValues;
 use crate::linked_lists::LinkedLists;
 use crate::unit_table::UnitTable;
 use crate::used_attributes::UsedAttributes;
@@ -18,15 +17,6 @@ use std::marker::Model;
 
 /// The maximum depth of an entry. The root of a unit has depth 0.
 pub(crate) const DEPTH_LIMIT: u32 = 256;
-
-/// An entry whose attributes all have a fixed size.
-#[derive(Drop)]
-pub struct FixedSizeEntry<'a> {
-    pub tag: u64,
-    /// The offset after the entry.
-    pub after: usize,
-    pub values: FixedSizeValues<'a>,
-}
 
 /// The declaration of an entry in a unit of a given format.
 #[derive(Drop)]
@@ -96,32 +86,6 @@ impl<'a> UnitTable<'a> {
         Ok(Some(head))
     }
 
-    /// Re-reads the entry at an offset, if all of its attributes have a fixed size. Its used
-    /// attributes are read when they are asked for.
-    // Inlined: called for each scope and each reference.
-    #[inline(always)]
-    #[tactic(auto, unfolding(crate::specs::Entries::entry_at))]
-    pub fn fixed_size_entry(&self, bytes: &'a [u8], place: usize) -> Option<FixedSizeEntry<'a>>
-        ensures entry { IfSome result (λ entry. used_entry_at self.now bytes.now place
-            ≡ Ok ((entry.tag, entry.values), entry.after)) }
-        ensures within { IfSome result (λ _. place ≤ length bytes.now) }
-    {
-        let mut cursor = Cursor::new(bytes);
-        if cursor.seek(place).is_err() {
-            return None;
-        }
-        let Ok(code) = cursor.uleb() else {
-            return None;
-        };
-        let head = self.find(code)?;
-        let values = head.fixed_size_values(&mut cursor)?;
-        Some(FixedSizeEntry {
-            tag: head.tag(),
-            after: cursor.place(),
-            values,
-        })
-    }
-
     /// Re-reads the entry at the cursor without regard to the entries before it. Replaces the
     /// contents of `found` by its used attributes and returns its tag. Fails on a null entry,
     /// because a null entry has no declaration.
@@ -149,24 +113,6 @@ impl<'a> EntryHead<'a> {
         ensures { result ≡ self.now.declaration.children }
     {
         self.declaration.children()
-    }
-
-    /// Returns the used attributes of the entry and skips all of its attributes, which start at the
-    /// cursor. Returns `None` if their size is not fixed, or if bytes are missing.
-    // Inlined: called for each scope and each reference.
-    #[inline(always)]
-    #[tactic(auto, using(crate::proofs::RunReads::own_reads))]
-    fn fixed_size_values(&self, cursor: &mut Cursor<'a>) -> Option<FixedSizeValues<'a>>
-        ensures { IfSome result (λ values. (used_attributes_at true self.now.format
-            self.now.declaration.attributes cursor.old.bytes cursor.old.place
-            ≡ Ok (values, cursor.new.place)) × (cursor.new.bytes ≡ cursor.old.bytes)) }
-    {
-        if self.declaration.list().rest().is_some() {
-            return None;
-        }
-        // The contract of `place` is needed: the offset is within the bytes or at their end.
-        let _ = cursor.place();
-        self.runs.fixed_size_values(self.format, cursor)
     }
 
     /// Reads the attributes of the entry, which start at the cursor. Replaces the contents of

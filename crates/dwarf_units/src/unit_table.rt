@@ -1,13 +1,15 @@
 //! The abbreviation table of one unit (DWARF 5, 7.5.3).
 
-ghost use Rattle.std.specs.Prelude.{◌≡◌, ◌<◌, ◌≤◌, IfSome};
-ghost use Rattle.dwarf_units.specs.{Entries.depth_limit, Private.NodeShapes.IsFixedSizeNode};
-ghost use Rattle.dwarf_units.specs.Private.NodeShapes.{fixed_size_node_at};
+ghost use Rattle.std.specs.Prelude.{◌≡◌, ◌<◌, ◌≤◌, IfSome, Ok, length};
+ghost use Rattle.dwarf_units.specs.{Entries.depth_limit, Private.NodeLayouts.IsFixedSizeNode};
+ghost use Rattle.dwarf_units.specs.Private.{Heads.used_entry_at, NodeLayouts.fixed_size_node_at};
 
 use crate::cached_table::CachedTable;
 use crate::entry_head::DEPTH_LIMIT;
+use crate::fixed_size_values::{FixedSizeEntry, FixedSizeValues};
 use crate::linked_lists::LinkedLists;
-use crate::node_shape::NodeShape;
+use crate::node_layout::NodeShape;
+use dwarf_bytes::Cursor;
 use std::marker::Model;
 
 /// A cached abbreviation table, together with the attribute lists that its declarations share.
@@ -40,7 +42,7 @@ impl<'a> UnitTable<'a> {
     /// fixed size, is below the root, and is not truncated.
     // Inlined: called for each entry.
     #[inline(always)]
-    #[tactic(auto, unfolding(crate::specs::Private::NodeShapes::fixed_size_node_at))]
+    #[tactic(auto, unfolding(crate::specs::Private::NodeLayouts::fixed_size_node_at))]
     pub fn fixed_size_node(
         &self,
         depth: u32,
@@ -61,5 +63,28 @@ impl<'a> UnitTable<'a> {
             return None;
         }
         Some((shape, after))
+    }
+
+    /// Re-reads the entry at an offset, if its layout has slots. Its used attributes are read when
+    /// they are asked for.
+    // Inlined: called for each scope and each reference.
+    #[inline(always)]
+    pub fn fixed_size_entry(&self, bytes: &'a [u8], place: usize) -> Option<FixedSizeEntry<'a>>
+        ensures entry { IfSome result (λ entry. used_entry_at self.now bytes.now place
+            ≡ Ok ((entry.tag, entry.values), entry.after)) }
+        ensures within { IfSome result (λ _. place ≤ length bytes.now) }
+    {
+        let code = *bytes.get(place)?;
+        let layout = self.table.layout(code)?;
+        let slots = layout.slots.as_ref()?;
+        let mut cursor = Cursor::new(bytes);
+        cursor.seek(place + 1).ok()?;
+        let values = FixedSizeValues::new(cursor.fork(), slots);
+        cursor.block(u64::from(layout.shape.len)).ok()?;
+        Some(FixedSizeEntry {
+            tag: layout.shape.tag,
+            after: cursor.place(),
+            values,
+        })
     }
 }

@@ -4,12 +4,12 @@
 ghost use Rattle.std.specs.Prelude.{◌≡◌};
 ghost use Rattle.dwarf_bytes.specs.Refusals.{ReadsField};
 ghost use Rattle.dwarf_units.specs.Private.FixedSizes.{attribute_in, constant_number, number_after};
-ghost use Rattle.dwarf_units.specs.Private.FixedSizes.{number_at, number_in, used_position};
+ghost use Rattle.dwarf_units.specs.Private.FixedSizes.{number_in, used_position};
 ghost use Rattle.dwarf_units.specs.{Private.FixedSizes.used_value, Private.Names.named_attribute};
 
 use crate::attributes::{AttributeValue, number_of};
 use crate::used_name::UsedName;
-use dwarf_bytes::{Cause, Content, Cursor, Form, Format, ValueLayout, Width};
+use dwarf_bytes::{Cause, Content, Cursor, Form, Format, ValueLayout};
 use dwarf_forms::AttributeSpecification;
 
 /// The position of a used attribute.
@@ -43,8 +43,6 @@ impl UsedPosition {
     }
 
     /// Reads the value of the attribute in the entry whose first attribute is at the cursor.
-    // Inlined: called for each used attribute.
-    #[inline(always)]
     pub(crate) fn read(&self, format: Format, first: &Cursor) -> AttributeValue
         ensures { named_attribute self.now.name result
             ≡ attribute_in format first.now.bytes first.now.place self.now }
@@ -66,18 +64,13 @@ impl UsedValue {
         }
     }
 
-    // Inlined: called for each used attribute.
-    #[inline(always)]
     fn read(self, format: Format, first: &Cursor) -> u64
         ensures { result ≡ number_in format first.now.bytes first.now.place self }
     {
         match self {
             UsedValue::Constant(number) => number,
             UsedValue::At(offset, layout) => {
-                match read_after(offset, format, layout, &mut first.fork()) {
-                    Ok(number) => number,
-                    Err(_) => 0,
-                }
+                read_after(offset, format, layout, &mut first.fork()).unwrap_or(0)
             }
         }
     }
@@ -93,9 +86,7 @@ fn constant_number(specification: &AttributeSpecification) -> u64
     }
 }
 
-/// Skips a number of bytes and reads the number after them.
-// Inlined: called for each used attribute.
-#[inline(always)]
+/// Skips a number of bytes and reads the value after them as a number.
 fn read_after(
     offset: u16,
     format: Format,
@@ -106,39 +97,6 @@ fn read_after(
         cursor.old cursor.new }
 {
     cursor.block(u64::from(offset))?;
-    read_number(format, layout, cursor)
-}
-
-/// Reads a value at the cursor as a number. The most common layouts have an arm of their own,
-/// because most used attributes are read here.
-// Inlined: called for each used attribute.
-#[inline(always)]
-#[tactic(auto, unfolding(dwarf_bytes::specs::Contents::content_at))]
-fn read_number(format: Format, layout: ValueLayout, cursor: &mut Cursor) -> Result<u64, Cause>
-    ensures { ReadsField (λ n. n) result (number_at format layout) cursor.old cursor.new }
-{
-    Ok(match layout {
-        ValueLayout::Offset => cursor.offset(format)?,
-        ValueLayout::Fixed(Width::One) => u64::from(cursor.u8()?),
-        ValueLayout::Fixed(Width::Two) => u64::from(cursor.u16()?),
-        ValueLayout::Fixed(Width::Four) => u64::from(cursor.u32()?),
-        ValueLayout::Fixed(Width::Eight) => cursor.u64()?,
-        _ => {
-            let mut copy = cursor.fork();
-            let number = read_content(format, layout, &mut copy)?;
-            *cursor = copy;
-            number
-        }
-    })
-}
-
-/// Reads a value at the cursor as a number, for the less common layouts.
-// Not inlined: it is rare, and its code would slow down the caller.
-#[cold]
-#[inline(never)]
-fn read_content(format: Format, layout: ValueLayout, cursor: &mut Cursor) -> Result<u64, Cause>
-    ensures { ReadsField (λ n. n) result (number_at format layout) cursor.old cursor.new }
-{
     let content = Content::read(layout, format, cursor)?;
     Ok(number_of(content, cursor.place()))
 }

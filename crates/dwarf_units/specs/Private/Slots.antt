@@ -1,9 +1,17 @@
 -- The used attributes of an entry in slots, one for each name.
-use Rattle.std.specs.Prelude.{◌≡◌, ℕ, ◌<◌, List, Bool, false, Option, ◌==◌, length, slice_index_or}
-use Rattle.std.specs.{List.position_or_len, Bool.then_some}
-use Rattle.dwarf_units.specs.declared.attributes.AttributeValue.{AttributeValue}
+use Rattle.dwarf_bytes.specs.{Bind.◌>>=◌, Forms.byte_len, Items.reading, declared.fault.Cause.Cause}
+use Rattle.dwarf_bytes.specs.Numbers.{block_at, fixed_at}
+use Rattle.dwarf_bytes.specs.declared.constants.TheConstants.{DW_FORM_IMPLICIT_CONST}
+use Rattle.dwarf_bytes.specs.declared.form.ValueLayout.{TheVariants.{Fixed, Offset}, ValueLayout}
+use Rattle.dwarf_bytes.specs.declared.form.Width.{TheVariants.{Eight, Four}, Width}
+use Rattle.dwarf_bytes.specs.declared.format.Format.{Format, TheVariants.{Dwarf32, Dwarf64}}
+use Rattle.dwarf_units.specs.Private.{FixedSizes.{number_in, number_or_zero}, Names.slot_of}
+use Rattle.dwarf_units.specs.{Used.{Used, used_by}, declared.attributes.AttributeValue.AttributeValue}
 use Rattle.dwarf_units.specs.declared.used_position.UsedPosition.{UsedPosition}
-use Rattle.dwarf_units.specs.{Private.Names.slot_of, Used.{Used, used_by}}
+use Rattle.dwarf_units.specs.declared.value_slot.ValueSlot.TheVariants.{At, Constant, Missing}
+use Rattle.dwarf_units.specs.declared.value_slot.ValueSlot.{ValueSlot}
+use Rattle.std.specs.{Bool.then_some, Prelude.{Bool, List, None, Option, Result, Some, false, find}}
+use Rattle.std.specs.Prelude.{length, option_map, slice_index_or, ℕ, ◌<◌, ◌==◌, ◌≡◌}
 
 -- The value in a slot, if the flag of the slot is set.
 abbrev pub in_slot : List Bool → List AttributeValue → ℕ → Option AttributeValue
@@ -13,11 +21,44 @@ in_slot has values slot = then_some (slice_index_or has slot false)
 abbrev pub in_slots : List Bool → List AttributeValue → Used
 in_slots has values = used_by (λ name. in_slot has values (slot_of name))
 
--- The index of the first position in a slot, or the number of positions.
-abbrev pub index_in : ℕ → List UsedPosition → ℕ
-index_in slot used = position_or_len (λ p. slot_of p.name == slot) used
+-- ---- the values of entries whose attributes all have a fixed size
 
--- The list has the index of the first position in each slot.
-pub record AreIndices (used : List UsedPosition) (indices : List ℕ) : Type 0 where
-  pub len : length indices ≡ 13
-  pub each : (slot : ℕ) → slot < 13 → slice_index_or indices slot 0 ≡ index_in slot used
+-- The number of a width at an offset, and the number after n bytes.
+abbrev pub field_at : Width → List ℕ → ℕ → Result (ℕ × ℕ) Cause
+field_at width bytes at = reading (fixed_at (byte_len width) bytes at)
+
+abbrev pub field_after : ℕ → Width → List ℕ → ℕ → Result (ℕ × ℕ) Cause
+field_after n width bytes at =
+    reading (block_at n bytes at) >>= λ block. field_at width bytes block.1
+
+-- The width of the values in a layout, if they are numbers of a fixed size.
+abbrev pub width_in : Format → ValueLayout → Option Width
+width_in format (Fixed width) = Some width
+width_in Dwarf32 Offset = Some Four
+width_in Dwarf64 Offset = Some Eight
+width_in format layout = None
+
+-- The value of an attribute in the entry whose first attribute is at an offset.
+abbrev pub slot_value : List ℕ → ℕ → ValueSlot → Option AttributeValue
+slot_value bytes first Missing = None
+slot_value bytes first (Constant n) = Some (record { form = DW_FORM_IMPLICIT_CONST; number = n })
+slot_value bytes first (At form width n) =
+    Some (record { form = form; number = number_or_zero (field_after n width bytes first) })
+
+-- The used attributes of the entry.
+abbrev pub used_in : List ValueSlot → List ℕ → ℕ → Used
+used_in slots bytes first =
+    used_by (λ name. slot_value bytes first (slice_index_or slots (slot_of name) Missing))
+
+-- The value at a position.
+abbrev pub value_in : Format → List ℕ → ℕ → UsedPosition → AttributeValue
+value_in format bytes first p =
+    record { form = p.form; number = number_in format bytes first p.value }
+
+-- Each slot has the value at the first position of its name.
+pub record AreSlots (format : Format) (used : List UsedPosition) (slots : List ValueSlot) : Type 0
+  where
+    pub len : length slots ≡ 13
+    pub each : (slot : ℕ) → slot < 13 → (bytes : List ℕ) (first : ℕ)
+        → slot_value bytes first (slice_index_or slots slot Missing)
+        ≡ option_map (value_in format bytes first) (find (λ p. slot_of p.name == slot) used)

@@ -7,6 +7,6 @@ invariant_of-result c =
     rw c.section-section.ensures (c.in_ok-table.ensures.shared) in (
       shared,
       c.in_ok-runs.ensures,
-      c.in_ok-shapes.ensures c.section-section.result.now c.args.format shared
+      c.in_ok-layouts.ensures c.section-section.result.now shared
           (c.deref.ensures.value ∙ c.in_ok-runs.ensures),
     )

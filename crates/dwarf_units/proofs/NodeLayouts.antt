@@ -1,6 +1,6 @@
--- The precomputed shapes of nodes, and the nodes that have them.
+-- The nodes with a precomputed shape.
 use Rattle.dwarf_units.proofs.Common
-use Common.{AreShapes, Attribute, AttributeSpecification, Bool, Cause, Declaration, Entry, Err}
+use Common.{Attribute, AttributeSpecification, Bool, Cause, Declaration, Entry, Err}
 use Common.{Format, List, None, Null, Ok, Option, Result, Run, Some, Stretch, Table, [], ap, arith}
 use Common.{at-last, attributes_at, block_at, common_steps, cond, drop, drop_more, false}
 use Common.{get_or_from_slice_get, le-ltb, length, length-append, ne_eqb, option_and_then_some}
@@ -9,21 +9,10 @@ use Common.{ℕ, ◌++◌, ◌+◌, ◌<◌, ◌==◌, ◌>>=◌, ◌∙◌, ◌
 use Rattle.dwarf_bytes.proofs.Numbers.LebEncodings.{uleb-again}
 use Rattle.dwarf_units.proofs.{RunReads.runs-read, StoredReads.stored_all}
 use Rattle.dwarf_units.specs.{Entries.{declaration_of, depth_limit}, NodeShapes.null_shape}
-use Rattle.dwarf_units.specs.Private.NodeShapes.{IsFixedSizeNode, code_limit, shape_of}
-use Rattle.dwarf_units.specs.Private.{NodeShapes.shape_of_code, Runs.fixed_size}
-use Rattle.dwarf_units.specs.declared.node_shape.NodeShape.{NodeShape}
+use Rattle.dwarf_units.specs.Private.NodeLayouts.{IsFixedSizeNode, code_limit, shape_of}
+use Rattle.dwarf_units.specs.Private.Runs.{fixed_size}
+use Rattle.dwarf_units.specs.declared.node_layout.NodeShape.{NodeShape}
 use Rattle.std.proofs.Common.{option_and_then}
-
--- ---- the shapes by code
-
-pub shapes-more : (format : Format) (ds : List Declaration) (code : ℕ)
-    (shapes : List (Option NodeShape)) (shape : Option NodeShape) → AreShapes format ds code shapes
-    → shape ≡ shape_of_code format ds code → AreShapes format ds (code + 1) (shapes ++ shape ∷ [])
-shapes-more format ds code shapes shape so_far is = record {
-  len = omega (arith, so_far.len, length-append shapes (shape ∷ []));
-  each = λ k other at.
-      grind (arith, at-last shapes shape other k at, so_far.each k other, so_far.len, is);
-}
 
 -- ---- a node with a shape
 

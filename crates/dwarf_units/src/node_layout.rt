@@ -1,0 +1,109 @@
+//! Nodes of a fixed size: null entries, and entries whose attributes all have a fixed size (DWARF
+//! 5, 7.5.2 and 7.5.3).
+
+ghost use Rattle.std.specs.Prelude.{◌≡◌, ℕ, List, IfOk};
+ghost use Rattle.abbreviation_memo.specs.Declarations.{IsShared, AreShared, full_declaration};
+ghost use Rattle.abbreviation_memo.specs.Declarations.{full_declarations};
+ghost use Rattle.dwarf_units.specs.Private.NodeLayouts.{AreLayouts, IsLayoutOf, IsLayoutOfCode};
+ghost use Rattle.dwarf_units.specs.Private.NodeLayouts.{code_count};
+ghost use Rattle.dwarf_units.specs.Private.Runs.{own_runs, runs_of};
+
+use crate::attribute_runs::AttributeRuns;
+use crate::cached_table::declaration_and_runs;
+use crate::used_name::SLOTS;
+use crate::value_slot::{ValueSlot, slots_of};
+use abbreviation_memo::{AbbreviationDeclaration, AbbreviationTable, UNSHARED};
+use dwarf_bytes::Format;
+use std::alloc::{AllocError, Global};
+
+/// The greatest abbreviation code that is encoded in one byte.
+const CODE_LIMIT: usize = 127;
+
+/// What the nodes with a one-byte code have in common, if their size is fixed.
+#[derive(Clone, Copy)]
+pub struct NodeShape {
+    pub is_null: bool,
+    /// The tag of the entries. It is 0 if the node is a null entry.
+    pub tag: u64,
+    /// Whether the entries are followed by their children.
+    pub children: bool,
+    /// The size of the attributes in bytes.
+    pub(crate) len: u16,
+}
+
+/// The shape of the nodes with a code, and where the entries have the values of their used
+/// attributes, if these fit into slots.
+#[derive(Clone, Copy)]
+pub(crate) struct NodeLayout {
+    pub(crate) shape: NodeShape,
+    pub(crate) slots: Option<[ValueSlot; SLOTS]>,
+}
+
+impl NodeLayout {
+    /// Returns the layout of the entries of a declaration, if their size is fixed.
+    fn of(
+        format: Format,
+        declaration: &AbbreviationDeclaration,
+        runs: &AttributeRuns,
+    ) -> Option<NodeLayout>
+        ensures { (section : List ℕ) → IsShared section declaration.now.list
+            → runs.now ≡ runs_of format declaration.now.list.own
+            → IsLayoutOf format (full_declaration section declaration.now) result }
+    {
+        let len = runs.fixed_size()?;
+        if declaration.list().own().len() >= UNSHARED {
+            return None;
+        }
+        let shape = NodeShape {
+            is_null: false,
+            tag: declaration.tag(),
+            children: declaration.children(),
+            len,
+        };
+        let slots = slots_of(format, runs.last_positions());
+        Some(NodeLayout { shape, slots })
+    }
+}
+
+/// Computes the layouts of the nodes with the codes from 0 up to the number of declarations, at
+/// most 127. `runs` is parallel to the declarations.
+pub(crate) fn layouts(
+    alloc: Global,
+    format: Format,
+    table: &AbbreviationTable,
+    runs: &[AttributeRuns],
+) -> Result<Vec<Option<NodeLayout>>, AllocError>
+    ensures { IfOk result (λ layouts. (section : List ℕ) → AreShared section table.now
+        → runs.now ≡ own_runs format table.now → AreLayouts format
+        (full_declarations section table.now) (code_count table.now) layouts.items) }
+{
+    let mut layouts = Vec::new(alloc);
+    for code in 0..table.declarations().len().min(CODE_LIMIT) + 1 {
+        layouts.push(layout_of_code(format, table, runs, code as u64))?;
+    }
+    Ok(layouts)
+}
+
+/// Returns the layout of the nodes with a code, if their size is fixed.
+fn layout_of_code(
+    format: Format,
+    table: &AbbreviationTable,
+    runs: &[AttributeRuns],
+    code: u64,
+) -> Option<NodeLayout>
+    ensures { (section : List ℕ) → AreShared section table.now
+        → runs.now ≡ own_runs format table.now
+        → IsLayoutOfCode format (full_declarations section table.now) code result }
+{
+    if code == 0 {
+        let shape = NodeShape {
+            is_null: true,
+            tag: 0,
+            children: false,
+            len: 0,
+        };
+        return Some(NodeLayout { shape, slots: None });
+    }
+    let (declaration, runs) = declaration_and_runs(table, runs, code)?;
+    NodeLayout::of(format, declaration, runs)
+}

@@ -1,0 +1,124 @@
+//! Where the entries of a declaration have the value of each used attribute, if all attributes have
+//! a fixed size (DWARF 5, 7.5.3).
+
+ghost use Rattle.std.specs.Prelude.{◌≡◌, ℕ, List, IfSome, find, ◌==◌, option_map};
+ghost use Rattle.dwarf_bytes.specs.Refusals.{ReadsField};
+ghost use Rattle.dwarf_units.specs.Private.Names.{slot_of};
+ghost use Rattle.dwarf_units.specs.Private.Slots.{AreSlots, field_after, field_at, slot_value};
+ghost use Rattle.dwarf_units.specs.Private.Slots.{value_in, width_in};
+
+use crate::attributes::AttributeValue;
+use crate::used_name::SLOTS;
+use crate::used_position::{UsedPosition, UsedValue};
+use dwarf_bytes::constants::DW_FORM_IMPLICIT_CONST;
+use dwarf_bytes::{Cause, Cursor, Format, ValueLayout, Width};
+
+/// Where an entry has the value of a used attribute. It takes six bytes, because every scope and
+/// every reference reads nine of them.
+#[derive(Clone, Copy)]
+pub(crate) enum ValueSlot {
+    Missing,
+    /// The declaration has the value (DW_FORM_implicit_const).
+    Constant(u16),
+    /// The entry has the value: its form, its width, and the number of bytes after the start of the
+    /// first attribute.
+    At(u8, Width, u16),
+}
+
+impl ValueSlot {
+    /// Returns the slot of an attribute, or `None` if it does not fit.
+    fn of(format: Format, position: Option<UsedPosition>) -> Option<ValueSlot>
+        ensures { IfSome result (λ slot. (bytes : List ℕ) (first : ℕ)
+            → slot_value bytes first slot ≡ option_map (value_in format bytes first) position) }
+    {
+        let Some(position) = position else {
+            return Some(ValueSlot::Missing);
+        };
+        match position.value {
+            UsedValue::Constant(number) => {
+                if position.form != DW_FORM_IMPLICIT_CONST {
+                    return None;
+                }
+                Some(ValueSlot::Constant(u16::try_from(number).ok()?))
+            }
+            UsedValue::At(offset, layout) => {
+                let form = u8::try_from(position.form).ok()?;
+                Some(ValueSlot::At(form, width_in(format, layout)?, offset))
+            }
+        }
+    }
+
+    /// Returns the value of the attribute in the entry whose first attribute is at the cursor.
+    // Inlined: called for each attribute of each scope and each reference.
+    #[inline(always)]
+    pub(crate) fn value(self, first: &Cursor) -> Option<AttributeValue>
+        ensures { result ≡ slot_value first.now.bytes first.now.place self }
+    {
+        match self {
+            ValueSlot::Missing => None,
+            ValueSlot::Constant(number) => Some(AttributeValue {
+                form: DW_FORM_IMPLICIT_CONST,
+                number: u64::from(number),
+            }),
+            ValueSlot::At(form, width, offset) => Some(AttributeValue {
+                form: u64::from(form),
+                number: read_after(offset, width, &mut first.fork()).unwrap_or(0),
+            }),
+        }
+    }
+}
+
+/// Returns the slots of all used attributes. Returns `None` if one does not fit.
+pub(crate) fn slots_of(format: Format, used: &[UsedPosition]) -> Option<[ValueSlot; SLOTS]>
+    ensures { IfSome result (AreSlots format used.now) }
+{
+    let mut slots = [ValueSlot::Missing; SLOTS];
+    for slot in 0..SLOTS {
+        slots[slot] = ValueSlot::of(format, first_in(used, slot).copied())?;
+    }
+    Some(slots)
+}
+
+/// Returns the first position in a slot.
+fn first_in(used: &[UsedPosition], slot: usize) -> Option<&UsedPosition>
+    ensures { option_map (λ p. p.now) result ≡ find (λ p. slot_of p.name == slot) used.now }
+{
+    used.iter().find(|position| position.name.slot() == slot)
+}
+
+/// Returns the width of the values in a layout, if they are numbers of a fixed size.
+fn width_in(format: Format, layout: ValueLayout) -> Option<Width>
+    ensures { result ≡ width_in format layout }
+{
+    match (layout, format) {
+        (ValueLayout::Fixed(width), _) => Some(width),
+        (ValueLayout::Offset, Format::Dwarf32) => Some(Width::Four),
+        (ValueLayout::Offset, Format::Dwarf64) => Some(Width::Eight),
+        _ => None,
+    }
+}
+
+/// Skips a number of bytes and reads the number after them.
+// Inlined: called for each attribute of each scope and each reference.
+#[inline(always)]
+fn read_after(offset: u16, width: Width, cursor: &mut Cursor) -> Result<u64, Cause>
+    ensures { ReadsField (λ n. n) result (field_after offset width) cursor.old cursor.new }
+{
+    cursor.block(u64::from(offset))?;
+    read_field(width, cursor)
+}
+
+/// Reads a number of the given width.
+// Inlined: called for each attribute of each scope and each reference.
+#[inline(always)]
+fn read_field(width: Width, cursor: &mut Cursor) -> Result<u64, Cause>
+    ensures { ReadsField (λ n. n) result (field_at width) cursor.old cursor.new }
+{
+    Ok(match width {
+        Width::One => u64::from(cursor.u8()?),
+        Width::Two => u64::from(cursor.u16()?),
+        Width::Three => u64::from(cursor.u24()?),
+        Width::Four => u64::from(cursor.u32()?),
+        Width::Eight => cursor.u64()?,
+    })
+}
