@@ -12,7 +12,6 @@ pub mod NodeLayouts
 pub mod LinkLaws
 pub mod IndexLaws
 pub mod SlotLaws
-pub mod LayoutLaws
 unfoldable pub use Common.*
 pub use UnitLaws.*
 pub use TableLaws.*
@@ -25,4 +24,3 @@ pub use NodeLayouts.*
 pub use LinkLaws.*
 pub use IndexLaws.*
 pub use SlotLaws.*
-pub use LayoutLaws.*

@@ -1,17 +1,26 @@
--- The nodes with a precomputed shape.
-use Rattle.dwarf_units.proofs.Common
-use Common.{Attribute, AttributeSpecification, Bool, Cause, Declaration, Entry, Err}
-use Common.{Format, List, None, Null, Ok, Option, Result, Run, Some, Stretch, Table, [], ap, arith}
-use Common.{at-last, attributes_at, block_at, common_steps, cond, drop, drop_more, false}
-use Common.{get_or_from_slice_get, le-ltb, length, length-append, ne_eqb, option_and_then_some}
-use Common.{refl, runs_at, runs_of, same_Some, shape_at, slice_get, slice_get_within, true, uleb_at}
-use Common.{ℕ, ◌++◌, ◌+◌, ◌<◌, ◌==◌, ◌>>=◌, ◌∙◌, ◌∷◌, ◌≡◌, ◌≤◌}
+-- The nodes with a precomputed layout.
+use Rattle.abbreviation_memo.specs.Declarations.{SharedAttributes}
+use Rattle.abbreviation_memo.specs.declared.shared.TheConstants.{UNSHARED}
 use Rattle.dwarf_bytes.proofs.Numbers.LebEncodings.{uleb-again}
-use Rattle.dwarf_units.proofs.{RunReads.runs-read, StoredReads.stored_all}
-use Rattle.dwarf_units.specs.{Entries.{declaration_of, depth_limit}, NodeShapes.null_shape}
-use Rattle.dwarf_units.specs.Private.NodeLayouts.{IsFixedSizeNode, code_limit, shape_of}
-use Rattle.dwarf_units.specs.Private.Runs.{fixed_size}
-use Rattle.dwarf_units.specs.declared.node_layout.NodeShape.{NodeShape}
+use Rattle.dwarf_units.proofs.Common
+use Common.{Attribute, AttributeSpecification, Bool, Cause, Declaration, Entry, Err, Format, IfSome}
+use Common.{IsShared, List, None, Null, Ok, Option, Result, Run, Some, Stretch, Table, Used, ℕ, []}
+use Common.{ap, append-nil, arith, at-last, attributes_at, attributes_in, block_at, common_steps}
+use Common.{cond, drop, drop_more, false, get_or_from_slice_get, inl, inr, le-ltb, length}
+use Common.{length-append, ne_eqb, option_and_then_some, refl, rest_attributes, runs_at, runs_of}
+use Common.{same_Some, shape_at, slice_get, slice_get_within, stored_attributes}
+use Common.{stored_attributes_at, take, true, uleb_at, used_among, used_attributes_at, ◌++◌, ◌+◌}
+use Common.{◌<◌, ◌==◌, ◌>>=◌, ◌∙◌, ◌∷◌, ◌≡◌, ◌≤◌, ◌⊎◌}
+use Rattle.dwarf_units.proofs.{RunReads.runs-read, SlotLaws.slots-used}
+use Rattle.dwarf_units.proofs.StoredReads.{stored_all, used_all}
+use Rattle.dwarf_units.specs.Entries.{declaration_of, depth_limit, entry_at}
+use Rattle.dwarf_units.specs.{NodeShapes.null_shape, Private.Heads.used_entry_at}
+use Rattle.dwarf_units.specs.Private.NodeLayouts.{AreLayouts, HasSlotsOf, HasUsed, IsFixedSizeNode}
+use Rattle.dwarf_units.specs.Private.NodeLayouts.{IsLayoutAt, IsLayoutOf, IsLayoutOfCode}
+use Rattle.dwarf_units.specs.Private.{NodeLayouts.{code_count, code_limit, shape_of}, Runs.fixed_size}
+use Rattle.dwarf_units.specs.Private.Slots.{AreSlots, used_in}
+use Rattle.dwarf_units.specs.declared.node_layout.{NodeLayout.NodeLayout, NodeShape.NodeShape}
+use Rattle.dwarf_units.specs.declared.value_slot.ValueSlot.{ValueSlot}
 use Rattle.std.proofs.Common.{option_and_then}
 
 -- ---- a node with a shape
@@ -86,3 +95,116 @@ shape-there table depth code unit at shape is there below within fits =
         rw (← same_Some null_shape shape h) (Null, rw (coded, zero, end) refl, refl)
     by_code false some h = option_and_then_some (shape_of table.format)
         (declaration_of table.declarations code) shape h (by_found some)
+
+-- ---- the layouts by code
+
+-- The tag and the used attributes of an entry.
+abbrev tagged : (ℕ × List Attribute) × ℕ → Result ((ℕ × Used) × ℕ) Cause
+tagged entry = Ok ((entry.0.0, used_among (stored_attributes true entry.0.1)), entry.1)
+
+block-there : (n : ℕ) (bytes : List ℕ) (at : ℕ) → at + n ≤ length bytes
+    → block_at n bytes at ≡ Ok (take n (drop at bytes), at + n)
+unfolding block_at
+block-there n bytes at le = grind (arith, le)
+
+-- The used attributes of a declaration without runs are at their positions.
+pub fixed-used : (format : Format) (own : List AttributeSpecification) (len : ℕ)
+    (slots : List ValueSlot) → fixed_size (runs_of format own) ≡ Some len
+    → AreSlots format (runs_of format own).rest.used slots
+    → (bytes : List ℕ) (first : ℕ) → first + len ≤ length bytes
+    → used_attributes_at true format own bytes first
+    ≡ Ok (used_in slots bytes first, first + len)
+fixed-used format own len slots is are bytes first le = rw
+    (slots-used format (runs_of format own).rest.used slots bytes first are)
+    (by_read (runs_of format own).runs (runs_of format own).rest
+    (stored_attributes_at true format own bytes first) is
+    (runs-read true format bytes own first (omega (arith, le))))
+  where
+    by_read : (runs : List Run) (rest : Stretch) (r : Result (List Attribute × ℕ) Cause)
+        → cond (length runs == 0) (Some rest.len) None ≡ Some len
+        → runs_at true format runs rest bytes first ≡ r
+        → (r >>= used_all)
+        ≡ Ok (used_among (attributes_in format bytes first rest.used), first + len)
+    by_read [] rest r is same =
+        let len_is : rest.len ≡ len = same_Some rest.len len is in
+        rw (← same, block-there rest.len bytes first (omega (arith, le, len_is)), len_is) refl
+    by_read (run ∷ runs) rest r is same = absurd (grind (arith, is))
+
+-- A list that stores fewer than UNSHARED attributes has no rest.
+pub unshared : (section : List ℕ) (list : SharedAttributes) → IsShared section list
+    → length list.own < UNSHARED → list.own ++ rest_attributes section list.rest ≡ list.own
+unshared section list shared few = grind (arith, shared.full, few, append-nil)
+
+pub if_some-map : {X : Type 0} {P Q : X → Type 0} (r : Option X) → ((x : X) → P x → Q x)
+    → IfSome r P → IfSome r Q
+if_some-map None more is = is
+if_some-map (Some x) more is = more x is
+
+-- One more layout.
+pub layouts-more : (format : Format) (ds : List Declaration) (code : ℕ)
+    (layouts : List (Option NodeLayout)) (layout : Option NodeLayout)
+    → AreLayouts format ds code layouts → IsLayoutOfCode format ds code layout
+    → AreLayouts format ds (code + 1) (layouts ++ layout ∷ [])
+layouts-more format ds code layouts layout so_far is = record {
+  len = omega (arith, so_far.len, length-append layouts (layout ∷ []));
+  each = λ k other at. by_place k other (at-last layouts layout other k at);
+}
+  where
+    by_place : (k : ℕ) (other : Option NodeLayout)
+        → (slice_get layouts k ≡ Some other) ⊎ ((k ≡ length layouts) × (layout ≡ other))
+        → IsLayoutOfCode format ds k other
+    by_place k other (inl before) = so_far.each k other before
+    by_place k other (inr last) = rw (← last.1, last.0, so_far.len) is
+
+-- The layout of a code, or none after the last code.
+pub layout-there : (table : Table) (count : ℕ) (layouts : List (Option NodeLayout)) (code : ℕ)
+    (layout : Option NodeLayout) → count ≡ code_count table.declarations
+    → AreLayouts table.format table.declarations count layouts
+    → slice_get layouts code ≡ Some layout → IsLayoutAt table code layout
+layout-there table count layouts code layout counted are at =
+    let is = are.each code layout at in
+    let within = slice_get_within layouts code layout at in record {
+      shape = grind (arith, is.shape, are.len, within, counted);
+      slots = by_layout layout (omega (arith, are.len, within, counted)) is.slots;
+    }
+  where
+    by_layout : (layout : Option NodeLayout) → code ≤ code_limit
+        → IfSome layout (HasSlotsOf table.format table.declarations code)
+        → IfSome layout
+        (λ l. (code ≤ code_limit) × HasSlotsOf table.format table.declarations code l)
+    by_layout None small is = is
+    by_layout (Some l) small is = (small, is)
+
+-- The layout of a declaration is that of its code.
+pub slots-of-code : (format : Format) (table : List Declaration) (code : ℕ) (d : Declaration)
+    (layout : Option NodeLayout) → declaration_of table code ≡ Some d
+    → IsLayoutOf format d layout → IfSome layout (HasSlotsOf format table code)
+slots-of-code format table code d None found is = is.slots
+slots-of-code format table code d (Some l) found is =
+    let tag : d.tag ≡ l.shape.tag = grind (arith, is.shape) in
+    if_some-map l.slots (λ slots used. (d, found, tag, used)) is.slots
+
+-- An entry whose layout has slots has their used attributes.
+pub layout-entry : (table : Table) (code : ℕ) (unit : List ℕ) (at : ℕ) (l : NodeLayout)
+    (slots : List ValueSlot) → code ≤ code_limit
+    → HasSlotsOf table.format table.declarations code l → l.slots ≡ Some slots
+    → slice_get unit at ≡ Some code → at + 1 + l.shape.len ≤ length unit
+    → used_entry_at table unit at
+    ≡ Ok ((l.shape.tag, used_in slots unit (at + 1)), at + 1 + l.shape.len)
+unfolding entry_at
+layout-entry table code unit at l slots small of some there fits = by_slots (rw some at of)
+  where
+    by_read : (r : Result (List Attribute × ℕ) Cause) (tag : ℕ) → tag ≡ l.shape.tag
+        → (r >>= stored_all true >>= used_all)
+        ≡ Ok (used_in slots unit (at + 1), at + 1 + l.shape.len)
+        → (r >>= (λ a. Ok ((tag, a.0), a.1)) >>= tagged)
+        ≡ Ok ((l.shape.tag, used_in slots unit (at + 1)), at + 1 + l.shape.len)
+    by_read r tag same is = grind (arith, same, is)
+
+    by_slots : ((d : Declaration) × (declaration_of table.declarations code ≡ Some d)
+        × (d.tag ≡ l.shape.tag) × HasUsed table.format d l.shape.len slots)
+        → used_entry_at table unit at
+        ≡ Ok ((l.shape.tag, used_in slots unit (at + 1)), at + 1 + l.shape.len)
+    by_slots (d, found, tag, used) = rw (one-byte unit at code there small, found)
+        (by_read (attributes_at table.format d.attributes unit (at + 1)) d.tag tag
+        (used unit (at + 1) fits))

@@ -9,7 +9,7 @@ use Rattle.dwarf_bytes.specs.declared.form.Width.{Width}
 use Rattle.dwarf_units.specs.declared.value_slot.ValueSlot.{TheVariants.{At, Missing}, ValueSlot}
 use Rattle.dwarf_units.specs.Private.Slots.{AreSlots, slot_value, used_in, value_in, width_in}
 use Rattle.dwarf_units.specs.declared.used_position.UsedValue.TheVariants as positions
-use Rattle.dwarf_units.specs.{Attributes.used_attributes, Private.{Names.used_names, Slots.in_slot}}
+use Rattle.dwarf_units.specs.{Attributes.used_attributes, Private.Names.used_names}
 use Rattle.dwarf_units.specs.{Private.Slots.in_slots, Used.used_by}
 use Rattle.std.proofs.{Math.ListN.set, lemmas.Bool.eqb-true}
 use Rattle.std.proofs.lemmas.List.{get_or-set_other, get_or-set_same}
@@ -104,46 +104,29 @@ with_twice u xs ys = same-used _ _ (λ name. grind (
 -- ---- adding one used attribute in its slot
 
 -- The value of another name, or of the same name.
-put-slot : (has : List Bool) (values : List AttributeValue) (value : AttributeValue)
-    (slot other own number : ℕ) → slot < length has → slot < length values
-    → get_or has slot false ≡ false → (slot == other) ≡ (own == number)
-    → in_slot (set has slot true) (set values slot value) other
-    ≡ option_or (in_slot has values other)
+put-slot : (values : List (Option AttributeValue)) (value : AttributeValue)
+    (slot other own number : ℕ) → slot < length values → (slot == other) ≡ (own == number)
+    → get_or (set values slot (option_or (get_or values slot None) (Some value))) other None
+    ≡ option_or (get_or values other None)
     (value_of (record { name = own; value = value } ∷ []) number)
-put-slot has values value slot other own number within place free same =
-    grind (arith, get_or-set_same has, get_or-set_same values, get_or-set_other)
+put-slot values value slot other own number within same =
+    grind (arith, get_or-set_same values, get_or-set_other)
 
-taken-slot : (has : List Bool) (values : List AttributeValue) (value : AttributeValue)
-    (slot other own number : ℕ) → get_or has slot false ≡ true → (slot == other) ≡ (own == number)
-    → in_slot has values other ≡ option_or (in_slot has values other)
-    (value_of (record { name = own; value = value } ∷ []) number)
-taken-slot has values value slot other own number taken same = grind arith
+slot-named : (values : List (Option AttributeValue)) (name : UsedName)
+    → value_named name (in_slots values) ≡ get_or values (slot_of name) None
+slot-named values = by-named (λ name. get_or values (slot_of name) None)
 
-slot-named : (has : List Bool) (values : List AttributeValue) (name : UsedName)
-    → value_named name (in_slots has values) ≡ in_slot has values (slot_of name)
-slot-named has values = by-named (λ name. in_slot has values (slot_of name))
-
--- The slot is empty, so the attribute is stored.
-pub put_is : (has : List Bool) (values : List AttributeValue) (name : UsedName)
-    (value : AttributeValue) (slot : ℕ) → slot ≡ slot_of name → slot < length has
-    → slot < length values → get_or has slot false ≡ false
-    → in_slots (set has slot true) (set values slot value)
-    ≡ with_used (in_slots has values) (named_attribute name value ∷ [])
-put_is has values name value slot at within place free = same-used _ _ (λ x. rw (
-  slot-named (set has slot true) (set values slot value) x,
-  with-named (in_slots has values) (named_attribute name value ∷ []) x,
-  slot-named has values x,
+-- The attribute is stored unless its slot has a value.
+pub put_is : (values : List (Option AttributeValue)) (name : UsedName) (value : AttributeValue)
+    (slot : ℕ) → slot ≡ slot_of name → slot < length values
+    → in_slots (set values slot (option_or (get_or values slot None) (Some value)))
+    ≡ with_used (in_slots values) (named_attribute name value ∷ [])
+put_is values name value slot at within = same-used _ _ (λ x. rw (
+  slot-named (set values slot (option_or (get_or values slot None) (Some value))) x,
+  with-named (in_slots values) (named_attribute name value ∷ []) x,
+  slot-named values x,
 )
-    (put-slot has values value slot (slot_of x) (name_of name) (name_of x) within place free
-    (rw (← at) at (same-slot name x))))
-
--- The slot is occupied, so the attribute is ignored.
-pub stored_is : (has : List Bool) (values : List AttributeValue) (name : UsedName)
-    (value : AttributeValue) (slot : ℕ) → slot ≡ slot_of name → get_or has slot false ≡ true
-    → in_slots has values ≡ with_used (in_slots has values) (named_attribute name value ∷ [])
-stored_is has values name value slot at taken = same-used _ _ (λ x. rw
-    (with-named (in_slots has values) (named_attribute name value ∷ []) x, slot-named has values x)
-    (taken-slot has values value slot (slot_of x) (name_of name) (name_of x) taken
+    (put-slot values value slot (slot_of x) (name_of name) (name_of x) within
     (rw (← at) at (same-slot name x))))
 
 -- ---- the attributes of an entry at their positions

@@ -131,7 +131,7 @@ impl<'a> EntryHead<'a> {
     {
         // The contract of `place` is needed: the offset is within the bytes or at their end.
         let _ = cursor.place();
-        found.clear();
+        *found = UsedAttributes::none();
         self.runs.read(keep, self.format, cursor, found)?;
         let rest = self.declaration.list().rest();
         self.lists.read(keep, self.format, rest, cursor, found)

@@ -1,8 +1,5 @@
 //! The used attributes of an entry whose attributes all have a fixed size (DWARF 5, 7.5.3).
 
-ghost use Rattle.std.specs.Prelude.{◌≡◌};
-ghost use Rattle.dwarf_units.specs.Private.Slots.{used_in};
-
 use crate::attributes::AttributeValue;
 use crate::entry_values::EntryValues;
 use crate::used_name::{SLOTS, UsedName};
@@ -14,8 +11,8 @@ use std::marker::Model;
 #[derive(Drop)]
 pub struct FixedSizeValues<'a> {
     /// A cursor at the first attribute.
-    first: Cursor<'a>,
-    slots: &'a [ValueSlot; SLOTS],
+    pub(crate) first: Cursor<'a>,
+    pub(crate) slots: &'a [ValueSlot; SLOTS],
 }
 
 /// An entry whose attributes all have a fixed size.
@@ -33,16 +30,6 @@ impl<'a> Model for FixedSizeValues<'a> {
     ghost Value = { Used };
 
     ghost view = { λ v. used_in v.slots.now v.first.bytes v.first.place };
-}
-
-impl<'a> FixedSizeValues<'a> {
-    // Inlined: called for each scope and each reference.
-    #[inline(always)]
-    pub(crate) fn new(first: Cursor<'a>, slots: &'a [ValueSlot; SLOTS]) -> FixedSizeValues<'a>
-        ensures { result ≡ used_in slots.now first.entry.bytes first.entry.place }
-    {
-        FixedSizeValues { first, slots }
-    }
 }
 
 impl<'a> EntryValues for FixedSizeValues<'a> {

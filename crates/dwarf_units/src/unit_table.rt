@@ -79,12 +79,12 @@ impl<'a> UnitTable<'a> {
         let slots = layout.slots.as_ref()?;
         let mut cursor = Cursor::new(bytes);
         cursor.seek(place + 1).ok()?;
-        let values = FixedSizeValues::new(cursor.fork(), slots);
+        let first = cursor.fork();
         cursor.block(u64::from(layout.shape.len)).ok()?;
         Some(FixedSizeEntry {
             tag: layout.shape.tag,
             after: cursor.place(),
-            values,
+            values: FixedSizeValues { first, slots },
         })
     }
 }

@@ -13,10 +13,7 @@ use std::marker::Model;
 /// counts.
 #[derive(Drop)]
 pub struct UsedAttributes {
-    /// Whether the entry has the attribute, by slot.
-    has: [bool; SLOTS],
-    /// The values by slot. A value is meaningful only if the flag of its slot is set.
-    values: [AttributeValue; SLOTS],
+    values: [Option<AttributeValue>; SLOTS],
 }
 
 impl Model for UsedAttributes {
@@ -24,50 +21,33 @@ impl Model for UsedAttributes {
 
     ghost Value = { Used };
 
-    ghost view = { λ u. in_slots u.has u.values };
+    ghost view = { λ u. in_slots u.values };
 }
 
-// The methods are inlined: they are called for each attribute of each entry.
 impl UsedAttributes {
     /// Creates an empty set of attributes.
     pub fn none() -> UsedAttributes
         ensures { result ≡ used_among [] }
     {
-        let value = AttributeValue { form: 0, number: 0 };
         UsedAttributes {
-            has: [false; SLOTS],
-            values: [value; SLOTS],
+            values: [None; SLOTS],
         }
     }
 
-    /// Removes all attributes.
-    #[inline(always)]
-    pub(crate) fn clear(&mut self)
-        ensures { self.new ≡ used_among [] }
-    {
-        self.has = [false; SLOTS];
-    }
-
     /// Adds an attribute. Has no effect if the entry already has an attribute of this name.
-    #[inline(always)]
-    #[tactic(auto, using(crate::proofs::SlotLaws::put_is, crate::proofs::SlotLaws::stored_is))]
+    #[tactic(auto, using(crate::proofs::SlotLaws::put_is))]
     pub(crate) fn add(&mut self, name: UsedName, value: AttributeValue)
         ensures { self.new ≡ with_used self.old (named_attribute name value ∷ []) }
     {
         let slot = name.slot();
-        if !self.has[slot] {
-            self.has[slot] = true;
-            self.values[slot] = value;
-        }
+        self.values[slot] = self.values[slot].or(Some(value));
     }
 }
 
 impl EntryValues for UsedAttributes {
     ghost used = { λ u. u };
 
-    #[inline(always)]
     fn value(&self, name: UsedName) -> Option<AttributeValue> {
-        let slot = name.slot();
-        self.has[slot].then_some(self.values[slot])
+        self.values[name.slot()]
     }
 }

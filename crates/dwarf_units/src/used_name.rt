@@ -28,8 +28,6 @@ pub enum UsedName {
 
 impl UsedName {
     /// Returns the name of an attribute code, if the attribute is used.
-    // Inlined: called for each attribute.
-    #[inline(always)]
     pub(crate) fn of(name: u64) -> Option<UsedName>
         ensures { result ≡ used_name name }
     {

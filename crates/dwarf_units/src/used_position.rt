@@ -4,7 +4,7 @@
 ghost use Rattle.std.specs.Prelude.{◌≡◌};
 ghost use Rattle.dwarf_bytes.specs.Refusals.{ReadsField};
 ghost use Rattle.dwarf_units.specs.Private.FixedSizes.{attribute_in, constant_number, number_after};
-ghost use Rattle.dwarf_units.specs.Private.FixedSizes.{number_in, used_position};
+ghost use Rattle.dwarf_units.specs.Private.FixedSizes.{used_position};
 ghost use Rattle.dwarf_units.specs.{Private.FixedSizes.used_value, Private.Names.named_attribute};
 
 use crate::attributes::{AttributeValue, number_of};
@@ -47,9 +47,15 @@ impl UsedPosition {
         ensures { named_attribute self.now.name result
             ≡ attribute_in format first.now.bytes first.now.place self.now }
     {
+        let number = match self.value {
+            UsedValue::Constant(number) => number,
+            UsedValue::At(offset, layout) => {
+                read_after(offset, format, layout, &mut first.fork()).unwrap_or(0)
+            }
+        };
         AttributeValue {
             form: self.form,
-            number: self.value.read(format, first),
+            number,
         }
     }
 }
@@ -61,17 +67,6 @@ impl UsedValue {
         match Form::of(specification.form) {
             Some(Form::Direct(layout)) => UsedValue::At(offset, layout),
             _ => UsedValue::Constant(constant_number(specification)),
-        }
-    }
-
-    fn read(self, format: Format, first: &Cursor) -> u64
-        ensures { result ≡ number_in format first.now.bytes first.now.place self }
-    {
-        match self {
-            UsedValue::Constant(number) => number,
-            UsedValue::At(offset, layout) => {
-                read_after(offset, format, layout, &mut first.fork()).unwrap_or(0)
-            }
         }
     }
 }

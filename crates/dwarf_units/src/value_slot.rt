@@ -4,8 +4,8 @@
 ghost use Rattle.std.specs.Prelude.{◌≡◌, ℕ, List, IfSome, find, ◌==◌, option_map};
 ghost use Rattle.dwarf_bytes.specs.Refusals.{ReadsField};
 ghost use Rattle.dwarf_units.specs.Private.Names.{slot_of};
-ghost use Rattle.dwarf_units.specs.Private.Slots.{AreSlots, field_after, field_at, slot_value};
-ghost use Rattle.dwarf_units.specs.Private.Slots.{value_in, width_in};
+ghost use Rattle.dwarf_units.specs.Private.Slots.{AreSlots, field_after, slot_value, value_in};
+ghost use Rattle.dwarf_units.specs.Private.Slots.{width_in};
 
 use crate::attributes::AttributeValue;
 use crate::used_name::SLOTS;
@@ -98,22 +98,13 @@ fn width_in(format: Format, layout: ValueLayout) -> Option<Width>
     }
 }
 
-/// Skips a number of bytes and reads the number after them.
+/// Skips a number of bytes and reads the number of the given width after them.
 // Inlined: called for each attribute of each scope and each reference.
 #[inline(always)]
 fn read_after(offset: u16, width: Width, cursor: &mut Cursor) -> Result<u64, Cause>
     ensures { ReadsField (λ n. n) result (field_after offset width) cursor.old cursor.new }
 {
     cursor.block(u64::from(offset))?;
-    read_field(width, cursor)
-}
-
-/// Reads a number of the given width.
-// Inlined: called for each attribute of each scope and each reference.
-#[inline(always)]
-fn read_field(width: Width, cursor: &mut Cursor) -> Result<u64, Cause>
-    ensures { ReadsField (λ n. n) result (field_at width) cursor.old cursor.new }
-{
     Ok(match width {
         Width::One => u64::from(cursor.u8()?),
         Width::Two => u64::from(cursor.u16()?),

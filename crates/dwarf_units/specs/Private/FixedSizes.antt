@@ -69,15 +69,12 @@ used_position n s = option_map
 
 -- ---- attributes at their positions
 
--- The value at an offset in a layout, as a number, and the offset after it.
-abbrev pub number_at : Format → ValueLayout → List ℕ → ℕ → Result (ℕ × ℕ) Cause
-number_at format layout bytes at =
-    reading (content_at layout format bytes at) >>= λ c. Ok (number_of c.0 c.1, c.1)
-
--- The number in a layout after n bytes.
+-- The value in a layout after n bytes, as a number, and the offset after it.
 abbrev pub number_after : ℕ → Format → ValueLayout → List ℕ → ℕ → Result (ℕ × ℕ) Cause
-number_after n format layout bytes at =
-    reading (block_at n bytes at) >>= λ block. number_at format layout bytes block.1
+number_after n format layout bytes at = do
+  block ← reading (block_at n bytes at)
+  content ← reading (content_at layout format bytes block.1)
+  Ok (number_of content.0 content.1, content.1)
 
 -- A number, or 0 if its bytes are missing.
 abbrev pub number_or_zero : Result (ℕ × ℕ) Cause → ℕ

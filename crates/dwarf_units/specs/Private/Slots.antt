@@ -6,30 +6,23 @@ use Rattle.dwarf_bytes.specs.declared.form.ValueLayout.{TheVariants.{Fixed, Offs
 use Rattle.dwarf_bytes.specs.declared.form.Width.{TheVariants.{Eight, Four}, Width}
 use Rattle.dwarf_bytes.specs.declared.format.Format.{Format, TheVariants.{Dwarf32, Dwarf64}}
 use Rattle.dwarf_units.specs.Private.{FixedSizes.{number_in, number_or_zero}, Names.slot_of}
-use Rattle.dwarf_units.specs.{Used.{Used, used_by}, declared.attributes.AttributeValue.AttributeValue}
+use Rattle.dwarf_units.specs.Used.{Used, used_by}
+use Rattle.dwarf_units.specs.declared.attributes.AttributeValue.{AttributeValue}
 use Rattle.dwarf_units.specs.declared.used_position.UsedPosition.{UsedPosition}
 use Rattle.dwarf_units.specs.declared.value_slot.ValueSlot.TheVariants.{At, Constant, Missing}
 use Rattle.dwarf_units.specs.declared.value_slot.ValueSlot.{ValueSlot}
-use Rattle.std.specs.{Bool.then_some, Prelude.{Bool, List, None, Option, Result, Some, false, find}}
-use Rattle.std.specs.Prelude.{length, option_map, slice_index_or, ℕ, ◌<◌, ◌==◌, ◌≡◌}
+use Rattle.std.specs.Prelude.{List, None, Option, Result, Some, find, length, option_map}
+use Rattle.std.specs.Prelude.{slice_index_or, ℕ, ◌<◌, ◌==◌, ◌≡◌}
 
--- The value in a slot, if the flag of the slot is set.
-abbrev pub in_slot : List Bool → List AttributeValue → ℕ → Option AttributeValue
-in_slot has values slot = then_some (slice_index_or has slot false)
-    (slice_index_or values slot (record { form = 0; number = 0 }))
-
-abbrev pub in_slots : List Bool → List AttributeValue → Used
-in_slots has values = used_by (λ name. in_slot has values (slot_of name))
+abbrev pub in_slots : List (Option AttributeValue) → Used
+in_slots values = used_by (λ name. slice_index_or values (slot_of name) None)
 
 -- ---- the values of entries whose attributes all have a fixed size
 
--- The number of a width at an offset, and the number after n bytes.
-abbrev pub field_at : Width → List ℕ → ℕ → Result (ℕ × ℕ) Cause
-field_at width bytes at = reading (fixed_at (byte_len width) bytes at)
-
+-- The number of a width after n bytes.
 abbrev pub field_after : ℕ → Width → List ℕ → ℕ → Result (ℕ × ℕ) Cause
-field_after n width bytes at =
-    reading (block_at n bytes at) >>= λ block. field_at width bytes block.1
+field_after n width bytes at = reading (block_at n bytes at)
+    >>= λ block. reading (fixed_at (byte_len width) bytes block.1)
 
 -- The width of the values in a layout, if they are numbers of a fixed size.
 abbrev pub width_in : Format → ValueLayout → Option Width
