@@ -92,6 +92,20 @@ def tables_in_one_list(size):
     return elf([(".debug_abbrev", table), (".debug_info", b"".join(units))])
 
 
+def tables_in_blocks(size):
+    """Builds units without entries, whose tables overlap and fill the cache of tables.
+
+    The tables start at the first 15 of 80 declarations of the least size. The section has three
+    quarters of the size, because an object may have four million declarations.
+    """
+    block = b"".join(bytes([code, 0x11, 0, 0, 0]) for code in range(1, 81)) + bytes([0])
+    blocks = size // 4 * 3 // len(block)
+    unit = struct.Struct("<IHBBI")
+    units = (unit.pack(8, 5, 1, 8, len(block) * number + 5 * later)
+             for number in range(blocks // 12) for later in range(15))
+    return elf([(".debug_abbrev", block * blocks), (".debug_info", b"".join(units))])
+
+
 def entries_in_one_list(size):
     """Builds units of one entry, whose tables are in one list of one-byte attributes. An entry has
     all attributes after the offset of its table."""
@@ -199,6 +213,7 @@ SHAPES = [
     ("scopes", names_in_one_text),
     ("scopes", tables_in_turn),
     ("scopes", tables_in_one_list),
+    ("scopes", tables_in_blocks),
     ("scopes", entries_in_one_list),
     ("scopes", lists_that_meet),
     ("scopes", entries_without_bytes),

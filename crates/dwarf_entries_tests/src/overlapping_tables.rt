@@ -80,7 +80,7 @@ fn name_of(number: usize) -> Option<TextOffset> {
     text(Section::DebugInfo, from.saturating_add(name))
 }
 
-/// After about 90 tables of 1,000 declarations the cache is full.
+/// After 14 tables of 1,000 declarations the cache is full.
 #[test]
 fn references_between_overlapping_tables(rt: HostRuntime) {
     let table = declared(&rt);

@@ -102,7 +102,7 @@ pub(crate) fn own_runs(
 ) -> Result<Vec<AttributeRuns>, AllocError>
     ensures { IfOk result (λ runs. runs.items ≡ own_runs format table.now) }
 {
-    let mut runs = Vec::new(alloc);
+    let mut runs = Vec::with_capacity(alloc, table.declarations().len())?;
     for declaration in table.declarations() {
         runs.push(AttributeRuns::of(alloc, format, declaration.list().own())?)?;
     }

@@ -132,13 +132,13 @@ impl<'a> CachedTable<'a> {
         self.table.declarations().len() as u64
     }
 
-    /// Returns the size of the table: its declarations, their unshared attributes, and a position
-    /// for each of these.
+    /// Returns the size of the table: the least number of bytes in which its declarations and
+    /// their unshared attributes can be encoded.
     #[tactic(auto, using(crate::proofs::TableLaws::own_sum))]
     pub(crate) fn size(&self) -> u128
         ensures { result ≡ table_size self.now }
     {
-        u128::from(self.len()) + 2 * attribute_count(self.table.declarations())
+        5 * u128::from(self.len()) + 2 * attribute_count(self.table.declarations())
     }
 
     /// Returns whether a unit uses this table: the offset and the format are equal.

@@ -77,8 +77,9 @@ pub(crate) fn layouts(
         → runs.now ≡ own_runs format table.now → AreLayouts format
         (full_declarations section table.now) (code_count table.now) layouts.items) }
 {
-    let mut layouts = Vec::new(alloc);
-    for code in 0..table.declarations().len().min(CODE_LIMIT) + 1 {
+    let count = table.declarations().len().min(CODE_LIMIT) + 1;
+    let mut layouts = Vec::with_capacity(alloc, count)?;
+    for code in 0..count {
         layouts.push(layout_of_code(format, table, runs, code as u64))?;
     }
     Ok(layouts)

@@ -20,8 +20,7 @@ pub(crate) struct TableStore<'a> {
     tables: Vec<CachedTable<'a>>,
     /// The number of tables that are cached permanently. A table after them is temporary.
     pub(crate) permanent: usize,
-    /// The remaining budget: the number of declarations, attributes and positions that can still be
-    /// cached.
+    /// The total size of the tables that can still be cached permanently.
     budget: u128,
     /// The indexes of the tables by their keys. An entry may be stale: its index may have been
     /// reused for another table.
@@ -51,7 +50,7 @@ impl<'a> TableStore<'a> {
             section,
             tables: Vec::new(alloc),
             permanent: 0,
-            budget: 3 * section.len() as u128 + 65_536,
+            budget: section.len() as u128 + 65_536,
             numbers: BTreeMap::new(alloc),
         }
     }

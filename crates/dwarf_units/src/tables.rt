@@ -44,9 +44,9 @@ impl<'a> Model for Tables<'a> {
 impl<'a> Tables<'a> {
     /// Parses the table of each unit, unless a table with its offset and format is cached. A fault
     /// is reported at the offset of its declaration. Memory is bounded. Lists of the attributes
-    /// after the first ones are memoized once for each offset of the section. All tables that are
-    /// cached permanently have at most 3 × the section size + 65,536 declarations, first
-    /// attributes and positions of these.
+    /// after the first ones are memoized once for each offset of the section. Tables are cached
+    /// permanently up to a total size of that of the section + 65,536, where a declaration counts
+    /// as 5 and each of its first attributes as 2.
     pub fn validate(
         alloc: Global,
         section: &'a [u8],

@@ -13,8 +13,8 @@ use crate::used_position::{UsedPosition, UsedValue};
 use dwarf_bytes::constants::DW_FORM_IMPLICIT_CONST;
 use dwarf_bytes::{Cause, Cursor, Format, ValueLayout, Width};
 
-/// Where an entry has the value of a used attribute. It takes six bytes, because every scope and
-/// every reference reads nine of them.
+/// Where an entry has the value of a used attribute. It takes six bytes, because every scope reads
+/// nine of them and every reference four.
 #[derive(Clone, Copy)]
 pub(crate) enum ValueSlot {
     Missing,

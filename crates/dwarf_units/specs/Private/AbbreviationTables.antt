@@ -22,8 +22,8 @@ table_key Dwarf64 offset = 2 * offset + 1
 abbrev pub own_attributes : Declaration → List AttributeSpecification
 own_attributes d = take UNSHARED d.attributes
 
--- The size of a table: its declarations, their unshared attributes, and a position for each of
--- these.
+-- The size of a table: the least number of bytes in which its declarations and their unshared
+-- attributes can be encoded.
 abbrev pub table_size : Table → ℕ
-table_size table = length table.declarations
+table_size table = 5 * length table.declarations
     + 2 * sum_by (λ d. length (own_attributes d)) table.declarations

@@ -50,10 +50,9 @@ abbrev pub AreElsewhere : Format → ℕ → List Table → Type 0
 AreElsewhere format offset tables = (i : ℕ) (table : Table) → slice_get tables i ≡ Some table
     → IsAt format offset table → ⊥
 
--- The maximum size of the tables of a section that are cached permanently: declarations,
--- attributes and positions.
+-- The maximum size of the tables of a section that are cached permanently.
 abbrev pub size_limit : List ℕ → ℕ
-size_limit section = 3 * length section + 65536
+size_limit section = length section + 65536
 
 -- The permanently cached tables are within the limit, and at most one table is temporary.
 abbrev pub IsWithinLimit : CachedTables → Type 0

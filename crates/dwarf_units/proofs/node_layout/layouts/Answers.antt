@@ -12,8 +12,8 @@ loop-code-preserved c section shared are =
 
 pub returns : goal.returns
 returns c section shared are =
-    let count : c.min-code-end.result + 1 ≡ code_count c.args.table.now =
-    ap (λ (k : ℕ). k + 1) (c.min-code-end.ensures
+    let count : c.min-count.result + 1 ≡ code_count c.args.table.now =
+    ap (λ (k : ℕ). k + 1) (c.min-count.ensures
     ∙ ap (λ (ds : List SharedDeclaration). min (length ds) 127) c.declarations.ensures) in
     let all : c.loop-code.code ≡ code_count c.args.table.now =
     omega (arith, c.loop-code-test.false, c.loop-code.auto.code-end, count) in
