@@ -81,8 +81,8 @@ impl<'a> EntryReader<'a> {
         Ok(ScopeEntry::of(offset, kind, &self.found))
     }
 
-    /// Returns the names and the reference of the entry at an offset in the unit of `header`. Long
-    /// entries are read once and then cached. If the table of the unit is not cached permanently,
+    /// Returns the names and the reference of the entry at an offset in the unit of `header`. A long
+    /// entry is cached when it is first read. If the table of the unit is not cached permanently,
     /// the first read caches all entries of the unit whose offsets are in `bitmap`.
     // Inlined: called for each reference.
     #[inline(always)]
@@ -111,7 +111,7 @@ impl<'a> EntryReader<'a> {
         if !self.tables.stays(self.number) {
             self.cache_unit(header, bitmap)?;
         } else if self.len > LONG {
-            self.cache_names(header, offset, entry)?;
+            self.cache_entry(header, offset)?;
         }
         Ok(entry)
     }
@@ -134,7 +134,9 @@ impl<'a> EntryReader<'a> {
         Ok(())
     }
 
-    /// Caches the entry at an offset. An entry that cannot be read is skipped.
+    /// Re-reads and caches the entry at an offset. An entry that cannot be read is skipped.
+    #[cold]
+    #[inline(never)]
     fn cache_entry(&mut self, header: &UnitHeader, offset: usize) -> Result<(), AllocError>
         ensures reader { (s : SectionBytes) → IsReaderOf s self.old → IsReaderOf s self.new }
         ensures cached { OnOk result ((s : SectionBytes) → IsReaderOf s self.old
@@ -144,7 +146,7 @@ impl<'a> EntryReader<'a> {
     {
         match self.reread_names(header, offset) {
             Ok(entry) => {
-                self.cache_names(header, offset, entry)?;
+                self.long.insert(header, offset, entry)?;
                 Ok(())
             }
             Err(cause) => {
@@ -152,25 +154,6 @@ impl<'a> EntryReader<'a> {
                 Ok(())
             }
         }
-    }
-
-    /// Caches what was read of the entry at an offset, in the unit of `header`.
-    #[cold]
-    #[inline(never)]
-    fn cache_names(
-        &mut self,
-        header: &UnitHeader,
-        offset: usize,
-        entry: NamedEntry,
-    ) -> Result<(), AllocError>
-        ensures cached { OnOk result ((at : _) → cached_at self.new.long at ≡ if at == offset
-            then Some (long_entry header.now entry) else cached_at self.old.long at) }
-        ensures reader { (s : SectionBytes) → IsReaderOf s self.old
-            → ((table : List Declaration) → declarations_of declarations_limit s.debug_abbrev
-            header.now.abbreviations ≡ Ok table → named_entry_at header.now.format table
-            (take header.now.«end» s.debug_info) offset ≡ Ok entry) → IsReaderOf s self.new }
-    {
-        self.long.insert(header, offset, entry)
     }
 
     /// Re-reads the names and the reference of an entry without using the cache.

@@ -1,4 +1,5 @@
-//! The cache of long entries. Each is read once, regardless of the number of references to it.
+//! The cache of long entries. Each is read at most twice, regardless of the number of references to
+//! it.
 
 ghost use Rattle.std.specs.Prelude.{◌≡◌, ◌==◌, ◌↔◌, None, Some, IfSome, IsTrue, OnOk, OnErr};
 ghost use Rattle.std.specs.Prelude.{if◌then◌else◌};

@@ -15,15 +15,13 @@ pub returns-in_ok-cache_unit-clause-reader : goal.returns-in_ok-cache_unit-claus
 returns-in_ok-cache_unit-clause-reader c s reader =
     c.in_ok-cache_unit.ensures.reader s (c.in_ok-entry.ensures.reader s reader)
 
-pub returns-in_err-cache_names-clause-reader : goal.returns-in_err-cache_names-clause-reader
-returns-in_err-cache_names-clause-reader c s reader =
-    c.in_err-cache_names.ensures.reader s (c.in_ok-entry.ensures.reader s reader)
-    (λ table is. c.in_ok-entry.ensures.names_at s table reader is)
+pub returns-in_err-cache_entry-clause-reader : goal.returns-in_err-cache_entry-clause-reader
+returns-in_err-cache_entry-clause-reader c s reader =
+    c.in_err-cache_entry.ensures.reader s (c.in_ok-entry.ensures.reader s reader)
 
-pub returns-in_ok-cache_names-clause-reader : goal.returns-in_ok-cache_names-clause-reader
-returns-in_ok-cache_names-clause-reader c s reader =
-    c.in_ok-cache_names.ensures.reader s (c.in_ok-entry.ensures.reader s reader)
-    (λ table is. c.in_ok-entry.ensures.names_at s table reader is)
+pub returns-in_ok-cache_entry-clause-reader : goal.returns-in_ok-cache_entry-clause-reader
+returns-in_ok-cache_entry-clause-reader c s reader =
+    c.in_ok-cache_entry.ensures.reader s (c.in_ok-entry.ensures.reader s reader)
 
 pub returns-in-Some-clause-holds : goal.returns-in-Some-clause-holds
 returns-in-Some-clause-holds c s table reader is from below marked =
@@ -39,3 +37,7 @@ returns-in_ok-cache_unit-clause-holds c s table reader is from below marked =
     inl (c.in_ok-cache_unit.ensures.cached s c.args.offset (c.in_ok-entry.ensures.reader s reader)
     from
     below marked)
+
+pub returns-in_ok-cache_entry-clause-holds : goal.returns-in_ok-cache_entry-clause-holds
+returns-in_ok-cache_entry-clause-holds c s table reader is from below marked =
+    inl (c.in_ok-cache_entry.ensures.cached s (c.in_ok-entry.ensures.reader s reader))
