@@ -58,14 +58,15 @@ pub use bytes.declared.fault.Cause.{Cause, TheVariants.{OriginDepth, Reference}}
 pub use bytes.declared.fault.{LoadFault.LoadFault, Section.{Section, TheVariants.DebugAbbrev}}
 pub use bytes.declared.fault.Section.TheVariants.{DebugInfo, DebugLineStr, DebugStr}
 pub use bytes.declared.{format.Format.Format, tables.TableKind.TheVariants.StrOffsets}
-pub use entries.Names.{Member, first_on, members_of, name_on, names_of, of_member, references_limit}
+pub use entries.Names.{EntryNames, Member, first_on, members_of, name_on, names_of, of_member, references_limit}
 pub use entries.{Names.{target_of, text_in, text_of}, Order.{AreInOrder, AreNested, AreNumbered}}
 pub use entries.{Order.HasDataOf, Private.EntryOffsets.{AreStored, all_offsets, scope_count}}
 pub use entries.Private.{EntryOffsets.stored_unit_of, Members.{AreFirst, Finds, FindsFirst}}
 pub use entries.Private.Members.{IsFirst, IsMember, IsPlaceOf, IsWithin, LeadsTo, member_in}
 pub use entries.Private.NameCache.{IsCacheOf, second_names, slot_at, slot_of, target_names}
-pub use entries.Private.{Narrow.are_narrow, ObjectUnits.{AreUnitsOf, ObjectUnits, units_of_object}}
-pub use entries.Private.{ObjectUnits.units_or_none, Passes.{AreParsedTo, IsScopeSite, IsSiteRead}}
+pub use entries.Private.PackedNames.{unpacked_names, unpacked_text}
+pub use entries.Private.ObjectUnits.{AreUnitsOf, ObjectUnits, units_of_object, units_or_none}
+pub use entries.Private.Passes.{AreParsedTo, IsScopeSite, IsSiteRead}
 pub use entries.Private.Passes.{bases_in, bases_of, first_number, number_of_scopes, scope_facts}
 pub use entries.{Passes.PassedTo, Scopes.{all_scopes, all_sites, parse_scope}}
 pub use entries.Units.{all_bases, all_entries}
@@ -77,7 +78,7 @@ pub use entries.{Scopes.{stmt_list_by_number, stmt_list_of, wide_index}, TreeLaw
 pub use entries.TreeLaws.{ArePartsFrom, FillsUnit, IsEntry, IsTextOf, section_bytes}
 pub use entries.Units.{CompilationUnit, bases_of_first, unit_of, with_bases}
 pub use entries.declared.{calls.{CallSite.CallSite, Calls.Calls}, name_cache.NameCache.NameCache}
-pub use entries.declared.origin_chains.{EntryNames.EntryNames, FirstNames.FirstNames}
+pub use entries.declared.origin_chains.{FirstNames.FirstNames, PackedNames.PackedNames}
 pub use entries.declared.origin_chains.{UnitAttribute.UnitAttribute, UnitEntry.UnitEntry}
 pub use entries.declared.{references.UnitPlace.UnitPlace, scope.{Root.Root, ScopeFacts.ScopeFacts}}
 pub use entries.declared.{scope_lists.ScopeLists.ScopeLists, text_offset.TextOffset.TextOffset}

@@ -8,7 +8,6 @@ use Rattle.dwarf_bytes.specs.{declared.fault.Cause.Cause, declared.fault.Section
 use Rattle.dwarf_bytes.specs.{declared.tables.TableKind.TheVariants.StrOffsets, Bind.◌>>=◌}
 use Rattle.dwarf_bytes.specs.{Items.reading, Numbers.text_at}
 use Rattle.dwarf_ranges.specs.{declared.bases.Table.Table, Bases.{item_at, optional}}
-use Rattle.dwarf_entries.specs.declared.origin_chains.EntryNames.{EntryNames}
 use Rattle.dwarf_entries.specs.{declared.text_offset.TextOffset.TextOffset, Units.CompilationUnit}
 use Rattle.dwarf_units.specs.{declared.attributes.AttributeValue.AttributeValue, Entries.Die}
 use Rattle.dwarf_units.specs.Entries.{attribute}
@@ -81,6 +80,11 @@ first_on name (m ∷ path) = or_else (of_member name m) (first_on name path)
 abbrev pub name_on : ℕ → Sections → List Member → Result (Option TextOffset) Cause
 name_on name s path =
     optional (λ found. text_of s found.0.bases.str_offsets found.1) (first_on name path)
+
+-- The names of an entry.
+pub record EntryNames : Type 0 where
+  pub name : Option TextOffset
+  pub linkage_name : Option TextOffset
 
 -- The names of an entry whose origin chain may follow at most `remaining` references: for each of
 -- the two attributes, the first one on the chain.

@@ -1,7 +1,7 @@
 pub mod EntryOffsets
 pub mod StringSections
 pub mod Members
-pub mod Narrow
+pub mod PackedNames
 pub mod NameCache
 pub mod Shared
 pub mod Passes

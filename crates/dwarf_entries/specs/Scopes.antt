@@ -4,10 +4,10 @@ use Rattle.dwarf_bytes.specs.{Bind.◌>>=◌, Items.{At, each, with_offset}, Ref
 use Rattle.dwarf_bytes.specs.declared.constants.TheConstants.{DW_AT_CALL_FILE, DW_AT_CALL_LINE}
 use Rattle.dwarf_bytes.specs.declared.{constants.TheConstants.DW_AT_STMT_LIST, fault.Cause.Cause}
 use Rattle.dwarf_bytes.specs.declared.fault.{LoadFault.LoadFault, Section.Section}
-use Rattle.dwarf_entries.specs.{Names.{Member, names_of}, Units.{CompilationUnit, units_read}}
+use Rattle.dwarf_entries.specs.Names.{EntryNames, Member, names_of}
+use Rattle.dwarf_entries.specs.Units.{CompilationUnit, units_read}
 use Rattle.dwarf_entries.specs.declared.calls.{CallSite.CallSite, Calls.Calls}
-use Rattle.dwarf_entries.specs.declared.{origin_chains.EntryNames.EntryNames, scope.Root.Root}
-use Rattle.dwarf_entries.specs.declared.scope_lists.ScopeLists.{ScopeLists}
+use Rattle.dwarf_entries.specs.declared.{scope.Root.Root, scope_lists.ScopeLists.ScopeLists}
 use Rattle.dwarf_entries.specs.declared.text_offset.TextOffset.{TextOffset}
 use Rattle.dwarf_ranges.specs.{Ranges.{Covering, covers_of}, declared.range.Range.Range}
 use Rattle.dwarf_units.specs.Entries.{Die, below}

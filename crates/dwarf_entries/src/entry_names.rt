@@ -5,8 +5,9 @@ ghost use Rattle.dwarf_bytes.specs.Refusals.{Gives};
 ghost use Rattle.dwarf_units.specs.declared.attributes.AttributeValue.{AttributeValue as Value};
 ghost use Rattle.dwarf_entries.specs.{Units.CompilationUnit, Names.{Member, names_of}};
 ghost use Rattle.dwarf_entries.specs.{Private.NameCache.target_names, Private.Members.IsMember};
+ghost use Rattle.dwarf_entries.specs.Private.PackedNames.{unpacked_names};
 
-use crate::origin_chains::{EntryNames, REFERENCES_LIMIT, UnitEntry};
+use crate::origin_chains::{PackedNames, REFERENCES_LIMIT, UnitEntry};
 use crate::units::Units;
 use dwarf_bytes::Cause;
 use dwarf_units::AttributeValue;
@@ -16,9 +17,9 @@ impl<'a> Units<'a> {
     /// Returns the names of an entry of a unit. Each name is the first one on the origin chain of
     /// the entry. If the entry has no name of its own, the names of its target are cached, so that
     /// the chain is followed once for many references to the same target.
-    pub(crate) fn names(&mut self, start: UnitEntry) -> Result<EntryNames, Cause>
+    pub(crate) fn names(&mut self, start: UnitEntry) -> Result<PackedNames, Cause>
         ensures names { (m : Member) → IsMember self.old.units start.unit start.entry m
-            → Gives (λ names. names) result (names_of self.old.sections self.old.units m) }
+            → Gives unpacked_names result (names_of self.old.sections self.old.units m) }
         ensures same { self.new ≡ self.old }
     {
         if let Some(reference) = reference_to_names(&start.entry) {
@@ -29,9 +30,9 @@ impl<'a> Units<'a> {
 
     /// Returns the names of the target of a reference in a unit. A cached result is returned
     /// without a look at the bitmap, because only offsets of entries are cached.
-    fn target_names(&mut self, unit: usize, reference: AttributeValue) -> Result<EntryNames, Cause>
+    fn target_names(&mut self, unit: usize, reference: AttributeValue) -> Result<PackedNames, Cause>
         ensures names { (u : CompilationUnit) → slice_get self.old.units unit ≡ Some u
-            → Gives (λ names. names) result
+            → Gives unpacked_names result
             (target_names self.old.sections self.old.units u reference) }
         ensures same { self.new ≡ self.old }
     {

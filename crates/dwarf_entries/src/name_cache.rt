@@ -1,60 +1,38 @@
 //! A cache of the names of reference targets. The origin chain after an entry is followed once for
 //! many references to the entry.
 
-ghost use Rattle.std.specs.Prelude.{◌≡◌, ◌==◌, ◌&&◌, ℕ, ◌<◌, length, None, Some, true, false, ◌^◌};
-ghost use Rattle.std.specs.Prelude.{IfSome, OnOk, OnErr, SomeIff, MatchOption, if◌then◌else◌};
-ghost use Rattle.dwarf_entries.specs.declared.origin_chains.EntryNames.{EntryNames as Names};
+ghost use Rattle.std.specs.Prelude.{◌≡◌, ◌==◌, ℕ, ◌<◌, length, None, Some, option_map};
+ghost use Rattle.std.specs.Prelude.{IfOk, IfSome, OnOk, OnErr, if◌then◌else◌};
+ghost use Rattle.dwarf_entries.specs.{Names.EntryNames, Private.PackedNames.unpacked_names};
 ghost use Rattle.dwarf_entries.specs.Private.NameCache.{cached_names_of, slot_at, slot_of};
-ghost use Rattle.dwarf_entries.specs.Private.Narrow.{are_narrow};
 
-use crate::origin_chains::EntryNames;
+use crate::origin_chains::PackedNames;
 use crate::references::UnitPlace;
-use crate::text_offset::{text_by, text_parts};
-use dwarf_bytes::Section;
+use dwarf_walk::narrow;
 use std::alloc::{AllocError, Global};
 
 /// The maximum number of cached targets.
 const SLOTS: usize = 4096;
 
-/// The offset and unit of a target and its names, stored in 32-bit numbers.
+/// The unit and the offset of a target, and its names.
 #[derive(Clone, Copy)]
-pub(crate) struct PackedNames {
+pub(crate) struct CachedTarget {
     unit: u32,
     offset: u32,
-    name_offset: u32,
-    linkage_name_offset: u32,
-    name_section: Section,
-    linkage_name_section: Section,
+    names: PackedNames,
 }
 
-impl PackedNames {
-    /// Packs a target and its names, or returns `None` if a number has more than 32 bits.
-    fn of(place: UnitPlace, names: EntryNames) -> Option<PackedNames>
-        ensures { MatchOption result (are_narrow place names ≡ false)
-            (λ packed. (are_narrow place names ≡ true)
-            × (cached_names_of packed ≡ record { place = place; names = names })) }
+impl CachedTarget {
+    /// Packs a target and its names. A number of 2^32 or more is reported as an allocation failure.
+    fn of(place: UnitPlace, names: PackedNames) -> Result<CachedTarget, AllocError>
+        ensures { IfOk result (λ packed. cached_names_of packed
+            ≡ record { place = place; names = unpacked_names names }) }
     {
-        let unit = narrow_number(place.unit as u64)?;
-        let offset = narrow_number(place.offset as u64)?;
-        let (name_section, name_offset) = text_parts(names.name)?;
-        let (linkage_name_section, linkage_name_offset) = text_parts(names.linkage_name)?;
-        Some(PackedNames {
-            unit,
-            offset,
-            name_offset,
-            linkage_name_offset,
-            name_section,
-            linkage_name_section,
+        Ok(CachedTarget {
+            unit: narrow(place.unit)?,
+            offset: narrow(place.offset)?,
+            names,
         })
-    }
-
-    fn names(&self) -> EntryNames
-        ensures { result ≡ (cached_names_of self.now).names }
-    {
-        EntryNames {
-            name: text_by(self.name_section, self.name_offset),
-            linkage_name: text_by(self.linkage_name_section, self.linkage_name_offset),
-        }
     }
 }
 
@@ -62,7 +40,7 @@ impl PackedNames {
 /// slots. A new entry replaces the old entry of its slot.
 #[derive(Drop)]
 pub(crate) struct NameCache {
-    slots: Vec<Option<PackedNames>>,
+    slots: Vec<Option<CachedTarget>>,
 }
 
 impl NameCache {
@@ -75,29 +53,30 @@ impl NameCache {
     }
 
     /// Returns the names of the target at a place, if they are cached.
-    pub(crate) fn get(&self, place: UnitPlace) -> Option<EntryNames>
+    pub(crate) fn get(&self, place: UnitPlace) -> Option<PackedNames>
         ensures some { IfSome result (λ names. slot_at self.now (slot_of place)
-            ≡ Some (record { place = place; names = names })) }
-        ensures found { (names : Names) → slot_at self.now (slot_of place)
-            ≡ Some (record { place = place; names = names }) → result ≡ Some names }
+            ≡ Some (record { place = place; names = unpacked_names names })) }
+        ensures found { (names : EntryNames) → slot_at self.now (slot_of place)
+            ≡ Some (record { place = place; names = names })
+            → option_map unpacked_names result ≡ Some names }
     {
         let packed = self.slots.get(place.offset % SLOTS)?.as_ref()?;
         if packed.unit as usize == place.unit && packed.offset as usize == place.offset {
-            return Some(packed.names());
+            return Some(packed.names);
         }
         None
     }
 
-    /// Caches the names of the target at a place. Has no effect if a number has more than 32 bits.
-    pub(crate) fn put(&mut self, place: UnitPlace, names: EntryNames) -> Result<(), AllocError>
+    /// Caches the names of the target at a place.
+    pub(crate) fn put(&mut self, place: UnitPlace, names: PackedNames) -> Result<(), AllocError>
         ensures ok { OnOk result ((slot : ℕ) → slot_at self.new slot
-            ≡ if (slot == slot_of place) && are_narrow place names
-            then Some (record { place = place; names = names }) else slot_at self.old slot) }
+            ≡ if slot == slot_of place then Some (record {
+              place = place;
+              names = unpacked_names names;
+            }) else slot_at self.old slot) }
         ensures err { OnErr result ((slot : ℕ) → slot_at self.new slot ≡ slot_at self.old slot) }
     {
-        let Some(packed) = PackedNames::of(place, names) else {
-            return Ok(());
-        };
+        let packed = CachedTarget::of(place, names)?;
         let slot = place.offset % SLOTS;
         self.reach(slot)?;
         self.slots[slot] = Some(packed);
@@ -113,15 +92,5 @@ impl NameCache {
             self.slots.push(None)?;
         }
         Ok(())
-    }
-}
-
-/// Converts a number to 32 bits, or returns `None` if it has more.
-fn narrow_number(number: u64) -> Option<u32>
-    ensures { SomeIff result (number < 2 ^ 32) number }
-{
-    match u32::try_from(number) {
-        Ok(narrow) => Some(narrow),
-        Err(_) => None,
     }
 }

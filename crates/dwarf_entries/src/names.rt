@@ -2,6 +2,7 @@
 
 ghost use Rattle.std.specs.Prelude.{◌≡◌};
 ghost use Rattle.dwarf_entries.specs.Names.{text_in, text_of};
+ghost use Rattle.dwarf_entries.specs.Private.Passes.{str_offsets_at};
 ghost use Rattle.dwarf_entries.specs.Private.StringSections.{AreStringSections};
 ghost use Rattle.dwarf_walk.specs.Sections.{sections_of};
 
@@ -9,22 +10,23 @@ use crate::string_sections::{StringSection, StringSections};
 use crate::text_offset::TextOffset;
 use dwarf_bytes::constants::{DW_FORM_LINE_STRP, DW_FORM_STRING, DW_FORM_STRP};
 use dwarf_bytes::{Cause, Section, TableKind};
-use dwarf_ranges::{Table, item_at};
+use dwarf_ranges::{Bases, Table, item_at};
 use dwarf_units::AttributeValue;
 use dwarf_walk::Sections;
 
-/// Returns the string that a value refers to. `str_offsets` is the string offsets table of the
-/// unit that contains the value.
+/// Returns the string that a value refers to. `unit` is the index of the unit that contains the
+/// value, and `bases` has the bases of each unit.
 // Inlined: called for each name.
 #[inline(always)]
 pub(crate) fn text_of(
     sections: &Sections<'_>,
     strings: &StringSections<'_>,
-    str_offsets: Option<Table>,
+    bases: &[Bases],
+    unit: usize,
     value: AttributeValue,
 ) -> Result<TextOffset, Cause>
     requires { AreStringSections (sections_of sections.now) strings.now }
-    ensures { result ≡ text_of (sections_of sections.now) str_offsets value }
+    ensures { result ≡ text_of (sections_of sections.now) (str_offsets_at bases.now unit) value }
 {
     let number = value.number;
     match value.form {
@@ -35,12 +37,19 @@ pub(crate) fn text_of(
             let offset = item_at(
                 TableKind::StrOffsets,
                 sections.debug_str_offsets,
-                str_offsets,
+                str_offsets_at(bases, unit),
                 number,
             )?;
             text_in(Section::DebugStr, &strings.str, offset)
         }
     }
+}
+
+/// Returns the string offsets table of the unit at an index, if it has one.
+fn str_offsets_at(bases: &[Bases], unit: usize) -> Option<Table>
+    ensures { result ≡ str_offsets_at bases.now unit }
+{
+    bases.get(unit)?.str_offsets
 }
 
 /// Returns the string at an offset of a section. Fails if no NUL follows.

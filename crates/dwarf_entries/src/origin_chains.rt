@@ -7,13 +7,13 @@ ghost use Rattle.dwarf_entries.specs.{Units.CompilationUnit, Names.{Member, chai
 ghost use Rattle.dwarf_entries.specs.Names.{first_on, name_on, names_within};
 ghost use Rattle.dwarf_entries.specs.Private.Members.{IsMember, IsPlaceOf, IsRereadOf, IsFirst};
 ghost use Rattle.dwarf_entries.specs.Private.Members.{AreFirst, FindsFirst};
+ghost use Rattle.dwarf_entries.specs.Private.PackedNames.{unpacked_names, unpacked_text};
 
 use crate::names::text_of;
 use crate::references::UnitPlace;
-use crate::text_offset::TextOffset;
+use crate::text_offset::PackedText;
 use crate::units::Units;
 use dwarf_bytes::Cause;
-use dwarf_ranges::Table;
 use dwarf_units::AttributeValue;
 use dwarf_walk::NamedEntry;
 
@@ -58,9 +58,9 @@ impl FirstNames {
 
 /// The names of an entry.
 #[derive(Clone, Copy)]
-pub(crate) struct EntryNames {
-    pub(crate) name: Option<TextOffset>,
-    pub(crate) linkage_name: Option<TextOffset>,
+pub(crate) struct PackedNames {
+    pub(crate) name: PackedText,
+    pub(crate) linkage_name: PackedText,
 }
 
 impl<'a> Units<'a> {
@@ -73,39 +73,32 @@ impl<'a> Units<'a> {
         &mut self,
         start: UnitEntry,
         remaining: u32,
-    ) -> Result<EntryNames, Cause>
+    ) -> Result<PackedNames, Cause>
         ensures names { (m : Member) → IsMember self.old.units start.unit start.entry m
-            → Gives (λ names. names) result
+            → Gives unpacked_names result
             (names_within remaining self.old.sections self.old.units m) }
         ensures same { self.new ≡ self.old }
     {
         let firsts = self.first_names(start, remaining)?;
         let name = self.text(firsts.name)?;
         let linkage_name = self.text(firsts.linkage_name)?;
-        Ok(EntryNames { name, linkage_name })
+        Ok(PackedNames { name, linkage_name })
     }
 
     /// Returns the string of an attribute, if there is one.
     // Inlined: called for each scope and each reference.
     #[inline(always)]
-    fn text(&self, found: Option<UnitAttribute>) -> Result<Option<TextOffset>, Cause>
+    fn text(&self, found: Option<UnitAttribute>) -> Result<PackedText, Cause>
         ensures { (name : ℕ) (path : List Member)
             → IsFirst self.now.units found (first_on name path)
-            → result ≡ name_on name self.now.sections path }
+            → Gives unpacked_text result (name_on name self.now.sections path) }
     {
         let Some(found) = found else {
-            return Ok(None);
+            return Ok(PackedText::none());
         };
-        let str_offsets = self.str_offsets(found.unit);
-        Ok(Some(text_of(self.sections, &self.strings, str_offsets, found.value)?))
-    }
-
-    /// Returns the string offsets table of a unit, if it has one.
-    fn str_offsets(&self, unit: usize) -> Option<Table>
-        ensures { (u : CompilationUnit) → slice_get self.now.units unit ≡ Some u
-            → result ≡ u.bases.str_offsets }
-    {
-        self.bases.get(unit)?.str_offsets
+        let (bases, unit) = (self.bases.as_slice(), found.unit);
+        let text = text_of(self.sections, &self.strings, bases, unit, found.value)?;
+        Ok(PackedText::of(text)?)
     }
 
     /// Returns the first names of the origin chain of an entry, which may follow at most

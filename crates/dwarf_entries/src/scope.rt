@@ -6,7 +6,7 @@ ghost use Rattle.dwarf_entries.specs.{Scopes.call_line_at, Private.Shared.Packs}
 
 use crate::calls::{CallSite, Calls};
 use crate::scopes::Scopes;
-use crate::text_offset::{TextOffset, text_by, text_parts};
+use crate::text_offset::{PackedText, TextOffset, text_by};
 use dwarf_bytes::Section;
 use dwarf_ranges::Range;
 use dwarf_walk::{ScopeKind, narrow};
@@ -43,8 +43,8 @@ pub(crate) struct ScopeFacts {
     pub(crate) offset: usize,
     pub(crate) number: usize,
     pub(crate) end: usize,
-    pub(crate) name: Option<TextOffset>,
-    pub(crate) linkage_name: Option<TextOffset>,
+    pub(crate) name: PackedText,
+    pub(crate) linkage_name: PackedText,
     pub(crate) site: CallSite,
 }
 
@@ -69,22 +69,18 @@ impl Scope {
     ) -> Result<Scope, AllocError>
         ensures { IfOk result (Packs facts ranges_end wide.old.items wide.new.items) }
     {
-        let (name_section, name_offset) = text_parts(facts.name).ok_or(AllocError)?;
-        let (linkage_name_section, linkage_name_offset) = text_parts(facts.linkage_name).ok_or(
-            AllocError,
-        )?;
         let (calls, call_file, call_line) = facts.site.pack(wide)?;
         Ok(Scope {
             offset: narrow(facts.offset)?,
             number: narrow(facts.number)?,
             end: narrow(facts.end)?,
             ranges_end: narrow(ranges_end)?,
-            name_offset,
-            linkage_name_offset,
+            name_offset: facts.name.offset,
+            linkage_name_offset: facts.linkage_name.offset,
             call_file,
             call_line,
-            name_section,
-            linkage_name_section,
+            name_section: facts.name.section,
+            linkage_name_section: facts.linkage_name.section,
             calls,
             kind: facts.kind,
         })

@@ -21,7 +21,7 @@ pub(crate) struct ScopeLists {
 }
 
 impl ScopeLists {
-    /// Creates lists with capacity for a number of scopes.
+    /// Creates lists with capacity for a number of scopes and as many ranges.
     pub(crate) fn new(alloc: Global, count: usize) -> Result<ScopeLists, AllocError>
         ensures scopes { IfOk result (λ lists. lists.scopes.items ≡ []) }
         ensures ranges { IfOk result (λ lists. lists.ranges.items ≡ []) }
@@ -30,7 +30,7 @@ impl ScopeLists {
     {
         Ok(ScopeLists {
             scopes: Vec::with_capacity(alloc, count)?,
-            ranges: Vec::new(alloc),
+            ranges: Vec::with_capacity(alloc, count)?,
             wide: Vec::new(alloc),
         })
     }

@@ -13,7 +13,7 @@ ghost use Rattle.dwarf_entries.specs.Private.EntryOffsets.{scope_count};
 ghost use Rattle.dwarf_entries.specs.Private.Shared.{AddsFacts};
 
 use crate::calls::CallSite;
-use crate::origin_chains::{EntryNames, UnitEntry};
+use crate::origin_chains::{PackedNames, UnitEntry};
 use crate::scope::ScopeFacts;
 use crate::scope_lists::ScopeLists;
 use crate::units::Units;
@@ -153,7 +153,7 @@ impl<'a> Units<'a> {
 }
 
 /// Combines the entry of a scope and its names.
-fn facts(numbers: ScopeNumbers, entry: &ScopeEntry, names: EntryNames) -> ScopeFacts
+fn facts(numbers: ScopeNumbers, entry: &ScopeEntry, names: PackedNames) -> ScopeFacts
     requires { numbers.number + numbers.inside + 1 < 2 ^ 64 }
     ensures { result ≡ scope_facts numbers entry.now names }
 {

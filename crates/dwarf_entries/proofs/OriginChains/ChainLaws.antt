@@ -4,7 +4,7 @@ use Rattle.dwarf_entries.proofs.Common
 use Common.{AreFirst, AttributeValue, Cause, CompilationUnit, DW_AT_LINKAGE_NAME, DW_AT_NAME}
 use Common.{EntryNames, Err, Finds, FindsFirst, FirstNames, IsCacheOf, IsFirst, IsMember, IsPlaceOf}
 use Common.{List, Member, NameCache, NamedEntry, None, Ok, Option, OriginDepth, Reference, Result}
-use Common.{Sections, Some, UnitAttribute, UnitEntry, UnitPlace, [], ap, append_assoc, are_narrow}
+use Common.{Sections, Some, UnitAttribute, UnitEntry, UnitPlace, [], ap, append_assoc}
 use Common.{arith, attribute, chain_within, common_steps, first_on, if◌then◌else◌, member_in}
 use Common.{name_on, names_of, next_of, of_member, option_map, option_or, or_else, references_limit}
 use Common.{refl, same_Some, second_names, slice_get, slot_at, slot_of, suc, sym, target_names}
@@ -110,7 +110,7 @@ module _ {units : List CompilationUnit} {remaining : ℕ} {m : Member} {left : �
 -- The cache remains valid after the names of one more entry are added.
 pub cache-more : (s : Sections) (units : List CompilationUnit) (old new : NameCache)
     (place : UnitPlace) (names : EntryNames) → IsCacheOf s units old
-    → ((slot : ℕ) → slot_at new slot ≡ if (slot == slot_of place) && are_narrow place names then
+    → ((slot : ℕ) → slot_at new slot ≡ if slot == slot_of place then
     Some (record { place = place; names = names }) else slot_at old slot)
     → (member_in units place.unit place.offset >>= λ m. second_names s units m) ≡ Ok names
     → IsCacheOf s units new

@@ -1,9 +1,9 @@
 -- The cache of the names of reference targets, for the contracts of the pass over scopes.
 use Rattle.dwarf_bytes.specs.{Bind.◌>>=◌, declared.fault.Cause.Cause}
-use Rattle.dwarf_entries.specs.{Names.{Member, names_within, target_of}, Private.Members.member_in}
-use Rattle.dwarf_entries.specs.{Scopes.text_by, Units.CompilationUnit}
-use Rattle.dwarf_entries.specs.declared.name_cache.{NameCache.NameCache, PackedNames.PackedNames}
-use Rattle.dwarf_entries.specs.declared.origin_chains.EntryNames.{EntryNames}
+use Rattle.dwarf_entries.specs.Names.{EntryNames, Member, names_within, target_of}
+use Rattle.dwarf_entries.specs.Private.{Members.member_in, PackedNames.unpacked_names}
+use Rattle.dwarf_entries.specs.Units.{CompilationUnit}
+use Rattle.dwarf_entries.specs.declared.name_cache.{CachedTarget.CachedTarget, NameCache.NameCache}
 use Rattle.dwarf_entries.specs.declared.references.UnitPlace.{UnitPlace}
 use Rattle.dwarf_units.specs.declared.attributes.AttributeValue.{AttributeValue}
 use Rattle.dwarf_walk.specs.Sections.{Sections}
@@ -19,13 +19,10 @@ pub record CachedNames : Type 0 where
   pub names : EntryNames
 
 -- The same, from its packed form.
-abbrev pub cached_names_of : PackedNames → CachedNames
+abbrev pub cached_names_of : CachedTarget → CachedNames
 cached_names_of packed = record {
   place = record { unit = packed.unit; offset = packed.offset };
-  names = record {
-    name = text_by packed.name_section packed.name_offset;
-    linkage_name = text_by packed.linkage_name_section packed.linkage_name_offset;
-  };
+  names = unpacked_names packed.names;
 }
 
 -- The contents of a slot.

@@ -4,15 +4,17 @@ use Rattle.dwarf_bytes.specs.declared.{fault.LoadFault.LoadFault, format.Format.
 use Rattle.dwarf_entries.specs.{Passes.PassedTo, Private.Shared.AreConsecutive, Scopes.ParsedScope}
 use Rattle.dwarf_entries.specs.Scopes.{ScopeSite, all_scopes, all_sites, items_limit, parse_scope}
 use Rattle.dwarf_entries.specs.Scopes.{roots_from, scopes_of, stmt_list_by_number, stmt_list_of}
-use Rattle.dwarf_entries.specs.{Units.CompilationUnit, declared.origin_chains.EntryNames.EntryNames}
+use Rattle.dwarf_entries.specs.Units.{CompilationUnit}
+use Rattle.dwarf_entries.specs.declared.origin_chains.PackedNames.{PackedNames}
 use Rattle.dwarf_entries.specs.declared.scope.ScopeFacts.{ScopeFacts}
 use Rattle.dwarf_entries.specs.declared.scope_lists.ScopeLists.{ScopeLists}
 use Rattle.dwarf_entries.specs.declared.unit_scopes.ScopeNumbers.{ScopeNumbers}
-use Rattle.dwarf_ranges.specs.{Bases.{bases_by, no_bases}, declared.bases.Bases.Bases}
+use Rattle.dwarf_ranges.specs.Bases.{bases_by, no_bases}
+use Rattle.dwarf_ranges.specs.declared.bases.{Bases.Bases, Table.Table}
 use Rattle.dwarf_walk.specs.{ScopeEntries.is_scope, Sections.Sections, Stored.scope_entry}
 use Rattle.dwarf_walk.specs.declared.unit_entries.{RootEntry.RootEntry, ScopeEntry.ScopeEntry}
 use Rattle.std.specs.Prelude.{Err, List, None, Ok, Option, Result, Some, count_by, length, map}
-use Rattle.std.specs.Prelude.{slice_get, sum_by, take, ℕ, ◌+◌, ◌-◌, ◌≡◌, ◌⊎◌}
+use Rattle.std.specs.Prelude.{option_and_then, slice_get, sum_by, take, ℕ, ◌+◌, ◌-◌, ◌≡◌, ◌⊎◌}
 use Rattle.dwarf_bytes.specs.declared.fault.Section.TheVariants as names
 
 -- The bases that a root defines. A fault is reported at the offset of the root.
@@ -23,6 +25,10 @@ bases_in s format (Some root) = with_offset root.offset
 
 abbrev pub bases_of : CompilationUnit → Bases
 bases_of unit = unit.bases
+
+-- The string offsets table of the unit at an index, given the bases of each unit.
+abbrev pub str_offsets_at : List Bases → ℕ → Option Table
+str_offsets_at bases unit = option_and_then (λ b. b.str_offsets) (slice_get bases unit)
 
 -- The number of scopes of some units.
 abbrev pub number_of_scopes : List CompilationUnit → ℕ
@@ -45,7 +51,7 @@ pub record IsScopeSite (us : List CompilationUnit) (numbers : ScopeNumbers) (ent
   pub budget_is : budget ≡ items_limit - sum_by (λ s. s.items) before
 
 -- The data of a scope, given its entry and its names.
-abbrev pub scope_facts : ScopeNumbers → ScopeEntry → EntryNames → ScopeFacts
+abbrev pub scope_facts : ScopeNumbers → ScopeEntry → PackedNames → ScopeFacts
 scope_facts numbers entry names = record {
   kind = entry.kind;
   offset = entry.entry.offset;

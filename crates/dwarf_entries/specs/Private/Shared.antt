@@ -6,6 +6,7 @@ use Rattle.dwarf_bytes.specs.{declared.fault.Cause.Cause, Refusals.Fails}
 use Rattle.dwarf_entries.specs.{declared.calls.CallSite.CallSite, declared.calls.Calls.Calls}
 use Rattle.dwarf_entries.specs.{declared.scope.Root.Root, declared.scope.Scope.Scope as StoredScope}
 use Rattle.dwarf_entries.specs.declared.scope.ScopeFacts.{ScopeFacts}
+use Rattle.dwarf_entries.specs.Private.PackedNames.{unpacked_text}
 use Rattle.dwarf_entries.specs.{declared.scope_lists.ScopeLists.ScopeLists, Scopes.Scope}
 use Rattle.dwarf_entries.specs.Scopes.{scope_of, stmt_list_by_number, wide_index, ParsedScope}
 use Rattle.dwarf_ranges.specs.declared.range.Range.{Range}
@@ -19,8 +20,8 @@ facts_of roots ranges s = record {
   number = s.number;
   end = s.«end»;
   ranges = ranges;
-  name = s.name;
-  linkage_name = s.linkage_name;
+  name = unpacked_text s.name;
+  linkage_name = unpacked_text s.linkage_name;
   stmt_list = stmt_list_by_number roots s.number;
   call_file = s.site.file;
   call_line = s.site.line;

@@ -1,7 +1,7 @@
 use Rattle.dwarf_entries.proofs
 use proofs.{◌≡◌, ℕ, ◌≤◌, List, [], ◌∷◌, ◌++◌, length, take, ◌∙◌, subst, arith, length-take}
-use proofs.{leb-true, Format, Declaration, All-contains, Lists, filter_map, LocatedNode, node_at}
-use proofs.{die_of, node_at-advances, list-in, FillsUnit, HasBounds, headers-in}
+use proofs.{leb-true, Format, Declaration, All-contains, Lists, LocatedNode, node_at}
+use proofs.{node_at-advances, list-in, HasBounds, headers-in}
 use Rattle.dwarf_entries.proofs.tree_laws.entries_are_contiguous.Goals as goal
 
 -- The last node ends where the unit ends.

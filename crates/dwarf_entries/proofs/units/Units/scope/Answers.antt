@@ -1,20 +1,21 @@
 use Rattle.dwarf_entries.proofs
-use proofs.{AddsFacts, AddsRanges, AreUnitsOf, Bases, Cause, EntryNames, Err, Inside, IsMember}
+use proofs.{AddsFacts, AddsRanges, AreUnitsOf, Bases, Cause, Err, Inside, IsMember, PackedNames}
 use proofs.{IsScopeSite, List, Member, ObjectUnits, Ok, ParsedScope, Range, Result, ScopeEntry}
 use proofs.{ScopeNumbers, ScopeSite, [], ap, arith, bases_of, budget-left, covers_by, covers_of}
 use proofs.{exit, get_or, get_or_from_slice_get, names_of, refl, roots_from, scope_at, scope_facts}
-use proofs.{scope_of_site, sections_of, seen, slice_get-map, step-fault, ℕ, ◌>>=◌, ◌∙◌, ◌≡◌}
+use proofs.{scope_of_site, sections_of, seen, slice_get-map, step-fault, unpacked_names, ℕ, ◌>>=◌}
+use proofs.{◌∙◌, ◌≡◌}
 use Rattle.dwarf_entries.proofs.units.Units.scope.Goals as goal
 
 module _ {w : ObjectUnits} {u : Inside} (are : AreUnitsOf w u) {before : List ParsedScope}
     {p : ScopeSite} {numbers : ScopeNumbers} {budget : ℕ} {entry : ScopeEntry}
-    (site : IsScopeSite w.units numbers entry budget before p) (names : EntryNames)
+    (site : IsScopeSite w.units numbers entry budget before p) (names : PackedNames)
     (names_are : (m : Member) → IsMember w.units numbers.unit entry.entry m
-    → names_of w.sections w.units m ≡ Ok names) (bases d : Bases)
+    → names_of w.sections w.units m ≡ Ok (unpacked_names names)) (bases d : Bases)
     (bases_are : bases ≡ get_or u.bases.items numbers.unit d) where
   after-names : scope_at w.sections w.units before p
       ≡ (covers_by budget w.sections bases entry.low_pc entry.high_pc entry.ranges
-      >>= λ covering. Ok (scope_of_site before p names covering))
+      >>= λ covering. Ok (scope_of_site before p (unpacked_names names) covering))
   unfolding covers_of
   after-names =
       let named = names_are p.member (grind arith) in
