@@ -84,11 +84,11 @@ fn refused_samples(rt: HostRuntime) {
     agree_on(&rt, &origin_of_no_entry());
 }
 
-/// Returns the sections of two units, one after the other. The units use all tables of indexes,
-/// both kinds of references, and range lists.
-fn object() -> [u8; 242] {
+/// Returns the `.debug_abbrev` of two units, which use all tables of indexes, both kinds of
+/// references, and range lists.
+fn abbreviations() -> [u8; 68] {
     [
-        // .debug_abbrev: unit: stmt_list, str_offsets_base, addr_base, rnglists_base, low_pc
+        // unit: stmt_list, str_offsets_base, addr_base, rnglists_base, low_pc
         1, 0x11, 1, 0x10, 0x17, 0x72, 0x17, 0x73, 0x17, 0x74, 0x17, 0x11, 0x29, 0, 0,
         // subprogram with children: name, linkage_name, low_pc, high_pc
         2, 0x2e, 1, 0x03, 0x25, 0x6e, 0x0e, 0x11, 0x01, 0x12, 0x0b, 0, 0,
@@ -102,7 +102,13 @@ fn object() -> [u8; 242] {
         6, 0x2e, 0, 0x31, 0x10, 0, 0,
         // end of the table
         0,
-        // .debug_info: header of a compilation unit
+    ]
+}
+
+/// Returns the `.debug_info` of the two units.
+fn units() -> [u8; 88] {
+    [
+        // header of a compilation unit
         59, 0, 0, 0, 5, 0, 1, 8, 0, 0, 0, 0,
         // 12: unit, with bases 8, 8 and 12
         1, 0, 0, 0, 0, 8, 0, 0, 0, 8, 0, 0, 0, 12, 0, 0, 0, 0,
@@ -122,6 +128,12 @@ fn object() -> [u8; 242] {
         21, 0, 0, 0, 5, 0, 3, 8, 0, 0, 0, 0,
         // 75: subprogram that completes the entry at 57, with the range list at 28
         4, 57, 0, 0, 0, 0, 0, 0, 0, 28, 0, 0, 0,
+    ]
+}
+
+/// Returns the sections that the two units refer to, one after the other.
+fn tables() -> [u8; 86] {
+    [
         // .debug_str: `ab` and `c`
         0x61, 0x62, 0, 0x63, 0,
         // .debug_str_offsets: 3 and 0
@@ -139,24 +151,28 @@ fn object() -> [u8; 242] {
     ]
 }
 
-/// Returns the sections of the bytes of `object`.
-fn sections_in(bytes: &[u8; 242]) -> Sections<'_> {
+/// Returns the sections of the two units.
+fn sections_in<'a>(
+    abbreviations: &'a [u8; 68],
+    units: &'a [u8; 88],
+    tables: &'a [u8; 86],
+) -> Sections<'a> {
     Sections {
-        debug_abbrev: &bytes[..68],
-        debug_info: &bytes[68..156],
+        debug_abbrev: abbreviations,
+        debug_info: units,
         debug_line: &[],
-        debug_str: &bytes[156..161],
-        debug_str_offsets: &bytes[161..177],
-        debug_line_str: &bytes[177..179],
-        debug_addr: &bytes[179..203],
-        debug_rnglists: &bytes[203..],
+        debug_str: &tables[..5],
+        debug_str_offsets: &tables[5..21],
+        debug_line_str: &tables[21..23],
+        debug_addr: &tables[23..47],
+        debug_rnglists: &tables[47..],
     }
 }
 
 #[test]
 fn two_units(rt: HostRuntime) {
-    let bytes = object();
-    let all = sections_in(&bytes);
+    let (abbreviations, units, tables) = (abbreviations(), units(), tables());
+    let all = sections_in(&abbreviations, &units, &tables);
     let read = scopes_of(&rt, &all);
     let counts = (read.roots().len(), read.scopes().len());
     are_equal(&rt, counts, (2, 4));
@@ -175,15 +191,49 @@ fn changes_of(byte: u8) -> [u8; 6] {
     ]
 }
 
-/// Each byte of the two units and their tables, changed to several other values.
+/// Each byte of the abbreviation table, changed to several other values.
 #[test]
-fn changed_bytes(rt: HostRuntime) {
-    let whole = object();
+fn changed_abbreviations(rt: HostRuntime) {
+    let (whole, units, tables) = (abbreviations(), units(), tables());
     for place in 0..whole.len() {
         for new in changes_of(whole[place]) {
-            let mut bytes = object();
+            let mut bytes = abbreviations();
             bytes[place] = new;
-            agree(&rt, (place, new), &sections_in(&bytes));
+            agree(&rt, (place, new), &sections_in(&bytes, &units, &tables));
+        }
+    }
+}
+
+/// Each byte of the units, changed to several other values.
+#[test]
+fn changed_units(rt: HostRuntime) {
+    let (abbreviations, whole, tables) = (abbreviations(), units(), tables());
+    for place in 0..whole.len() {
+        for new in changes_of(whole[place]) {
+            let mut bytes = units();
+            bytes[place] = new;
+            agree(
+                &rt,
+                (place, new),
+                &sections_in(&abbreviations, &bytes, &tables),
+            );
+        }
+    }
+}
+
+/// Each byte of the sections that the units refer to, changed to several other values.
+#[test]
+fn changed_tables(rt: HostRuntime) {
+    let (abbreviations, units, whole) = (abbreviations(), units(), tables());
+    for place in 0..whole.len() {
+        for new in changes_of(whole[place]) {
+            let mut bytes = tables();
+            bytes[place] = new;
+            agree(
+                &rt,
+                (place, new),
+                &sections_in(&abbreviations, &units, &bytes),
+            );
         }
     }
 }
