@@ -31,10 +31,10 @@ fn a_path_that_ends_in_a_slash_has_no_base_name(rt: HostRuntime) {
     );
 }
 
-/// Answers for the first sample object, loaded at 0x10000: options, input and output.
+/// All frames for the first sample object, loaded at 0x10000: options, input and output.
 #[test]
-fn answers_of_the_first_object(rt: HostRuntime) -> Result<(), Fail> {
-    let rows: [(&[u8], &[u8], &[u8]); 9] = [
+fn frames_of_the_first_object(rt: HostRuntime) -> Result<(), Fail> {
+    let rows: [(&[u8], &[u8], &[u8]); 3] = [
         // all frames with names
         (
             b"fi",
@@ -48,6 +48,19 @@ fn answers_of_the_first_object(rt: HostRuntime) -> Result<(), Fail> {
             b"0x0000000000011004: leaf at /src/a.c:11\n (inlined by) \
             mid at /src/a.c:5\n (inlined by) main at /src/a.c:20\n",
         ),
+        // all frames without names
+        (b"i", b"11004\n", b"/src/a.c:11\n/src/a.c:5\n/src/a.c:20\n"),
+    ];
+    for (letters, input, wanted) in rows {
+        loaded(&rt, rt.alloc(), letters, input, wanted)?;
+    }
+    Ok(())
+}
+
+/// Other answers for that object: options, input and output.
+#[test]
+fn answers_of_the_first_object(rt: HostRuntime) -> Result<(), Fail> {
+    let rows: [(&[u8], &[u8], &[u8]); 6] = [
         // ranges are half open
         (b"f", b"0x11008\n", b"mid\n/src/a.c:11\n"),
         // plain answers
@@ -62,8 +75,6 @@ fn answers_of_the_first_object(rt: HostRuntime) -> Result<(), Fail> {
             b"load b 0x10fff A\n11004\n",
             b"refused overlap a\na.c:11\n",
         ),
-        // all frames without names
-        (b"i", b"11004\n", b"/src/a.c:11\n/src/a.c:5\n/src/a.c:20\n"),
         // an address and its place on a line
         (b"ap", b"11004\n", b"0x0000000000011004: /src/a.c:11\n"),
         // nothing known has no at

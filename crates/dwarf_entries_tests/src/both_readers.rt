@@ -181,14 +181,8 @@ fn two_units(rt: HostRuntime) {
 
 /// Returns values that a byte is changed to.
 fn changes_of(byte: u8) -> [u8; 6] {
-    [
-        0,
-        1,
-        byte.wrapping_add(1),
-        byte.wrapping_sub(1),
-        byte ^ 0x80,
-        0xff,
-    ]
+    let (next, previous) = (byte.wrapping_add(1), byte.wrapping_sub(1));
+    [0, 1, next, previous, byte ^ 0x80, 0xff]
 }
 
 /// Each byte of the abbreviation table, changed to several other values.
