@@ -1,9 +1,8 @@
 //! Where the entries of a declaration have the value of each used attribute, if all attributes have
 //! a fixed size (DWARF 5, 7.5.3).
 
-ghost use Rattle.std.specs.Prelude.{◌≡◌, ℕ, List, IfSome, find, ◌==◌, option_map};
+ghost use Rattle.std.specs.Prelude.{◌≡◌, ℕ, List, Some, IfSome};
 ghost use Rattle.dwarf_bytes.specs.Refusals.{ReadsField};
-ghost use Rattle.dwarf_units.specs.Private.Names.{slot_of};
 ghost use Rattle.dwarf_units.specs.Private.Slots.{AreSlots, field_after, slot_value, value_in};
 ghost use Rattle.dwarf_units.specs.Private.Slots.{width_in};
 
@@ -26,14 +25,11 @@ pub(crate) enum ValueSlot {
 }
 
 impl ValueSlot {
-    /// Returns the slot of an attribute, or `None` if it does not fit.
-    fn of(format: Format, position: Option<UsedPosition>) -> Option<ValueSlot>
+    /// Returns the slot of the attribute at a position, or `None` if it does not fit.
+    fn of(format: Format, position: UsedPosition) -> Option<ValueSlot>
         ensures { IfSome result (λ slot. (bytes : List ℕ) (first : ℕ)
-            → slot_value bytes first slot ≡ option_map (value_in format bytes first) position) }
+            → slot_value bytes first slot ≡ Some (value_in format bytes first position)) }
     {
-        let Some(position) = position else {
-            return Some(ValueSlot::Missing);
-        };
         match position.value {
             UsedValue::Constant(number) => {
                 if position.form != DW_FORM_IMPLICIT_CONST {
@@ -73,17 +69,12 @@ pub(crate) fn slots_of(format: Format, used: &[UsedPosition]) -> Option<[ValueSl
     ensures { IfSome result (AreSlots format used.now) }
 {
     let mut slots = [ValueSlot::Missing; SLOTS];
-    for slot in 0..SLOTS {
-        slots[slot] = ValueSlot::of(format, first_in(used, slot).copied())?;
+    // From the last position to the first, because the first position of a name counts.
+    for index in (0..used.len()).rev() {
+        let position = used[index];
+        slots[position.name.slot()] = ValueSlot::of(format, position)?;
     }
     Some(slots)
-}
-
-/// Returns the first position in a slot.
-fn first_in(used: &[UsedPosition], slot: usize) -> Option<&UsedPosition>
-    ensures { option_map (λ p. p.now) result ≡ find (λ p. slot_of p.name == slot) used.now }
-{
-    used.iter().find(|position| position.name.slot() == slot)
 }
 
 /// Returns the width of the values in a layout, if they are numbers of a fixed size.
