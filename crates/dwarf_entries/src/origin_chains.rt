@@ -144,7 +144,7 @@ impl<'a> Units<'a> {
         };
         let entry = self
             .reader
-            .names_at(&stored.header, &self.bitmap, place.offset)?;
+            .names_at(&stored.header, stored.table, &self.bitmap, place.offset)?;
         Ok(UnitEntry {
             unit: place.unit,
             entry,

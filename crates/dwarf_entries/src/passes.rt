@@ -38,7 +38,8 @@ pub(crate) fn all_entries(
     for header in headers {
         let number = tables.number_of(alloc, header, 0)?;
         let table = tables.table(number);
-        let unit = entries(alloc, sections.debug_info, *header, &table, bitmap)?;
+        let info = sections.debug_info;
+        let unit = entries(alloc, info, *header, number, &table, bitmap)?;
         units.push(unit)?;
     }
     Ok(units)

@@ -62,7 +62,8 @@ impl<'a> Units<'a> {
     {
         let stored = &self.units[unit];
         let place = stored.scopes[index];
-        let entry = match self.reader.scope(&stored.header, place.offset as usize) {
+        let offset = place.offset as usize;
+        let entry = match self.reader.scope(&stored.header, stored.table, offset) {
             Err(cause) => {
                 let at = u64::from(place.offset);
                 return Err(LoadFault::at_item(Section::DebugInfo, cause, at));

@@ -1,7 +1,7 @@
 //! A cache of the abbreviation tables of all units (DWARF 5, 7.5.3).
 
 ghost use Rattle.std.specs.Prelude.{◌≡◌, ℕ, ◌+◌, ◌<◌, ◌≤◌, List, Some, Ok, length, nat_lt};
-ghost use Rattle.std.specs.{Prelude.{slice_get, IfOk, OnOk, IfSome, IfNone, IsTrue}, List.All};
+ghost use Rattle.std.specs.{Prelude.{slice_get, IfOk, OnOk, IfSome, IfNone}, List.All};
 ghost use Rattle.dwarf_bytes.specs.Refusals.{in_section};
 ghost use Rattle.dwarf_forms.specs.Declarations.{Declaration};
 ghost use Rattle.dwarf_units.specs.Units.{declarations_limit, tables_of};
@@ -149,15 +149,6 @@ impl<'a> Tables<'a> {
         }
         let mut left = DECLARATIONS_LIMIT;
         self.add(alloc, unit, &mut left)
-    }
-
-    /// Returns whether the table at an index is the table of a unit.
-    // Inlined: called for each scope and each reference.
-    #[inline(always)]
-    pub fn is_number_of(&self, unit: &UnitHeader, number: usize) -> bool
-        ensures { IsTrue result → IsNumberOf self.now.section unit.now self.now.tables number }
-    {
-        self.store.is_index(unit, number)
     }
 
     /// Returns the table at an index.

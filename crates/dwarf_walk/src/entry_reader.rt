@@ -36,7 +36,7 @@ pub struct EntryReader<'a> {
     pub(crate) info: &'a [u8],
     /// The abbreviation tables of the units.
     pub tables: Tables<'a>,
-    /// The index of the table that was used last.
+    /// The index of the selected table.
     pub(crate) number: usize,
     /// The used attributes of the entry that was read last.
     pub(crate) found: UsedAttributes,
@@ -63,15 +63,21 @@ impl<'a> EntryReader<'a> {
         }
     }
 
-    /// Re-reads the scope at an offset in the unit of `header`. Fails with `Cause::Reference` if
-    /// the entry is not a scope.
-    pub fn scope(&mut self, header: &UnitHeader, offset: usize) -> Result<ScopeEntry, Cause>
+    /// Re-reads the scope at an offset in the unit of `header`. Tries the table at the index `guess`
+    /// first. Fails with `Cause::Reference` if the entry is not a scope.
+    pub fn scope(
+        &mut self,
+        header: &UnitHeader,
+        guess: usize,
+        offset: usize,
+    ) -> Result<ScopeEntry, Cause>
         ensures scope { (s : SectionBytes) (table : List Declaration) → IsReaderOf s self.old
             → declarations_of declarations_limit s.debug_abbrev header.now.abbreviations ≡ Ok table
             → Gives (λ entry. entry) result (scope_entry_at header.now.format table
             (take header.now.«end» s.debug_info) offset) }
         ensures reader { (s : SectionBytes) → IsReaderOf s self.old → IsReaderOf s self.new }
     {
+        self.select_table(header, guess)?;
         if let Some(entry) = self.fixed_size_entry(header, offset) {
             let kind = kind_of(entry.tag).ok_or(Cause::Reference)?;
             return Ok(ScopeEntry::of(offset, kind, &entry.values));
@@ -81,14 +87,16 @@ impl<'a> EntryReader<'a> {
         Ok(ScopeEntry::of(offset, kind, &self.found))
     }
 
-    /// Returns the names and the reference of the entry at an offset in the unit of `header`. A long
-    /// entry is cached when it is first read. If the table of the unit is not cached permanently,
-    /// the first read caches all entries of the unit whose offsets are in `bitmap`.
+    /// Returns the names and the reference of the entry at an offset in the unit of `header`. Tries
+    /// the table at the index `guess` first. A long entry is cached when it is first read. If the
+    /// table of the unit is not cached permanently, the first read caches all entries of the unit
+    /// whose offsets are in `bitmap`.
     // Inlined: called for each reference.
     #[inline(always)]
     pub fn names_at(
         &mut self,
         header: &UnitHeader,
+        guess: usize,
         bitmap: &EntryBitmap,
         offset: usize,
     ) -> Result<NamedEntry, Cause>
@@ -107,11 +115,11 @@ impl<'a> EntryReader<'a> {
         if let Some(entry) = self.long.get(header, offset) {
             return Ok(entry);
         }
-        let entry = self.reread_names(header, offset)?;
+        let entry = self.reread_names(header, guess, offset)?;
         if !self.tables.stays(self.number) {
-            self.cache_unit(header, bitmap)?;
+            self.cache_unit(header, guess, bitmap)?;
         } else if self.len > LONG {
-            self.cache_entry(header, offset)?;
+            self.cache_entry(header, guess, offset)?;
         }
         Ok(entry)
     }
@@ -120,7 +128,12 @@ impl<'a> EntryReader<'a> {
     /// cannot be read are skipped.
     #[cold]
     #[inline(never)]
-    fn cache_unit(&mut self, header: &UnitHeader, bitmap: &EntryBitmap) -> Result<(), AllocError>
+    fn cache_unit(
+        &mut self,
+        header: &UnitHeader,
+        guess: usize,
+        bitmap: &EntryBitmap,
+    ) -> Result<(), AllocError>
         ensures reader { (s : SectionBytes) → IsReaderOf s self.old → IsReaderOf s self.new }
         ensures cached { OnOk result ((s : SectionBytes) (at : ℕ) → IsReaderOf s self.old
             → header.now.first ≤ at → at < header.now.«end» → has_entry bitmap.now at ≡ true
@@ -128,7 +141,7 @@ impl<'a> EntryReader<'a> {
     {
         for offset in header.first..header.end {
             if bitmap.has_entry(offset) {
-                self.cache_entry(header, offset)?;
+                self.cache_entry(header, guess, offset)?;
             }
         }
         Ok(())
@@ -137,14 +150,19 @@ impl<'a> EntryReader<'a> {
     /// Re-reads and caches the entry at an offset. An entry that cannot be read is skipped.
     #[cold]
     #[inline(never)]
-    fn cache_entry(&mut self, header: &UnitHeader, offset: usize) -> Result<(), AllocError>
+    fn cache_entry(
+        &mut self,
+        header: &UnitHeader,
+        guess: usize,
+        offset: usize,
+    ) -> Result<(), AllocError>
         ensures reader { (s : SectionBytes) → IsReaderOf s self.old → IsReaderOf s self.new }
         ensures cached { OnOk result ((s : SectionBytes) → IsReaderOf s self.old
             → IsCachedAt s header.now self.new offset) }
         ensures others { OnOk result ((at : ℕ) → (at ≡ offset → ⊥)
             → cached_at self.new.long at ≡ cached_at self.old.long at) }
     {
-        match self.reread_names(header, offset) {
+        match self.reread_names(header, guess, offset) {
             Ok(entry) => {
                 self.long.insert(header, offset, entry)?;
                 Ok(())
@@ -159,7 +177,12 @@ impl<'a> EntryReader<'a> {
     /// Re-reads the names and the reference of an entry without using the cache.
     // Inlined: called for each reference.
     #[inline(always)]
-    fn reread_names(&mut self, header: &UnitHeader, offset: usize) -> Result<NamedEntry, Cause>
+    fn reread_names(
+        &mut self,
+        header: &UnitHeader,
+        guess: usize,
+        offset: usize,
+    ) -> Result<NamedEntry, Cause>
         ensures names_at { GivesNames header.now offset self.old result }
         ensures reader { (s : SectionBytes) → IsReaderOf s self.old → IsReaderOf s self.new }
         ensures long { self.new.long ≡ self.old.long }
@@ -170,6 +193,7 @@ impl<'a> EntryReader<'a> {
             → len_at header.now.format table (take header.now.«end» s.debug_info) offset
             ≡ Ok self.new.len) }
     {
+        self.select_table(header, guess)?;
         if let Some(entry) = self.fixed_size_entry(header, offset) {
             let len = entry.after.saturating_sub(offset);
             let names = NamedEntry::of(offset, &entry.values);

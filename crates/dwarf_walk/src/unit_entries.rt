@@ -55,6 +55,8 @@ pub struct RootEntry {
 #[derive(Drop)]
 pub struct UnitEntries {
     pub header: UnitHeader,
+    /// The index of its abbreviation table, which is tried first when an entry is re-read.
+    pub table: usize,
     pub root: Option<RootEntry>,
     pub scopes: Vec<ScopePlace>,
 }

@@ -35,14 +35,15 @@ pub(crate) struct Walk {
     pub(crate) least: u32,
 }
 
-/// Parses the entries of a unit and sets the bit of each in `bitmap`. A fault is reported at the
-/// offset of its entry. A list of children that is not terminated is reported at the offset of the
-/// unit. Both are offsets in `.debug_info`.
+/// Parses the entries of a unit and sets the bit of each in `bitmap`. `number` is the index of its
+/// table. A fault is reported at the offset of its entry. A list of children that is not terminated
+/// is reported at the offset of the unit. Both are offsets in `.debug_info`.
 #[tactic(auto, unfolding(dwarf_units::specs::Entries::entries_of))]
 pub fn entries(
     alloc: Global,
     info: &[u8],
     header: UnitHeader,
+    number: usize,
     table: &UnitTable<'_>,
     bitmap: &mut EntryBitmap,
 ) -> Result<UnitEntries, LoadFault>
@@ -59,6 +60,7 @@ pub fn entries(
     }
     Ok(UnitEntries {
         header,
+        table: number,
         root: walk.root,
         scopes: count_descendants(alloc, &walk.scopes)?,
     })

@@ -2,7 +2,7 @@
 use Rattle.dwarf_bytes.specs.{Bind.◌>>=◌, Refusals.{Fails, Gives}, declared.fault.Cause.Cause}
 use Rattle.dwarf_bytes.specs.declared.format.Format.{Format}
 use Rattle.dwarf_forms.specs.{Declarations.Declaration, Tables.declarations_of}
-use Rattle.dwarf_units.specs.{Entries.entry_at, Private.{AbbreviationTables.Table, Tables.IsAt}}
+use Rattle.dwarf_units.specs.{Entries.entry_at, Private.Tables.IsNumberOf}
 use Rattle.dwarf_units.specs.{Units.declarations_limit, declared.unit_headers.UnitHeader.UnitHeader}
 use Rattle.dwarf_walk.specs.Private.{Long.{AreCachedOf, cached_at, long_entry}, Named.entry_with}
 use Rattle.dwarf_walk.specs.{Private.Named.{named_entry_at, used_at}, Sections.Sections}
@@ -10,7 +10,7 @@ use Rattle.dwarf_walk.specs.{Stored.scope_entry_of, declared.entry_reader.EntryR
 use Rattle.dwarf_walk.specs.declared.entry_reader.TheConstants.{LONG}
 use Rattle.dwarf_walk.specs.declared.long_entries.LongEntry.{LongEntry}
 use Rattle.dwarf_walk.specs.declared.unit_entries.{NamedEntry.NamedEntry, ScopeEntry.ScopeEntry}
-use Rattle.std.specs.Prelude.{Err, List, Ok, Option, Result, Some, ok_or, slice_get, take, ℕ, ◌-◌}
+use Rattle.std.specs.Prelude.{Err, List, Ok, Option, Result, Some, ok_or, take, ℕ, ◌-◌}
 use Rattle.std.specs.Prelude.{◌<◌, ◌≡◌, ◌≤◌}
 use Rattle.dwarf_bytes.specs.declared.fault.Cause.TheVariants as causes
 
@@ -25,11 +25,10 @@ abbrev pub len_at : Format → List Declaration → List ℕ → ℕ → Result 
 len_at format table unit offset =
     entry_at format table unit offset >>= λ entry. Ok (entry.1 - offset)
 
--- The table at the reader's index is the table of a unit.
+-- The table at the reader's index is the table of a unit, as it is parsed from the section.
 abbrev pub HasTableOf : UnitHeader → EntryReader → Type 0
 HasTableOf header reader =
-    (table : Table) × (slice_get reader.tables.tables reader.number ≡ Some table)
-    × IsAt header.format header.abbreviations table
+    IsNumberOf reader.tables.section header reader.tables.tables reader.number
 
 -- The table of a unit is cached permanently, and the reader has its index.
 abbrev pub HasPermanentTable : UnitHeader → EntryReader → Type 0
