@@ -50,7 +50,7 @@ impl<'a> Units<'a> {
     {
         let number = u128::from(reference.number);
         if reference.form == DW_FORM_REF_ADDR {
-            return self.place_in(ends_by(&self.units, number), number);
+            return self.place_in(ends_by(&self.units, reference.number), number);
         }
         let start = self.units.get(unit)?.header.start;
         self.place_in(unit, start as u128 + number)
@@ -81,11 +81,11 @@ fn place_within(header: &UnitHeader, offset: u128) -> Option<usize>
 /// Returns the number of units that end at or before an offset.
 // Not inlined: few references are relative to the section.
 #[inline(never)]
-fn ends_by(units: &[UnitEntries], offset: u128) -> usize
+fn ends_by(units: &[UnitEntries], offset: u64) -> usize
     ensures within { result ≤ length units.now }
     ensures parts { IsNonDecreasingBy (λ unit. unit.header.end) units.now
         → IsPartitionPoint (λ unit. unit.header.end ≤ offset)
         (λ unit. offset < unit.header.end) units.now result }
 {
-    units.partition_point(|unit| unit.header.end as u128 <= offset)
+    units.partition_point(|unit| unit.header.end as u64 <= offset)
 }

@@ -9,7 +9,7 @@ pub returns-then-reference-eq-DW_FORM_REF_ADDR-clause-leads :
 returns-then-reference-eq-DW_FORM_REF_ADDR-clause-leads c u at =
     let are = seen-units c.self.invariant c.self.view_is c.deref.ensures.value in
     let leads = anywhere (object-units _ _ c.self.view_is) c.deref.result.now are c.ends_by.result
-    c.from-number.result c.ends_by.ensures.parts u c.args.reference in
+    c.args.reference.number c.ends_by.ensures.parts u c.args.reference in
     grind (arith, leads, c.place_in.ensures.leads)
 
 pub returns-in_err-start-clause-leads : goal.returns-in_err-start-clause-leads
