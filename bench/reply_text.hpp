@@ -22,6 +22,26 @@ class Reply {
 
     static bool is_control(unsigned char byte) { return byte < 32 || byte == 127; }
 
+    // Returns whether eight bytes have a control character.
+    static bool has_control(const char *text) {
+        const uint64_t ones = ~0ull / 255, tops = 128 * ones;
+        uint64_t word;
+        memcpy(&word, text, sizeof word);
+        uint64_t deleted = word ^ 127 * ones;
+        return (((word - 32 * ones) & ~word) | ((deleted - ones) & ~deleted)) & tops;
+    }
+
+    // The same for any number of bytes. The last eight overlap those before them.
+    static bool has_control(const char *text, const char *last) {
+        bool found = false;
+        if (last - text < 8) {
+            for (; text < last; text++) found |= is_control(*text);
+            return found;
+        }
+        for (const char *at = text; last - at >= 8; at += 8) found |= has_control(at);
+        return found | has_control(last - 8);
+    }
+
 public:
     // Appends a string as it is.
     void put(const char *text) { put_bytes(text, strlen(text)); }
@@ -36,9 +56,7 @@ public:
     void put_printable(const char *text) {
         char *start = end;
         put(text);
-        bool has_control = false;
-        for (char *at = start; at < end; at++) has_control |= is_control(*at);
-        if (!has_control) return;
+        if (!has_control(start, end)) return;
         for (char *at = start; at < end; at++)
             if (is_control(*at)) *at = '?';
     }
