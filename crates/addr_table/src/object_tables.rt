@@ -107,7 +107,7 @@ impl<'a> ObjectTables<'a> {
         let line = self.sections.debug_line.of(self.bytes);
         let line_str = self.sections.debug_line_str.of(self.bytes);
         let str = self.sections.debug_str.of(self.bytes);
-        Some(Path::new(line, line_str, str, parts))
+        Some(Path::new(line, line_str, str, &parts))
     }
 
     /// Returns the row with an index.

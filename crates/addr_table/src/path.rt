@@ -1,6 +1,6 @@
 //! Paths of source files.
 
-ghost use Rattle.std.specs.Prelude.{◌≡◌, map};
+ghost use Rattle.std.specs.Prelude.{◌≡◌, [], get_or, map};
 ghost use Rattle.dwarf_lines.specs.Sections.{LineSections};
 ghost use Rattle.dwarf_lines.specs.Paths.{part_bytes};
 
@@ -11,42 +11,63 @@ use std::marker::Model;
 /// The remaining parts of a path, which are joined by slashes. Each part is bytes of the object.
 #[derive(Drop)]
 pub struct Path<'a> {
-    line: &'a [u8],
-    line_str: &'a [u8],
-    str: &'a [u8],
-    parts: PathParts,
+    parts: [&'a [u8]; 3],
+    /// The number of parts.
+    len: usize,
+    /// The index of the next part.
     next: usize,
 }
 
 impl<'a> Model for Path<'a> {
-    ghost use Rattle.std.specs.Prelude.{List, ℕ};
-    ghost use Rattle.addr_table.specs.Private.Views.{parts_left};
+    ghost use Rattle.std.specs.Prelude.{List, ℕ, drop, map, take};
 
     ghost Value = { List (List ℕ) };
 
-    ghost view = { λ p. parts_left
-        (record { line = p.line.now; line_str = p.line_str.now; str = p.str.now }) p.parts p.next };
+    ghost view = { λ p. drop p.next (take p.len (map (λ part. part.now) p.parts)) };
 }
 
 impl<'a> Path<'a> {
     /// Creates a path with parts in `.debug_line`, `.debug_line_str` and `.debug_str`.
+    #[tactic(auto, using(crate::proofs::FrameWalks::FrameTurns::three_parts))]
     pub(crate) fn new(
         line: &'a [u8],
         line_str: &'a [u8],
         str: &'a [u8],
-        parts: PathParts,
+        parts: &PathParts,
     ) -> Path<'a>
         ensures { (s : LineSections) →
             s ≡ record { line = line.entry.now; line_str = line_str.entry.now; str = str.entry.now }
-            → result ≡ map (part_bytes s) parts }
+            → result ≡ map (part_bytes s) parts.now }
     {
+        let parts = parts.parts();
         Path {
-            line,
-            line_str,
-            str,
-            parts,
+            parts: [
+                part_at(line, line_str, str, parts, 0),
+                part_at(line, line_str, str, parts, 1),
+                part_at(line, line_str, str, parts, 2),
+            ],
+            len: parts.len(),
             next: 0,
         }
+    }
+}
+
+/// Returns the bytes of the part with an index, which is in one of these sections, or no bytes if
+/// there is none.
+fn part_at<'a>(
+    line: &'a [u8],
+    line_str: &'a [u8],
+    str: &'a [u8],
+    parts: &[Text],
+    index: usize,
+) -> &'a [u8]
+    ensures { result.now ≡ get_or (map (part_bytes
+        (record { line = line.entry.now; line_str = line_str.entry.now; str = str.entry.now }))
+        parts.now) index [] }
+{
+    match parts.get(index) {
+        Some(part) => part_in(line, line_str, str, *part),
+        None => &[],
     }
 }
 
@@ -74,8 +95,11 @@ impl<'a> Iterator for Path<'a> {
     ghost remaining = { item_count (λ path. path) };
 
     fn next(&mut self) -> Option<&'a [u8]> {
-        let part = *self.parts.parts().get(self.next)?;
+        if self.next >= self.len {
+            return None;
+        }
+        let part = *self.parts.get(self.next)?;
         self.next += 1;
-        Some(part_in(self.line, self.line_str, self.str, part))
+        Some(part)
     }
 }

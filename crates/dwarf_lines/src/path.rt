@@ -52,7 +52,8 @@ impl PathParts {
     }
 
     pub fn parts(&self) -> &[Text]
-        ensures { result.now ≡ self.now }
+        ensures parts { result.now ≡ self.now }
+        ensures few { length result.now ≤ 3 }
     {
         &self.parts[..self.len]
     }

@@ -1,8 +1,7 @@
 -- The remaining frames of a walk over a chain.
-use Rattle.std.proofs.Common.{◌≡◌, ◌∙◌, ℕ, ◌+◌, ◌<◌, List, [], ◌∷◌, length, map}
+use Rattle.std.proofs.Common.{◌≡◌, ◌≤◌, ◌∙◌, ℕ, ◌+◌, ◌<◌, List, [], ◌∷◌, length, map}
 use Rattle.std.proofs.Common.{take, drop, reverse, get_or, Bool, false, refl, sym, ap, arith}
 use Rattle.std.specs.Prelude.{Option, Some, None, option_map, option_and_then, is_some, slice_get}
-use Rattle.std.proofs.lemmas.List.{drop_more, get_or-map, length-map}
 use Rattle.std.proofs.lemmas.Option.{slice_get-get_or}
 use Rattle.std.specs.List.{join_with_byte}
 use Rattle.dwarf_bytes.specs.declared.fault.Section.{Section}
@@ -29,14 +28,15 @@ use Rattle.addr_table.proofs.Chains.ChainEnds.{started-chain, no-chain, some-cha
 
 -- ---- parts of a path
 
-pub path-step : (f : Text → List ℕ) (parts : List Text) (next : ℕ) (p : Text) → next < length parts
-    → p ≡ get_or parts next p
-    → drop next (map f parts) ≡ f p ∷ drop (next + 1) (map f parts)
-path-step f parts next p lt is =
-    let len : length (map f parts) ≡ length parts = length-map parts f in
-    drop_more (map f parts) next (f p) (omega arith)
-    ∙ ap (λ (x : List ℕ). x ∷ drop (next + 1) (map f parts))
-    (get_or-map f parts next p (f p) lt ∙ ap f (sym is))
+-- An array of three has the parts of a list that is not longer.
+pub three_parts : (f : Text → List ℕ) (parts : List Text) → length parts ≤ 3
+    → take (length parts) (get_or (map f parts) 0 [] ∷ get_or (map f parts) 1 []
+    ∷ get_or (map f parts) 2 [] ∷ []) ≡ map f parts
+three_parts f [] le = refl
+three_parts f (a ∷ []) le = refl
+three_parts f (a ∷ b ∷ []) le = refl
+three_parts f (a ∷ b ∷ c ∷ []) le = refl
+three_parts f (a ∷ b ∷ c ∷ d ∷ more) le = grind arith
 
 -- ---- the section of a string, and the path of a file
 

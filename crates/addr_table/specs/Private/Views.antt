@@ -1,12 +1,9 @@
 -- The values of frames and paths.
-use Rattle.std.specs.Prelude.{ℕ, List, [], ◌∷◌, ◌++◌, map, drop, reverse, Bool, true, false, Option}
+use Rattle.std.specs.Prelude.{ℕ, List, [], ◌∷◌, ◌++◌, reverse, Bool, true, false, Option}
 use Rattle.std.specs.Prelude.{Some, None, option_map, unwrap_or, slice_get, ◌==◌}
 use Rattle.std.specs.List.{list_any}
 use Rattle.std.specs.Option.{option_and_then, option_map_or}
-use Rattle.dwarf_bytes.specs.declared.text.Text.{Text}
-use Rattle.dwarf_lines.specs.Sections.{LineSections}
 use Rattle.dwarf_lines.specs.Lines.{Lines}
-use Rattle.dwarf_lines.specs.Paths.{part_bytes}
 use Rattle.dwarf_entries.specs.Scopes.{Scope}
 use Rattle.dwarf_entries.specs.declared.text_offset.TextOffset.{TextOffset}
 use Rattle.addr_table.specs.declared.object_tables.FrameSite.{FrameSite}
@@ -16,10 +13,6 @@ use Rattle.addr_table.specs.Frames.{frames_from, text_section}
 use Rattle.dwarf_lines.specs.declared.row.Row.{Row as LineRow}
 use Rattle.addr_table.specs.Private.Parents.{enclosing_at}
 use Rattle.addr_table.specs.Private.Walks.{chain_at}
-
--- the remaining parts of a path
-abbrev pub parts_left : LineSections → List Text → ℕ → List (List ℕ)
-parts_left s parts next = drop next (map (part_bytes s) parts)
 
 -- the site of a row, if there is one
 abbrev pub optional_row_site : List ℕ → Lines → Option LineRow → Site
