@@ -142,9 +142,7 @@ impl<'a> Units<'a> {
         let Some(stored) = self.units.get(place.unit) else {
             return Err(Cause::Reference);
         };
-        let entry = self
-            .reader
-            .names_at(&stored.header, stored.table, &self.bitmap, place.offset)?;
+        let entry = self.reader.names_at(stored, &self.bitmap, place.offset)?;
         Ok(UnitEntry {
             unit: place.unit,
             entry,

@@ -62,8 +62,7 @@ impl<'a> Units<'a> {
     {
         let stored = &self.units[unit];
         let place = stored.scopes[index];
-        let offset = place.offset as usize;
-        let entry = match self.reader.scope(&stored.header, stored.table, offset) {
+        let entry = match self.reader.scope(stored, place.offset as usize) {
             Err(cause) => {
                 let at = u64::from(place.offset);
                 return Err(LoadFault::at_item(Section::DebugInfo, cause, at));

@@ -19,9 +19,9 @@ use crate::entry_bitmap::EntryBitmap;
 use crate::long_entries::LongEntries;
 use crate::scope_kind::kind_of;
 use crate::sections::Sections;
-use crate::unit_entries::{NamedEntry, ScopeEntry};
+use crate::unit_entries::{NamedEntry, ScopeEntry, UnitEntries};
 use dwarf_bytes::Cause;
-use dwarf_units::{Tables, UnitHeader, UsedAttributes};
+use dwarf_units::{Tables, UsedAttributes};
 use std::alloc::{AllocError, Global};
 
 /// The size in bytes above which an entry is cached, so that it is not re-read for each reference
@@ -63,85 +63,74 @@ impl<'a> EntryReader<'a> {
         }
     }
 
-    /// Re-reads the scope at an offset in the unit of `header`. Tries the table at the index `guess`
-    /// first. Fails with `Cause::Reference` if the entry is not a scope.
-    pub fn scope(
-        &mut self,
-        header: &UnitHeader,
-        guess: usize,
-        offset: usize,
-    ) -> Result<ScopeEntry, Cause>
+    /// Re-reads the scope at an offset in a unit. Fails with `Cause::Reference` if the entry is no
+    /// scope.
+    pub fn scope(&mut self, unit: &UnitEntries, offset: usize) -> Result<ScopeEntry, Cause>
         ensures scope { (s : SectionBytes) (table : List Declaration) → IsReaderOf s self.old
-            → declarations_of declarations_limit s.debug_abbrev header.now.abbreviations ≡ Ok table
-            → Gives (λ entry. entry) result (scope_entry_at header.now.format table
-            (take header.now.«end» s.debug_info) offset) }
+            → declarations_of declarations_limit s.debug_abbrev unit.now.header.abbreviations
+            ≡ Ok table → Gives (λ entry. entry) result (scope_entry_at unit.now.header.format table
+            (take unit.now.header.«end» s.debug_info) offset) }
         ensures reader { (s : SectionBytes) → IsReaderOf s self.old → IsReaderOf s self.new }
     {
-        self.select_table(header, guess)?;
-        if let Some(entry) = self.fixed_size_entry(header, offset) {
+        self.select_table(&unit.header, unit.table)?;
+        if let Some(entry) = self.fixed_size_entry(&unit.header, offset) {
             let kind = kind_of(entry.tag).ok_or(Cause::Reference)?;
             return Ok(ScopeEntry::of(offset, kind, &entry.values));
         }
-        let tag = self.entry(header, offset)?;
+        let tag = self.entry(&unit.header, offset)?;
         let kind = kind_of(tag).ok_or(Cause::Reference)?;
         Ok(ScopeEntry::of(offset, kind, &self.found))
     }
 
-    /// Returns the names and the reference of the entry at an offset in the unit of `header`. Tries
-    /// the table at the index `guess` first. A long entry is cached when it is first read. If the
-    /// table of the unit is not cached permanently, the first read caches all entries of the unit
-    /// whose offsets are in `bitmap`.
+    /// Returns the names and the reference of the entry at an offset in a unit. A long entry is
+    /// cached when it is first read. If the table of the unit is not cached permanently, the first
+    /// read caches all entries of the unit whose offsets are in `bitmap`.
     // Inlined: called for each reference.
     #[inline(always)]
     pub fn names_at(
         &mut self,
-        header: &UnitHeader,
-        guess: usize,
+        unit: &UnitEntries,
         bitmap: &EntryBitmap,
         offset: usize,
     ) -> Result<NamedEntry, Cause>
         ensures holds { OnOk result ((s : SectionBytes) (table : List Declaration)
             → IsReaderOf s self.old
-            → declarations_of declarations_limit s.debug_abbrev header.now.abbreviations ≡ Ok table
-            → header.now.first ≤ offset → offset < header.now.«end»
-            → has_entry bitmap.now offset ≡ true → IsCachedAt s header.now self.new offset
-            ⊎ (HasPermanentTable header.now self.new × IsShort header.now.format table
-            (take header.now.«end» s.debug_info) offset)) }
-        ensures cached { (entry : Named) → cached_by self.old offset
-            ≡ Some (long_entry header.now entry) → (result ≡ Ok entry) × (self.new ≡ self.old) }
-        ensures names_at { GivesNames header.now offset self.old result }
+            → declarations_of declarations_limit s.debug_abbrev unit.now.header.abbreviations
+            ≡ Ok table → unit.now.header.first ≤ offset → offset < unit.now.header.«end»
+            → has_entry bitmap.now offset ≡ true → IsCachedAt s unit.now.header self.new offset
+            ⊎ (HasPermanentTable unit.now.header self.new × IsShort unit.now.header.format table
+            (take unit.now.header.«end» s.debug_info) offset)) }
+        ensures cached { (entry : Named)
+            → cached_by self.old offset ≡ Some (long_entry unit.now.header entry)
+            → (result ≡ Ok entry) × (self.new ≡ self.old) }
+        ensures names_at { GivesNames unit.now.header offset self.old result }
         ensures reader { (s : SectionBytes) → IsReaderOf s self.old → IsReaderOf s self.new }
     {
-        if let Some(entry) = self.long.get(header, offset) {
+        if let Some(entry) = self.long.get(&unit.header, offset) {
             return Ok(entry);
         }
-        let entry = self.reread_names(header, guess, offset)?;
+        let entry = self.reread_names(unit, offset)?;
         if !self.tables.stays(self.number) {
-            self.cache_unit(header, guess, bitmap)?;
+            self.cache_unit(unit, bitmap)?;
         } else if self.len > LONG {
-            self.cache_entry(header, guess, offset)?;
+            self.cache_entry(unit, offset)?;
         }
         Ok(entry)
     }
 
-    /// Caches the entries of the unit of `header` whose offsets are in `bitmap`. Entries that
-    /// cannot be read are skipped.
+    /// Caches the entries of a unit whose offsets are in `bitmap`. Entries that cannot be read are
+    /// skipped.
     #[cold]
     #[inline(never)]
-    fn cache_unit(
-        &mut self,
-        header: &UnitHeader,
-        guess: usize,
-        bitmap: &EntryBitmap,
-    ) -> Result<(), AllocError>
+    fn cache_unit(&mut self, unit: &UnitEntries, bitmap: &EntryBitmap) -> Result<(), AllocError>
         ensures reader { (s : SectionBytes) → IsReaderOf s self.old → IsReaderOf s self.new }
         ensures cached { OnOk result ((s : SectionBytes) (at : ℕ) → IsReaderOf s self.old
-            → header.now.first ≤ at → at < header.now.«end» → has_entry bitmap.now at ≡ true
-            → IsCachedAt s header.now self.new at) }
+            → unit.now.header.first ≤ at → at < unit.now.header.«end»
+            → has_entry bitmap.now at ≡ true → IsCachedAt s unit.now.header self.new at) }
     {
-        for offset in header.first..header.end {
+        for offset in unit.header.first..unit.header.end {
             if bitmap.has_entry(offset) {
-                self.cache_entry(header, guess, offset)?;
+                self.cache_entry(unit, offset)?;
             }
         }
         Ok(())
@@ -150,21 +139,16 @@ impl<'a> EntryReader<'a> {
     /// Re-reads and caches the entry at an offset. An entry that cannot be read is skipped.
     #[cold]
     #[inline(never)]
-    fn cache_entry(
-        &mut self,
-        header: &UnitHeader,
-        guess: usize,
-        offset: usize,
-    ) -> Result<(), AllocError>
+    fn cache_entry(&mut self, unit: &UnitEntries, offset: usize) -> Result<(), AllocError>
         ensures reader { (s : SectionBytes) → IsReaderOf s self.old → IsReaderOf s self.new }
         ensures cached { OnOk result ((s : SectionBytes) → IsReaderOf s self.old
-            → IsCachedAt s header.now self.new offset) }
+            → IsCachedAt s unit.now.header self.new offset) }
         ensures others { OnOk result ((at : ℕ) → (at ≡ offset → ⊥)
             → cached_at self.new.long at ≡ cached_at self.old.long at) }
     {
-        match self.reread_names(header, guess, offset) {
+        match self.reread_names(unit, offset) {
             Ok(entry) => {
-                self.long.insert(header, offset, entry)?;
+                self.long.insert(&unit.header, offset, entry)?;
                 Ok(())
             }
             Err(cause) => {
@@ -177,30 +161,25 @@ impl<'a> EntryReader<'a> {
     /// Re-reads the names and the reference of an entry without using the cache.
     // Inlined: called for each reference.
     #[inline(always)]
-    fn reread_names(
-        &mut self,
-        header: &UnitHeader,
-        guess: usize,
-        offset: usize,
-    ) -> Result<NamedEntry, Cause>
-        ensures names_at { GivesNames header.now offset self.old result }
+    fn reread_names(&mut self, unit: &UnitEntries, offset: usize) -> Result<NamedEntry, Cause>
+        ensures names_at { GivesNames unit.now.header offset self.old result }
         ensures reader { (s : SectionBytes) → IsReaderOf s self.old → IsReaderOf s self.new }
         ensures long { self.new.long ≡ self.old.long }
-        ensures number { OnOk result (HasTableOf header.now self.new) }
+        ensures number { OnOk result (HasTableOf unit.now.header self.new) }
         ensures len { OnOk result ((s : SectionBytes) (table : List Declaration)
             → IsReaderOf s self.old
-            → declarations_of declarations_limit s.debug_abbrev header.now.abbreviations ≡ Ok table
-            → len_at header.now.format table (take header.now.«end» s.debug_info) offset
-            ≡ Ok self.new.len) }
+            → declarations_of declarations_limit s.debug_abbrev unit.now.header.abbreviations
+            ≡ Ok table → len_at unit.now.header.format table
+            (take unit.now.header.«end» s.debug_info) offset ≡ Ok self.new.len) }
     {
-        self.select_table(header, guess)?;
-        if let Some(entry) = self.fixed_size_entry(header, offset) {
+        self.select_table(&unit.header, unit.table)?;
+        if let Some(entry) = self.fixed_size_entry(&unit.header, offset) {
             let len = entry.after.saturating_sub(offset);
             let names = NamedEntry::of(offset, &entry.values);
             self.len = len;
             return Ok(names);
         }
-        self.entry(header, offset)?;
+        self.entry(&unit.header, offset)?;
         Ok(NamedEntry::of(offset, &self.found))
     }
 }

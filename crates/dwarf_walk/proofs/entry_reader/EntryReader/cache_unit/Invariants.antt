@@ -6,6 +6,6 @@ use Rattle.dwarf_walk.proofs.entry_reader.EntryReader.cache_unit.Given as goal
 abbrev pub invariant-loop-offset : goal.invariant-loop-offset
 invariant-loop-offset l = record {
   reader : (s : Sections) → IsReaderOf s l.fn.self → IsReaderOf s l.self;
-  cached : (s : Sections) (at : ℕ) → IsReaderOf s l.fn.self → l.header.first ≤ at → at < l.offset
-      → has_entry l.bitmap at ≡ true → IsCachedAt s l.header l.self at;
+  cached : (s : Sections) (at : ℕ) → IsReaderOf s l.fn.self → l.unit.header.first ≤ at
+      → at < l.offset → has_entry l.bitmap at ≡ true → IsCachedAt s l.unit.header l.self at;
 }
