@@ -7,7 +7,7 @@ ghost use Rattle.addr_table.specs.Private.Walks.{HaveParents, parent_codes};
 
 use crate::object_tables::{FrameSite, ObjectTables};
 use crate::optional_index::OptionalIndex;
-use crate::parent_walk::{has_empty_name, next_in_chain, outer, search_start, top};
+use crate::parent_walk::{next_in_chain, outer, search_start, top, touch_names};
 use crate::path::Path;
 use crate::place::Place;
 use crate::scopes::count;
@@ -40,6 +40,8 @@ impl<'a> Model for Frame<'a> {
 
 impl<'a> Frame<'a> {
     /// Returns the name of the function, if it has one.
+    // Inlined: called for each frame.
+    #[inline(always)]
     pub fn name(&self) -> Option<&'a [u8]>
         ensures { option_map (λ text. text.now) result ≡ self.now.name }
     {
@@ -59,6 +61,8 @@ impl<'a> Frame<'a> {
     }
 
     /// Returns the path of the source file, if it is known.
+    // Inlined: called for each frame.
+    #[inline(always)]
     pub fn path(&self) -> Option<Path<'a>>
         ensures { option_map (join_with_byte 47) result ≡ self.now.path }
     {
@@ -117,7 +121,7 @@ impl<'a> FrameWalk<'a> {
         let started = search_start(count(tables.scopes), place.scope);
         // The row and all names are read first, so that the processor waits for them at once.
         let site = FrameSite::Row(tables.row(place.row));
-        let may_be_empty = has_empty_name(tables, parents, started);
+        let may_be_empty = touch_names(tables, parents, started);
         match top(tables.scopes, parents, link, started) {
             Some(top) => FrameWalk {
                 tables,
@@ -143,6 +147,8 @@ impl<'a> FrameWalk<'a> {
     }
 
     /// Returns the next frame, toward the outermost scope.
+    // Inlined: called for each frame.
+    #[inline(always)]
     fn next(&mut self) -> Option<Frame<'a>>
         ensures { MatchOption result ((self.old ≡ []) × (self.new ≡ []))
             (λ frame. self.old ≡ frame ∷ self.new) }
@@ -223,6 +229,8 @@ impl<'a> Iterator for Frames<'a> {
 
     ghost remaining = { item_count (λ frames. frames) };
 
+    // Inlined: called for each frame.
+    #[inline(always)]
     fn next(&mut self) -> Option<Frame<'a>> {
         let Some(walk) = &mut self.walk else {
             return None;

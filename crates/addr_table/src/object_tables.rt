@@ -1,7 +1,7 @@
 //! The strings, paths and lines of frames.
 
-ghost use Rattle.std.specs.Prelude.{◌≡◌, option_map, slice_get};
-ghost use Rattle.std.specs.Option.{option_and_then};
+ghost use Rattle.std.specs.Prelude.{◌≡◌, ◌==◌, false, option_map, slice_get};
+ghost use Rattle.std.specs.Option.{option_and_then, option_map_or};
 ghost use Rattle.std.specs.List.{join_with_byte};
 ghost use Rattle.dwarf_bytes.specs.Elf.{layout};
 ghost use Rattle.dwarf_entries.specs.Order.{AreInOrder};
@@ -14,6 +14,9 @@ use crate::scopes::{count, scope_at};
 use dwarf_bytes::{Layout, Section, text_at};
 use dwarf_entries::{Scopes, TextOffset};
 use dwarf_lines::{LineTables, ProgramNo, Row};
+
+/// The size of a cache line in bytes.
+const CACHE_LINE: usize = 64;
 
 /// An object, with the tables in which its strings and files are looked up.
 #[derive(Clone, Copy)]
@@ -64,9 +67,23 @@ impl<'a> ObjectTables<'a> {
         let Some(name) = scope_at(self.scopes, number).name() else {
             return false;
         };
-        self.section(name.section)
-            .get(name.offset)
-            .is_some_and(|byte| *byte == 0)
+        is_nul(self.section(name.section), name.offset)
+    }
+
+    /// Reads bytes of the name of the scope with an index, at most a cache line apart, so that the
+    /// processor starts to fetch the name. Returns whether one of them is NUL.
+    pub fn touch_name(self, number: usize) -> bool
+        requires { AreInOrder self.scopes.now.scopes }
+    {
+        if number >= count(self.scopes) {
+            return false;
+        }
+        let Some(name) = scope_at(self.scopes, number).name() else {
+            return false;
+        };
+        let section = self.section(name.section);
+        let next = name.offset.saturating_add(CACHE_LINE);
+        is_nul(section, name.offset) | is_nul(section, next)
     }
 
     /// Returns the name of the scope with an index.
@@ -99,6 +116,8 @@ impl<'a> ObjectTables<'a> {
     }
 
     /// Returns the path of a file of a line program.
+    // Inlined: called for each frame.
+    #[inline(always)]
     fn file(self, program: ProgramNo, file: u64) -> Option<Path<'a>>
         ensures { option_map (join_with_byte 47) result ≡ file_path self.entry.bytes.now
             self.entry.lines.now program file }
@@ -118,6 +137,8 @@ impl<'a> ObjectTables<'a> {
     }
 
     /// Returns the path of the file of a row.
+    // Inlined: called for each frame.
+    #[inline(always)]
     pub fn row_path(self, row: Option<Row>) -> Option<Path<'a>>
         ensures { option_map (join_with_byte 47) result
             ≡ (optional_row_site self.entry.bytes.now self.entry.lines.now row).path }
@@ -136,6 +157,8 @@ impl<'a> ObjectTables<'a> {
         }
     }
 
+    // Inlined: called for each frame.
+    #[inline(always)]
     fn call_path(self, number: usize) -> Option<Path<'a>>
         requires { AreInOrder self.scopes.now.scopes }
         ensures { option_map (join_with_byte 47) result
@@ -166,6 +189,8 @@ impl<'a> ObjectTables<'a> {
     }
 
     /// Returns the path of the source file of a frame.
+    // Inlined: called for each frame.
+    #[inline(always)]
     pub fn path(self, site: FrameSite) -> Option<Path<'a>>
         requires { AreInOrder self.scopes.now.scopes }
         ensures { option_map (join_with_byte 47) result
@@ -189,4 +214,11 @@ impl<'a> ObjectTables<'a> {
             FrameSite::Call(number) => self.call_line(number),
         }
     }
+}
+
+/// Returns whether a NUL is at an offset of a section.
+fn is_nul(section: &[u8], offset: usize) -> bool
+    ensures { result ≡ option_map_or (λ byte. byte == 0) (slice_get section.now offset) false }
+{
+    section.get(offset).is_some_and(|byte| *byte == 0)
 }

@@ -7,7 +7,6 @@ ghost use Rattle.dwarf_entries.specs.Order.{AreInOrder};
 ghost use Rattle.addr_table.specs.Private.Walks.{HaveParents, parent_code, parent_codes, chain_at};
 ghost use Rattle.addr_table.specs.Private.Walks.{top_at, EndsAt, IsInChain, outer_of};
 ghost use Rattle.addr_table.specs.Private.Walks.{search_start_of};
-ghost use Rattle.addr_table.specs.Private.Views.{has_empty_name};
 
 use crate::object_tables::ObjectTables;
 use crate::optional_index::OptionalIndex;
@@ -49,22 +48,22 @@ pub(crate) fn top(
     found
 }
 
-/// Returns whether a scope or a scope that encloses it has an empty name.
-pub(crate) fn has_empty_name(
+/// Reads bytes of the names of a scope and of the scopes that enclose it, so that the processor
+/// fetches all of them at once. Returns whether one of these bytes is NUL. If none is, no name is
+/// empty.
+pub(crate) fn touch_names(
     tables: ObjectTables<'_>,
     parents: &[OptionalIndex],
     scope: Option<usize>,
 ) -> bool
     requires have { HaveParents tables.scopes.now.scopes (parent_codes parents.now) }
     requires within { parent_code scope ≤ length tables.scopes.now.scopes }
-    ensures { result ≡ has_empty_name tables.entry.bytes.now tables.entry.scopes.now.scopes
-        (parent_code scope) }
 {
     let mut is_found = false;
     let mut scope = scope;
     while let Some(number) = scope {
         // No branch depends on the name, so that no name waits for another.
-        is_found |= tables.has_empty_name(number);
+        is_found |= tables.touch_name(number);
         scope = parent(parents, number);
     }
     is_found

@@ -17,6 +17,8 @@ use io_streams::{DeviceFault, Options, Sink};
 use itoa::Buffer;
 
 /// Returns the name to print: the linkage name if it is requested and present, else the name.
+// Inlined: called for each frame.
+#[inline(always)]
 fn printed_name<'a>(options: &Options, frame: &Frame<'a>) -> Option<&'a [u8]>
     ensures { borrowed_text result ≡ name_of options.now frame.now }
 {
@@ -62,6 +64,8 @@ fn put_before_later<W: Sink>(
 }
 
 /// Appends the name of a frame if names are requested.
+// Inlined: called for each frame.
+#[inline(always)]
 fn put_name<W: Sink>(
     options: &Options,
     frame: &Frame<'_>,
@@ -80,6 +84,8 @@ fn put_name<W: Sink>(
 }
 
 /// Appends a path, or its base name if requested; `??` if it is missing or empty.
+// Inlined: called for each frame.
+#[inline(always)]
 fn put_file<W: Sink>(
     options: &Options,
     path: Option<Path<'_>>,
@@ -101,6 +107,8 @@ fn put_file<W: Sink>(
 }
 
 /// Appends a colon, a line number and a line feed.
+// Inlined: called for each frame.
+#[inline(always)]
 fn put_line<W: Sink>(line: u64, pending: &mut Pending, writer: &mut W) -> Result<(), DeviceFault>
     ensures bytes { Puts (W.written writer.old) (W.written writer.new) pending.old pending.new
         result (58 ∷ decimal line ++ 10 ∷ []) }
@@ -113,6 +121,8 @@ fn put_line<W: Sink>(line: u64, pending: &mut Pending, writer: &mut W) -> Result
 }
 
 /// Appends `FILE:LINE` and a line feed.
+// Inlined: called for each frame.
+#[inline(always)]
 pub fn put_place<W: Sink>(
     options: &Options,
     path: Option<Path<'_>>,
@@ -129,6 +139,8 @@ pub fn put_place<W: Sink>(
 }
 
 /// Appends a frame.
+// Inlined: called for each frame.
+#[inline(always)]
 pub fn put_frame<W: Sink>(
     options: &Options,
     frame: &Frame<'_>,

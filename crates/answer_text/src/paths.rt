@@ -97,6 +97,8 @@ fn put_after_empty_part<W: Sink>(
 }
 
 /// Appends a path: its parts joined by slashes, or `??` if that is empty.
+// Inlined: called for each frame.
+#[inline(always)]
 pub fn put_path<W: Sink>(
     mut path: Path<'_>,
     pending: &mut Pending,

@@ -89,6 +89,8 @@ impl LineTables {
 
     /// Returns the parts of the path of a program's file, or `None` if the program, the file or its
     /// directory does not exist. Files are numbered from 0.
+    // Inlined: called for each frame.
+    #[inline(always)]
     pub fn path(&self, program: ProgramNo, file: u64) -> Option<PathParts>
         ensures { result ≡ path_of self.now program file }
     {
@@ -116,6 +118,8 @@ fn read_programs(alloc: Global, sections: IndexedSections) -> Result<LineTables,
 }
 
 /// Returns the parts of the path of a program's file.
+// Inlined: called for each frame.
+#[inline(always)]
 fn path_in(directories: &[Entry], files: &[Entry], number: u64) -> Option<PathParts>
     ensures { result ≡ path_parts directories.now files.now number }
 {

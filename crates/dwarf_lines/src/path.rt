@@ -61,6 +61,8 @@ impl PathParts {
 
 /// Returns the parts of the path of `file`. A relative file is in `directory`, and a relative
 /// directory other than directory 0 is in `current`.
+// Inlined: called for each frame.
+#[inline(always)]
 pub fn parts_of(current: PathText, number: u64, directory: PathText, file: PathText) -> PathParts
     ensures { result ≡ nonempty_parts (texts_of current number directory file) }
 {

@@ -1,23 +1,16 @@
 -- Names that are empty.
-use Rattle.std.proofs.Common.{◌≡◌, ◌∙◌, ℕ, zero, suc, ◌∷◌, ◌<◌, List, [], drop, length, get_or}
-use Rattle.std.proofs.Common.{Bool, true, false, ◌||◌, refl, sym, ap, arith}
+use Rattle.std.proofs.Common.{◌≡◌, ℕ, zero, suc, ◌∷◌, List, [], drop, length, true, false, refl}
+use Rattle.std.proofs.Common.{sym, ap, arith}
 use Rattle.std.proofs.lemmas.Bool.{lt-ltb}
 use Rattle.std.proofs.lemmas.Bool.Decides.{nat_tests}
-use Rattle.std.proofs.lemmas.List.Folds.{list_any-append}
-use Rattle.std.proofs.lemmas.Option.{slice_get-get_or}
 use Rattle.std.specs.Prelude.{Option, Some, None, Result, Ok, slice_get, option_map, nat_lt}
 use Rattle.std.specs.Prelude.{unwrap_or, ◌==◌}
-use Rattle.std.specs.List.{list_any}
-use Rattle.std.specs.Option.{option_and_then, option_map_or}
+use Rattle.std.specs.Option.{option_map_or}
 use Rattle.std.specs.Result.{result_unwrap_or}
 use Rattle.dwarf_bytes.specs.Numbers.{text_at, text_front}
-use Rattle.dwarf_entries.specs.Scopes.{Scope}
 use Rattle.dwarf_entries.specs.declared.text_offset.TextOffset.{TextOffset}
 use Rattle.addr_table.specs.Frames.{text_bytes, text_section}
-use Rattle.addr_table.specs.Private.Parents.{enclosing_at, IsParent}
-use Rattle.addr_table.specs.Private.Views.{is_empty_name, has_empty_name}
-use Rattle.addr_table.specs.Private.Walks.{HaveParents}
-use Rattle.addr_table.proofs.Chains.ChainWalks.{no_scope}
+use Rattle.addr_table.specs.Private.Views.{is_empty_name}
 
 pub record Begins (xs : List ℕ) (x : ℕ) : Type 0 where
   pub rest : List ℕ
@@ -54,35 +47,3 @@ empty-name bytes (Some text) e =
         ap (λ (r : Result (List ℕ) _). Some (result_unwrap_or r []))
         (sym (empty-text (text_section bytes text.section) text.offset is))
     by (Some (suc byte)) is zeros = absurd (grind (arith, nat_tests))
-
-in-other-order : (a b c : Bool) → (a || (b || (c || false))) ≡ ((a || c) || b)
-in-other-order true b c = refl
-in-other-order false true true = refl
-in-other-order false true false = refl
-in-other-order false false true = refl
-in-other-order false false false = refl
-
--- after some steps from a number
-abbrev pub IsFound : List ℕ → List Scope → ℕ → ℕ → Bool → Type 0
-IsFound bytes scopes start code found =
-    has_empty_name bytes scopes start ≡ (found || has_empty_name bytes scopes code)
-
-pub found-more : (bytes : List ℕ) (scopes : List Scope) (codes : List ℕ) (start k : ℕ)
-    (found here : Bool)
-    → HaveParents scopes codes → k < length scopes → IsFound bytes scopes start (suc k) found
-    → here ≡ is_empty_name bytes (option_and_then (λ s. s.name) (slice_get scopes k))
-    → IsFound bytes scopes start (get_or codes k 0) (found || here)
-found-more bytes scopes codes start k found here have lt before is =
-    let empty : Scope → Bool = λ s. is_empty_name bytes s.name in
-    let parent : IsParent scopes k (get_or codes k 0) =
-    have.parents k (let all : length codes ≡ length scopes = have.all in omega arith) in
-    before
-    ∙ (ap (λ (xs : List Scope). found || list_any empty xs) (parent.enclosing_is no_scope)
-    ∙ (ap (λ (b : Bool). found || b)
-    (list_any-append empty (enclosing_at scopes (get_or codes k 0))
-    (get_or scopes k no_scope ∷ []))
-    ∙ (in-other-order found (has_empty_name bytes scopes (get_or codes k 0))
-    (empty (get_or scopes k no_scope))
-    ∙ ap (λ (b : Bool). (found || b) || has_empty_name bytes scopes (get_or codes k 0))
-    (sym (is ∙ ap (λ (o : Option Scope). is_empty_name bytes (option_and_then (λ s. s.name) o))
-    (slice_get-get_or scopes k no_scope lt))))))

@@ -1,7 +1,6 @@
 -- The values of frames and paths.
 use Rattle.std.specs.Prelude.{ℕ, List, [], ◌∷◌, ◌++◌, reverse, Bool, true, false, Option}
 use Rattle.std.specs.Prelude.{Some, None, option_map, unwrap_or, slice_get, ◌==◌}
-use Rattle.std.specs.List.{list_any}
 use Rattle.std.specs.Option.{option_and_then, option_map_or}
 use Rattle.dwarf_lines.specs.Lines.{Lines}
 use Rattle.dwarf_entries.specs.Scopes.{Scope}
@@ -11,7 +10,6 @@ use Rattle.addr_table.specs.declared.object_tables.FrameSite.TheVariants.{Row, C
 use Rattle.addr_table.specs.Frames.{Frame, Site, nowhere, frame_at, site_of_row, call_site}
 use Rattle.addr_table.specs.Frames.{frames_from, text_section}
 use Rattle.dwarf_lines.specs.declared.row.Row.{Row as LineRow}
-use Rattle.addr_table.specs.Private.Parents.{enclosing_at}
 use Rattle.addr_table.specs.Private.Walks.{chain_at}
 
 -- the site of a row, if there is one
@@ -36,11 +34,6 @@ abbrev pub is_empty_name : List ℕ → Option TextOffset → Bool
 is_empty_name bytes None = false
 is_empty_name bytes (Some text) = option_map_or (λ byte. byte == 0)
     (slice_get (text_section bytes text.section) text.offset) false
-
--- whether the scope of `code` or one that encloses it has an empty name
-abbrev pub has_empty_name : List ℕ → List Scope → ℕ → Bool
-has_empty_name bytes scopes code =
-    list_any (λ s. is_empty_name bytes s.name) (enclosing_at scopes code)
 
 -- the frame of a row without a scope
 abbrev pub row_frame : Bool → List ℕ → Site → List Frame
