@@ -123,10 +123,7 @@ impl<'a> ObjectTables<'a> {
             self.entry.lines.now program file }
     {
         let parts = self.lines.path(program, file)?;
-        let line = self.sections.debug_line.of(self.bytes);
-        let line_str = self.sections.debug_line_str.of(self.bytes);
-        let str = self.sections.debug_str.of(self.bytes);
-        Some(Path::new(line, line_str, str, &parts))
+        Some(Path::new(self.bytes, self.sections, &parts))
     }
 
     /// Returns the row with an index.

@@ -32,6 +32,8 @@ fn printed_name<'a>(options: &Options, frame: &Frame<'a>) -> Option<&'a [u8]>
 }
 
 /// Appends the separator after a name.
+// Inlined: called for each frame.
+#[inline(always)]
 fn put_after_name<W: Sink>(
     options: &Options,
     pending: &mut Pending,

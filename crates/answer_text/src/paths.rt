@@ -49,6 +49,8 @@ pub fn put_base_name<W: Sink>(
 }
 
 /// Appends a slash and a part.
+// Inlined: called for each frame.
+#[inline(always)]
 fn put_after_slash<W: Sink>(
     part: &[u8],
     pending: &mut Pending,
@@ -63,6 +65,8 @@ fn put_after_slash<W: Sink>(
 }
 
 /// Appends the remaining parts of a path, each after a slash.
+// Inlined: called for each frame.
+#[inline(always)]
 fn put_rest<W: Sink>(
     path: Path<'_>,
     pending: &mut Pending,

@@ -154,6 +154,8 @@ impl Pending {
 
     /// Appends a string with `?` for each control character. A string without any is appended
     /// whole.
+    // Inlined: called for each frame.
+    #[inline(always)]
     pub fn put_printable<W: Sink>(&mut self, text: &[u8], writer: &mut W) -> Result<(), DeviceFault>
         ensures bytes { Puts (W.written writer.old) (W.written writer.new) self.old self.new result
             (map printable text.now) }
@@ -166,6 +168,8 @@ impl Pending {
     }
 
     /// Appends a string, or `??` if it is missing or empty.
+    // Inlined: called for each frame.
+    #[inline(always)]
     pub fn put_or_unknown<W: Sink>(
         &mut self,
         text: Option<&[u8]>,

@@ -1,3 +1,4 @@
+pub mod Fronts
 pub mod Positions
 pub mod Repeated
 pub mod Spans

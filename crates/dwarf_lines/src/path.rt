@@ -15,14 +15,14 @@ pub struct PathParts {
 }
 
 impl Model for PathParts {
-    ghost use Rattle.std.specs.Prelude.{List, take, ◌≤◌};
+    ghost use Rattle.std.specs.Prelude.{◌≡◌, ◌≤◌, List, length, take};
     ghost use Rattle.dwarf_bytes.specs.declared.text.Text.{Text};
 
     ghost Value = { List Text };
 
     ghost view = { λ p. take p.len p.parts };
 
-    ghost invariant = { λ p. p.len ≤ 3 };
+    ghost invariant = { λ p. (length p.parts ≡ 3) × (p.len ≤ 3) };
 }
 
 impl PathParts {
@@ -39,15 +39,22 @@ impl PathParts {
         }
     }
 
-    /// Appends the part of a string unless it is empty.
-    fn add(&mut self, text: PathText)
-        requires { length self.old < 3 }
-        ensures added { self.new ≡ self.old ++ part_if_any text.part }
-        ensures len { length self.new ≤ length self.old + 1 }
+    /// Returns the parts after the part of a string, which is omitted if it is empty.
+    // Inlined: called for each frame.
+    #[inline(always)]
+    #[tactic(auto, using(crate::proofs::Lists::Fronts::before_front))]
+    fn after(self, text: PathText) -> PathParts
+        requires { length self < 3 }
+        ensures parts { result ≡ part_if_any text.part ++ self }
+        ensures len { length result ≤ length self + 1 }
     {
-        if text.part.span.len > 0 {
-            self.parts[self.len] = text.part;
-            self.len += 1;
+        if text.part.span.len == 0 {
+            return self;
+        }
+        let [first, second, _] = self.parts;
+        PathParts {
+            parts: [text.part, first, second],
+            len: self.len + 1,
         }
     }
 
@@ -66,13 +73,13 @@ impl PathParts {
 pub fn parts_of(current: PathText, number: u64, directory: PathText, file: PathText) -> PathParts
     ensures { result ≡ nonempty_parts (texts_of current number directory file) }
 {
-    let mut parts = PathParts::new();
-    if !file.absolute {
-        if number != 0 && !directory.absolute {
-            parts.add(current);
-        }
-        parts.add(directory);
+    let parts = PathParts::new().after(file);
+    if file.absolute {
+        return parts;
     }
-    parts.add(file);
-    parts
+    let parts = parts.after(directory);
+    if number == 0 || directory.absolute {
+        return parts;
+    }
+    parts.after(current)
 }

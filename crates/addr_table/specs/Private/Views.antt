@@ -1,7 +1,9 @@
 -- The values of frames and paths.
 use Rattle.std.specs.Prelude.{ℕ, List, [], ◌∷◌, ◌++◌, reverse, Bool, true, false, Option}
-use Rattle.std.specs.Prelude.{Some, None, option_map, unwrap_or, slice_get, ◌==◌}
+use Rattle.std.specs.Prelude.{Some, None, option_map, unwrap_or, slice_get, take, drop, ◌==◌}
 use Rattle.std.specs.Option.{option_and_then, option_map_or}
+use Rattle.dwarf_bytes.specs.declared.layout.Layout.{Layout}
+use Rattle.dwarf_lines.specs.Sections.{LineSections}
 use Rattle.dwarf_lines.specs.Lines.{Lines}
 use Rattle.dwarf_entries.specs.Scopes.{Scope}
 use Rattle.dwarf_entries.specs.declared.text_offset.TextOffset.{TextOffset}
@@ -11,6 +13,14 @@ use Rattle.addr_table.specs.Frames.{Frame, Site, nowhere, frame_at, site_of_row,
 use Rattle.addr_table.specs.Frames.{frames_from, text_section}
 use Rattle.dwarf_lines.specs.declared.row.Row.{Row as LineRow}
 use Rattle.addr_table.specs.Private.Walks.{chain_at}
+
+-- the sections of line programs and of their strings, at the spans of a layout
+abbrev pub sections_in : List ℕ → Layout → LineSections
+sections_in bytes found = record {
+  line = take found.debug_line.len (drop found.debug_line.place bytes);
+  line_str = take found.debug_line_str.len (drop found.debug_line_str.place bytes);
+  str = take found.debug_str.len (drop found.debug_str.place bytes);
+}
 
 -- the site of a row, if there is one
 abbrev pub optional_row_site : List ℕ → Lines → Option LineRow → Site

@@ -5,8 +5,6 @@ use Rattle.addr_table.proofs.object_tables.ObjectTables.file.Goals as goal
 
 pub returns : goal.returns
 returns c =
-    let s = lines-read c.args.self.bytes.now _ _ _ _ c.args.self.place_of c.of-line.ensures
-    c.of-line_str.ensures c.of-str.ensures in
+    let s = lines-read c.args.self.bytes.now _ _ _ _ c.args.self.place_of refl refl refl in
     path-read c.args.self.bytes.now c.args.self.lines.now c.args.program c.args.file _ _ _ s
-    (c.new.ensures _ refl)
-    (sym c.in_ok-parts.ensures)
+    c.new.ensures (sym c.in_ok-parts.ensures)
