@@ -19,11 +19,17 @@ pub struct CacheKey {
     pub link: u64,
 }
 
-/// An LRU cache of at most `capacity` answers.
+/// The number of answers that a full cache does not store before it stores one.
+const SKIPPED: u8 = 3;
+
+/// An LRU cache of at most `capacity` answers. If it is full, it stores every fourth new answer, so
+/// that addresses that are looked up once leave most of the other answers in the cache.
 #[derive(Drop)]
 pub struct Cache {
     answers: Option<LruCache<CacheKey, Option<Place>>>,
     capacity: usize,
+    /// The number of answers that were not stored since the last one that was.
+    skipped: u8,
 }
 
 impl Model for Cache {
@@ -80,7 +86,11 @@ impl Cache {
             None => None,
             Some(capacity) => Some(LruCache::new(alloc, capacity)?),
         };
-        Ok(Cache { answers, capacity })
+        Ok(Cache {
+            answers,
+            capacity,
+            skipped: 0,
+        })
     }
 
     /// Returns the number of cached answers.
@@ -117,8 +127,8 @@ impl Cache {
         recall(answers, key)
     }
 
-    /// Caches an answer if memory allows. If the cache is full, evicts the least recently used
-    /// answer.
+    /// Caches an answer if memory allows. If the cache is full, skips three answers of four, and
+    /// evicts the least recently used answer for the fourth.
     pub fn put(&mut self, key: CacheKey, place: Option<Place>)
         ensures change { (self.new.entries ≡ self.old.entries)
             ⊎ (self.new.entries ≡ with_answer key place self.old) }
@@ -129,6 +139,11 @@ impl Cache {
         ensures within { length self.new.entries ≤ self.new.capacity }
         ensures capacity { self.new.capacity ≡ self.old.capacity }
     {
+        if self.len() == self.capacity && self.skipped < SKIPPED {
+            self.skipped += 1;
+            return;
+        }
+        self.skipped = 0;
         let Some(answers) = &mut self.answers else {
             return;
         };

@@ -34,9 +34,26 @@ fn a_small_cache_stays_small(rt: HostRuntime) {
     move_to(&rt, &mut modules, "a", 0x20000);
     ask_all(&rt, &mut modules, 0x21000, 6);
     are_equal(&rt, modules.cached(), (4, 4));
-    // the last one is cached
-    modules.ask(0x2100f);
-    are_equal(&rt, modules.steps().compares, 2);
+}
+
+/// Returns the number of comparisons that it takes to look up an address.
+fn compares(modules: &mut Modules, address: u64) -> u64 {
+    modules.ask(address);
+    modules.steps().compares
+}
+
+#[test]
+fn a_full_cache_stores_every_fourth_answer(rt: HostRuntime) {
+    let mut modules = one(&rt, 0x10000, 2);
+    modules.ask(0x11000);
+    modules.ask(0x11001);
+    for _ in 0..4 {
+        assert!(rt; compares(&mut modules, 0x11004) > 2);
+    }
+    are_equal(&rt, compares(&mut modules, 0x11004), 2);
+    // it took the place of the one that was asked least recently
+    are_equal(&rt, compares(&mut modules, 0x11001), 2);
+    assert!(rt; compares(&mut modules, 0x11000) > 2);
 }
 
 #[test]
