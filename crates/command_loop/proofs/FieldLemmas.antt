@@ -19,9 +19,9 @@ use Rattle.std.proofs.lemmas.Bool.Decides.{nat_tests}
 use Rattle.std.proofs.lemmas.List.Splits.{slice_split_first, slice_split_none}
 use Rattle.std.proofs.lemmas.List.Splits.{join_with_byte-slice_split}
 use Rattle.command_loop.proofs.LineLemmas.{has_first}
-use Rattle.command_loop.specs.declared.commands.BadLine.TheVariants.{Command, Fields}
+use Rattle.command_loop.specs.declared.commands.BadLine.TheVariants.{Fields}
 use Rattle.command_loop.specs.Private.Commands.{cut_parts}
-use Rattle.command_loop.specs.Requests.{fields, load_of, unload_of, move_of, list_of, address_of}
+use Rattle.command_loop.specs.Requests.{fields, load_of, unload_of, move_of, list_of}
 use Rattle.command_loop.specs.Requests.{checked_load, is_name_byte}
 use Rattle.command_line.specs.Numbers.{number}
 
@@ -102,12 +102,6 @@ name_is_text text h = IsUtf8-from_ascii text (λ i. at i (nat_lt i (length text)
         (AllPass-from_list_all is_name_byte text h))
     at i false e = let past : get_or text i 0 ≡ 0 =
         get_or_past text i 0 (not-less i (length text) e) in omega (arith, past)
-
--- an address has no operands
-pub address-alone : (address : ℕ) (rest : List ℕ) → address_of (Some address) (fields rest)
-    ≡ Err Command
-address-alone address rest = let first = has_first is_space rest in
-    ap (address_of (Some address)) first.is
 
 -- bytes that are not UTF-8
 pub not-utf8 : (bytes : List ℕ) → (IsUtf8 bytes → ⊥) → is_utf8 bytes ≡ false

@@ -142,6 +142,23 @@ breaks-line options now new buffer ne f start read r =
     } in
     ([], 10 ∷ [], refl, ([], refl), subst Q (sym (append-nil read)) stopped)
 
+-- the same for a line that is read at once
+pub continues-whole : (options : Options) (now new : RunState) (buffer : Option (List ℕ))
+    (line : List ℕ) → buffer ≡ Some [] → line ≢ [] → ServesRequest options (parse line) now new
+    → ReadsOn options (10 ∷ []) now (longer buffer line) new buffer
+continues-whole options now new buffer line none ne s =
+    let P : Result Request BadLine → Type 0 = λ z. ServesRequest options z now new in
+    rw none (continues-line options now new (within_limit line)
+    (λ e. ne (empty-open line (sym e))) (subst P (sym (parse_buffered-is line)) s))
+
+pub breaks-whole : (options : Options) (now new : RunState) (buffer : Option (List ℕ))
+    (line : List ℕ) → buffer ≡ Some [] → line ≢ [] → FailsToReply options (parse line) now new
+    → StopsWithin options (10 ∷ []) now (longer buffer line) new.asked new.written
+breaks-whole options now new buffer line none ne f =
+    let P : Result Request BadLine → Type 0 = λ z. FailsToReply options z now new in
+    rw none (breaks-line options now new (within_limit line)
+    (λ e. ne (empty-open line (sym e))) (subst P (sym (parse_buffered-is line)) f))
+
 -- a stop within some input, after or before other input
 pub breaks-then : (options : Options) (a b : RunState) (ha hb : Option (List ℕ)) (asked : Exchanges)
     (written : Option (List ℕ))

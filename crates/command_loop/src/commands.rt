@@ -6,7 +6,7 @@ ghost use Rattle.std.specs.Prelude.{None, true, false, ◌<◌, not};
 ghost use Rattle.std.specs.List.{slice_split, list_all};
 ghost use Rattle.command_loop.specs.Requests.{parse, is_name, is_path, fields, load_of, unload_of};
 ghost use Rattle.command_loop.specs.Requests.{move_of, list_of, checked_load, checked_move};
-ghost use Rattle.command_loop.specs.Requests.{request_of_fields, address_of, is_name_byte};
+ghost use Rattle.command_loop.specs.Requests.{request_of_fields, is_name_byte};
 ghost use Rattle.command_line.specs.Numbers.{number};
 ghost use Rattle.command_loop.specs.Commands.{parse_result};
 ghost use Rattle.command_loop.specs.Private.Commands.{cut_parts};
@@ -204,27 +204,17 @@ fn parse_list<'a>(operands: Option<&'a [u8]>) -> Result<Command<'a>, BadLine>
     }
 }
 
-/// Parses a line that is a single number.
-fn parse_address<'a>(word: &[u8], operands: Option<&'a [u8]>) -> Result<Command<'a>, BadLine>
-    ensures { parse_result result ≡ address_of (number word.now)
-        (cut_parts (option_copied operands.entry)) }
-{
-    let Some(address) = parse_number(word) else {
-        return Err(BadLine::Command);
-    };
-    match operands {
-        None => Ok(Command::Ask(address)),
-        Some(_) => Err(BadLine::Command),
-    }
-}
-
 /// Parses a line, or returns the first rule that it breaks.
-#[tactic(auto, unfolding(crate::specs::Requests::parse))]
+#[tactic(auto, unfolding(crate::specs::Requests::parse), using(crate::proofs::NumberLemmas::asks))]
 pub fn parse_line(line: &[u8]) -> Result<Command<'_>, BadLine>
     ensures { parse_result result ≡ parse line.now }
 {
     if line.len() > 4096 {
         return Err(BadLine::LongLine);
+    }
+    // Most lines are addresses.
+    if let Some(address) = parse_number(line) {
+        return Ok(Command::Ask(address));
     }
     let (word, operands) = cut(line);
     if word == b"load".as_slice() {
@@ -236,6 +226,6 @@ pub fn parse_line(line: &[u8]) -> Result<Command<'_>, BadLine>
     } else if word == b"list".as_slice() {
         parse_list(operands)
     } else {
-        parse_address(word, operands)
+        Err(BadLine::Command)
     }
 }

@@ -3,8 +3,10 @@
 ghost use Rattle.std.specs.Prelude.{◌≡◌, ℕ, ◌≤◌, List, [], ◌∷◌, ◌++◌, length, Option, OnOk, OnErr};
 ghost use Rattle.io_streams.specs.Streams.{failures_after};
 ghost use Rattle.command_loop.specs.Devices.{read_failures_after, write_failures_after};
+ghost use Rattle.command_loop.specs.Lines.{longer};
 ghost use Rattle.command_loop.specs.Private.Progress.{state_of, ReadsOn, StopsWithin, ReadsLines};
 
+use crate::commands::parse_line;
 use crate::line_buffer::LineBuffer;
 use crate::request::{parse_buffered, serve_request};
 use answer_text::Pending;
@@ -54,6 +56,41 @@ impl Session {
         Ok(())
     }
 
+    /// Serves the line that ends here, if it is nonempty. `end` is the last part of the line.
+    fn end_line_with<W: Sink, O: Objects>(
+        &mut self,
+        options: &Options,
+        end: &[u8],
+        writer: &mut W,
+        source: &mut O,
+    ) -> Result<(), DeviceFault>
+        ensures goes_on { OnOk result (ReadsOn options.now (10 ∷ [])
+            (state_of self.old.modules.world (O.asked source.old) (W.written writer.old))
+            (longer self.old.line end.now)
+            (state_of self.new.modules.world (O.asked source.new) (W.written writer.new))
+            self.new.line) }
+        ensures breaks { OnErr result (StopsWithin options.now (10 ∷ [])
+            (state_of self.old.modules.world (O.asked source.old) (W.written writer.old))
+            (longer self.old.line end.now) (O.asked source.new) (W.written writer.new)) }
+        ensures failures { W.failures writer.new ≡ failures_after (W.failures writer.old) result }
+    {
+        if end.is_empty() || !self.line.is_empty() {
+            self.line.extend(end);
+            return self.end_line(options, writer, source);
+        }
+        // The line is in one piece, so it is not copied.
+        let request = parse_line(end);
+        serve_request(
+            options,
+            request,
+            &mut self.modules,
+            &mut self.pending,
+            writer,
+            source,
+        )?;
+        Ok(())
+    }
+
     /// Processes a piece of input, and serves each line that ends in it.
     fn take_piece<W: Sink, O: Objects>(
         &mut self,
@@ -75,8 +112,7 @@ impl Session {
         let mut rest = piece;
         // Proofs name the loop by its label.
         'lines: while let Some(end) = rest.find_byte(b'\n') {
-            self.line.extend(&rest[..end]);
-            self.end_line(options, writer, source)?;
+            self.end_line_with(options, &rest[..end], writer, source)?;
             rest = &rest[end + 1..];
         }
         self.line.extend(rest);

@@ -11,19 +11,19 @@ pub lines-preserved : goal.lines-preserved
 lines-preserved g c = (
   serves-line _ _ _ _ _ _ _ _ _ _ (cut_at-feed _ _ _ c.in-Some.is c.find_byte.ensures)
       c.lines.invariant.0
-      (rw c.extend.ensures at c.in_ok-end_line.ensures.goes_on),
-  c.in_ok-end_line.ensures.failures ∙ c.lines.invariant.1,
+      c.in_ok-end_line_with.ensures.goes_on,
+  c.in_ok-end_line_with.ensures.failures ∙ c.lines.invariant.1,
 )
 
-pub returns-in_err-end_line-clause-breaks : goal.returns-in_err-end_line-clause-breaks
-returns-in_err-end_line-clause-breaks g c =
+pub returns-in_err-end_line_with-clause-breaks : goal.returns-in_err-end_line_with-clause-breaks
+returns-in_err-end_line_with-clause-breaks g c =
     let p =
     err_from_is_err_and c.from_residual.result c.from_residual.ensures.1 in rw (p.1)
     (breaks-at-line _ _ _ _ _ _ _ _ _ _ (cut_at-feed _ _ _ c.in-Some.is c.find_byte.ensures)
     c.lines.invariant.0
-    (rw c.extend.ensures at c.in_err-end_line.ensures.breaks))
+    c.in_err-end_line_with.ensures.breaks)
 
 pub returns-clause-goes_on : goal.returns-clause-goes_on
 returns-clause-goes_on g c =
-    rw c.extend-2.ensures (serves-rest _ _ _ _ _ _ _
+    rw c.extend.ensures (serves-rest _ _ _ _ _ _ _
     (no-feed _ _ c.in_default.is c.find_byte.ensures) c.lines.invariant.0)
