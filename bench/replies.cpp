@@ -1,59 +1,10 @@
 // Answers the addresses on standard input with plain C++, in the format of addr2line, so that the
-// rate of our program can be compared with it. Each reply is written before the next line is looked
-// at. replies -e OBJECT [-f -i] [-a]
+// rate of our program can be compared with it. Each reply is written before the next line is
+// served. replies -e OBJECT [-f -i] [-a]
+#include "prefetch.hpp"
 #include "reply_text.hpp"
 #include "timing.h"
 #include <unistd.h>
-
-// For each bucket of addresses, the number of segments that start in lower buckets.
-class Buckets {
-    std::vector<uint32_t> counts;
-    uint64_t low = 0;
-    int shift = 0;
-
-public:
-    Buckets() {
-        if (segments.empty()) return;
-        low = segments.front().from;
-        while ((segments.back().from - low) >> shift >= segments.size()) shift++;
-        for (uint32_t i = 0; i < segments.size(); i++)
-            while (counts.size() <= (segments[i].from - low) >> shift) counts.push_back(i);
-        counts.push_back(segments.size());
-    }
-
-    // Returns the segment that contains an address, or NULL.
-    const Segment *find(uint64_t at) const {
-        if (segments.empty() || at < low) return NULL;
-        uint64_t bucket = std::min<uint64_t>((at - low) >> shift, counts.size() - 2);
-        uint32_t first = counts[bucket] ? counts[bucket] - 1 : 0, last = counts[bucket + 1];
-        while (first < last) {
-            uint32_t middle = first + (last - first) / 2;
-            if (segments[middle].from <= at) first = middle + 1;
-            else last = middle;
-        }
-        return first && at < segments[first - 1].to ? &segments[first - 1] : NULL;
-    }
-};
-
-// The parent of each scope.
-static std::vector<uint32_t> parents;
-
-static void find_parents() {
-    parents.resize(scope_count);
-    uint32_t open = nothing;
-    for (uint32_t i = 0; i < scope_count; i++) {
-        while (open != nothing && scopes[open].end <= i) open = parents[open];
-        parents[i] = open;
-        open = i;
-    }
-}
-
-static bool covers(uint32_t scope, uint64_t at) {
-    uint32_t range = scope ? scopes[scope - 1].ranges_end : 0;
-    for (; range < scopes[scope].ranges_end; range++)
-        if (ranges[range].from <= at && at < ranges[range].to) return true;
-    return false;
-}
 
 // The scopes at an address from the innermost one outward, as far as the outermost subprogram.
 struct Chain {
@@ -101,10 +52,12 @@ static void put_reply(Reply &reply, const Segment *segment, uint64_t at, bool ha
 static void serve(bool has_functions, bool has_addresses) {
     static char piece[4096], line[4096];
     Buckets buckets;
+    Prefetch prefetch(buckets, has_functions);
     size_t length = 0;
     Reply reply;
     for (ssize_t count; (count = read(0, piece, sizeof piece)) > 0;)
         for (ssize_t i = 0; i < count; i++) {
+            if (!length) prefetch.before_line(piece + i, piece + count);
             if (piece[i] != '\n') {
                 if (length < sizeof line - 1) line[length++] = piece[i];
                 continue;

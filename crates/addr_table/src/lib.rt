@@ -21,6 +21,7 @@ mod parent_walk;
 mod parents;
 mod path;
 mod place;
+mod prefetch;
 mod row_order;
 mod row_runs;
 mod row_starts;

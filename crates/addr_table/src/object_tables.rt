@@ -86,6 +86,34 @@ impl<'a> ObjectTables<'a> {
         is_nul(section, name.offset) | is_nul(section, next)
     }
 
+    /// Reads bytes of the name of the scope with an index, as `touch_name` does, but up to four
+    /// cache lines of it. Returns whether one of them is NUL.
+    pub fn touch_long_name(self, number: usize) -> bool
+        requires { AreInOrder self.scopes.now.scopes }
+    {
+        if number >= count(self.scopes) {
+            return false;
+        }
+        let Some(name) = scope_at(self.scopes, number).name() else {
+            return false;
+        };
+        let section = self.section(name.section);
+        let third = name.offset.saturating_add(2 * CACHE_LINE);
+        let fourth = name.offset.saturating_add(3 * CACHE_LINE);
+        self.touch_name(number) | is_nul(section, third) | is_nul(section, fourth)
+    }
+
+    /// Reads the first range of the scope with an index. Returns whether it is empty.
+    pub fn touch_range(self, number: usize) -> bool
+        requires { AreInOrder self.scopes.now.scopes }
+    {
+        if number >= count(self.scopes) {
+            return false;
+        }
+        let ranges = scope_at(self.scopes, number).ranges(self.scopes);
+        ranges.first().is_some_and(|range| range.from == range.to)
+    }
+
     /// Returns the name of the scope with an index.
     pub fn name(self, number: usize) -> Option<&'a [u8]>
         requires { AreInOrder self.scopes.now.scopes }

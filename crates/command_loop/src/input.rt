@@ -8,6 +8,7 @@ ghost use Rattle.command_loop.specs.Private.Progress.{state_of, ReadsOn, StopsWi
 
 use crate::commands::parse_line;
 use crate::line_buffer::LineBuffer;
+use crate::prefetch::Prefetch;
 use crate::request::{parse_buffered, serve_request};
 use answer_text::Pending;
 use bstr::ByteSlice;
@@ -20,6 +21,7 @@ pub struct Session {
     modules: Modules,
     line: LineBuffer,
     pending: Pending,
+    prefetch: Prefetch,
 }
 
 impl Session {
@@ -112,6 +114,7 @@ impl Session {
         let mut rest = piece;
         // Proofs name the loop by its label.
         'lines: while let Some(end) = rest.find_byte(b'\n') {
+            self.prefetch.before_line(options, &self.modules, rest);
             self.end_line_with(options, &rest[..end], writer, source)?;
             rest = &rest[end + 1..];
         }
@@ -141,6 +144,7 @@ pub fn serve_input<R: Feed, W: Sink, O: Objects>(
         modules,
         line: LineBuffer::new(),
         pending: Pending::new(),
+        prefetch: Prefetch::new(),
     };
     let mut piece = [0u8; 4096];
     // Proofs name the loop by its label.

@@ -8,6 +8,7 @@ mod file_source;
 mod input;
 mod line_buffer;
 mod load_exe;
+mod prefetch;
 mod programs;
 mod replies;
 mod request;

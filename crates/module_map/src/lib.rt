@@ -11,6 +11,7 @@ mod faults;
 mod listing;
 mod loaded_module;
 mod modules;
+mod prefetch;
 mod sorted;
 
 pub use addr_table::{Frame, Frames, Path, Site, Steps};
@@ -20,3 +21,4 @@ pub use dwarf_bytes::LoadFault;
 pub use faults::{Extent, MapFault};
 pub use listing::Listing;
 pub use modules::Modules;
+pub use prefetch::PREFETCHED;

@@ -28,9 +28,9 @@ const MOST_MODULES: usize = 4096;
 #[derive(Drop)]
 pub struct Modules {
     alloc: Global,
-    sorted: SortedModules,
+    pub(crate) sorted: SortedModules,
     loads: u64,
-    cache: Cache,
+    pub(crate) cache: Cache,
     steps: Steps,
 }
 

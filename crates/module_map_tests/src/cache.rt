@@ -57,10 +57,43 @@ fn a_full_cache_stores_every_fourth_answer(rt: HostRuntime) {
 }
 
 #[test]
+fn is_cached_after_an_ask(rt: HostRuntime) {
+    let mut modules = one(&rt, 0x10000, 4);
+    are_equal(&rt, modules.is_cached(0x11004), false);
+    modules.ask(0x11004);
+    are_equal(&rt, modules.is_cached(0x11004), true);
+    are_equal(&rt, modules.is_cached(0x11000), false);
+    // no module contains this one
+    are_equal(&rt, modules.is_cached(0x12010), false);
+    move_to(&rt, &mut modules, "a", 0x20000);
+    are_equal(&rt, modules.is_cached(0x11004), false);
+    are_equal(&rt, modules.is_cached(0x21004), true);
+}
+
+/// Data is read for at most eight addresses, whether or not they have an answer.
+#[test]
+fn prefetch_caches_and_counts_nothing(rt: HostRuntime) {
+    let mut modules = one(&rt, 0x10000, 4);
+    modules.ask(0x11000);
+    let compares = modules.steps().compares;
+    let addresses = [
+        0x11000, 0x11004, 0x11010, 0x12010, 0, 0x11008, 0x1100f, 0x11001, 0x11002,
+    ];
+    for count in 0..addresses.len() + 1 {
+        modules.prefetch(&addresses[..count], true);
+        modules.prefetch(&addresses[..count], false);
+    }
+    are_equal(&rt, modules.cached(), (1, 4));
+    are_equal(&rt, modules.steps().compares, compares);
+    are_equal(&rt, line(&mut modules, 0x11004), Some(11));
+}
+
+#[test]
 fn no_cache(rt: HostRuntime) {
     let mut modules = one(&rt, 0x10000, 0);
     ask_all(&rt, &mut modules, 0x11000, 6);
     are_equal(&rt, modules.cached(), (0, 0));
+    are_equal(&rt, modules.is_cached(0x11000), false);
     modules.ask(0x11004);
     assert!(rt; modules.steps().compares > 2);
 }
