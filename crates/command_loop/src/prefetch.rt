@@ -39,20 +39,12 @@ impl Prefetch {
             self.lines -= 1;
             return;
         }
-        let Some((first, rest)) = first_address(lines) else {
-            return;
-        };
-        if rest.is_empty() {
-            return;
-        }
-        self.lines = PREFETCHED - 1;
-        // If the first answer is cached, others probably are.
-        if !modules.is_cached(first) {
+        if let Some((first, rest)) = first_address(lines) {
             self.read(options, modules, first, rest);
         }
     }
 
-    /// Reads the data for an address and for those of the next lines.
+    /// Reads the data for an address and for those of the next lines, if there are any.
     fn read(&mut self, options: &Options, modules: &Modules, first: u64, rest: &[u8]) {
         let mut addresses = [first; PREFETCHED];
         let mut count = 1;
@@ -66,6 +58,9 @@ impl Prefetch {
             rest = after;
         }
         self.lines = count - 1;
+        if count == 1 {
+            return;
+        }
         let frames = options.functions || options.inlines;
         self.touched ^= modules.prefetch(&addresses[..count], frames);
     }

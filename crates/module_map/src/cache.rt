@@ -1,7 +1,6 @@
 //! A cache of answers for repeated asks.
 
-ghost use Rattle.std.specs.Prelude.{◌≡◌, ◌≤◌, ◌⊎◌, ◌+◌, [], length, IfOk, IfSome};
-ghost use Rattle.std.specs.Prelude.{Contains, is_some};
+ghost use Rattle.std.specs.Prelude.{◌≡◌, ◌≤◌, ◌⊎◌, ◌+◌, [], length, IfOk, IfSome, Contains};
 ghost use Rattle.module_map.specs.Private.Cached.{cached_under, after_lookup, with_answer};
 ghost use Rattle.module_map.specs.Private.Serials.{CacheEntry};
 
@@ -126,16 +125,6 @@ impl Cache {
             return None;
         };
         recall(answers, key)
-    }
-
-    /// Returns whether an answer is cached for a key.
-    pub fn has(&self, key: CacheKey) -> bool
-        ensures { result ≡ is_some (cached_under key self.now.entries) }
-    {
-        match &self.answers {
-            None => false,
-            Some(answers) => answers.contains(&key),
-        }
     }
 
     /// Caches an answer if memory allows. If the cache is full, skips three answers of four, and

@@ -30,7 +30,7 @@ pub struct Modules {
     alloc: Global,
     pub(crate) sorted: SortedModules,
     loads: u64,
-    pub(crate) cache: Cache,
+    cache: Cache,
     steps: Steps,
 }
 

@@ -1,6 +1,6 @@
 //! Reads the data for addresses ahead of their asks.
 
-ghost use Rattle.std.specs.Prelude.{◌≡◌, ◌≤◌, IfSome, false};
+ghost use Rattle.std.specs.Prelude.{◌≤◌, IfSome};
 ghost use Rattle.module_map.specs.World.{start_of};
 
 use crate::loaded_module::LoadedModule;
@@ -17,16 +17,6 @@ impl Modules {
     {
         let at = self.sorted.locate(address, &mut Steps::default())?;
         Some(self.sorted.loaded_at(at))
-    }
-
-    /// Returns whether the answer for an address is in the cache.
-    pub fn is_cached(&self, address: u64) -> bool
-        ensures empty { self.now.cached ≡ 0 → result ≡ false }
-    {
-        match self.holder(address) {
-            None => false,
-            Some(loaded) => self.cache.has(loaded.key(address)),
-        }
     }
 
     /// Returns the object that contains an address, and the link address.

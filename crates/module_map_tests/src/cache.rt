@@ -56,20 +56,6 @@ fn a_full_cache_stores_every_fourth_answer(rt: HostRuntime) {
     assert!(rt; compares(&mut modules, 0x11000) > 2);
 }
 
-#[test]
-fn is_cached_after_an_ask(rt: HostRuntime) {
-    let mut modules = one(&rt, 0x10000, 4);
-    are_equal(&rt, modules.is_cached(0x11004), false);
-    modules.ask(0x11004);
-    are_equal(&rt, modules.is_cached(0x11004), true);
-    are_equal(&rt, modules.is_cached(0x11000), false);
-    // no module contains this one
-    are_equal(&rt, modules.is_cached(0x12010), false);
-    move_to(&rt, &mut modules, "a", 0x20000);
-    are_equal(&rt, modules.is_cached(0x11004), false);
-    are_equal(&rt, modules.is_cached(0x21004), true);
-}
-
 /// Data is read for at most eight addresses, whether or not they have an answer.
 #[test]
 fn prefetch_caches_and_counts_nothing(rt: HostRuntime) {
@@ -93,7 +79,6 @@ fn no_cache(rt: HostRuntime) {
     let mut modules = one(&rt, 0x10000, 0);
     ask_all(&rt, &mut modules, 0x11000, 6);
     are_equal(&rt, modules.cached(), (0, 0));
-    are_equal(&rt, modules.is_cached(0x11000), false);
     modules.ask(0x11004);
     assert!(rt; modules.steps().compares > 2);
 }
