@@ -17,7 +17,7 @@ use dwarf_lines::Row;
 use std::alloc::{AllocError, Global};
 
 /// The start of a range, its end (exclusive), and the key of the row or scope that has the range.
-#[derive(Clone, Copy, Debug)]
+#[derive(Clone, Copy)]
 pub(crate) struct Start {
     pub(crate) at: u64,
     pub(crate) to: u64,

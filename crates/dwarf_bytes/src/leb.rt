@@ -11,7 +11,7 @@ use crate::fault::ReadFault;
 const LOW_BYTES: usize = 9;
 
 /// The first nine bytes of a LEB128 number, decoded as unsigned.
-#[derive(Clone, Copy, Debug)]
+#[derive(Clone, Copy)]
 pub(crate) enum LebPrefix {
     /// A complete number, and the length of its encoding in bytes.
     Whole(u64, usize),

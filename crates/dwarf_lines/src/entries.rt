@@ -11,7 +11,7 @@ use dwarf_bytes::constants::{DW_FORM_DATA1, DW_FORM_DATA2, DW_FORM_STRING, DW_FO
 use dwarf_bytes::{Cause, Content, Cursor, Format, Section, Span, Text, TextIndex};
 
 /// The string of a path.
-#[derive(Clone, Copy, Debug)]
+#[derive(Clone, Copy)]
 pub struct PathText {
     pub part: Text,
     /// Whether it starts with a slash.
@@ -19,14 +19,14 @@ pub struct PathText {
 }
 
 /// A directory, or a file and its directory index.
-#[derive(Clone, Copy, Debug)]
+#[derive(Clone, Copy)]
 pub struct Entry {
     pub path: PathText,
     pub directory: u64,
 }
 
 /// `.debug_line`, and the indexed string sections that it refers to by offset.
-#[derive(Clone, Copy, Debug, Drop)]
+#[derive(Clone, Copy, Drop)]
 pub struct IndexedSections<'a> {
     pub line: &'a [u8],
     pub line_str: &'a TextIndex<'a>,

@@ -12,7 +12,7 @@ use dwarf_bytes::{Cause, Cursor, Format};
 use std::alloc::Global;
 
 /// The context of an entry: its sections, its format and its table.
-#[derive(Clone, Copy, Debug, Drop)]
+#[derive(Clone, Copy, Drop)]
 pub struct FileTableReader<'a> {
     pub sections: IndexedSections<'a>,
     pub format: Format,

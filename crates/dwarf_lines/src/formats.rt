@@ -16,14 +16,14 @@ use dwarf_bytes::{Cause, Cursor, Form, ValueLayout};
 use std::alloc::Global;
 
 /// A field of the entries of a table: its content type and its form (DWARF 5, 6.2.4.1).
-#[derive(Clone, Copy, Debug)]
+#[derive(Clone, Copy)]
 pub struct Field {
     pub content: u64,
     pub form: u64,
 }
 
 /// The directory table or the file table of a header (DWARF 5, 6.2.4).
-#[derive(Clone, Copy, Debug)]
+#[derive(Clone, Copy)]
 pub enum EntryTable {
     Directories,
     /// The file table, with the number of directories.

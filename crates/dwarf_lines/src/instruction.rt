@@ -15,7 +15,7 @@ use dwarf_bytes::constants::{
 use dwarf_bytes::{Cause, Cursor};
 
 /// An instruction of a line program (DWARF 5, 6.2.5).
-#[derive(Clone, Copy, Debug, PartialEq, Eq)]
+#[derive(Clone, Copy)]
 pub enum Instruction {
     Copy,
     AdvancePc(u64),
