@@ -146,7 +146,3 @@ for peer in 'llvm-dwarfdump --debug-info' 'readelf --debug-dump=info'; do
         echo "$peer of a C++ program: $(duration $peer out/objects/large) ms, $memory MiB"
     fi
 done
-"$measure" declarations out/objects/large
-"$measure" values out/objects/large
-"$measure" finds out/objects/large
-"$measure" asks out/objects/large

@@ -2,21 +2,14 @@
 //! `measure leb FILE` reads all LEB128 numbers of a file,
 //! `measure lines OBJECT` reads the line programs of an object,
 //! `measure rows OBJECT` prints their rows,
-//! `measure declarations OBJECT` reads its abbreviation tables 1,000 times,
-//! `measure values OBJECT` reads the abbreviation tables and the values of all entries,
 //! `measure scopes OBJECT` reads its subprograms and inlined subroutines,
 //! `measure scope-table OBJECT` prints these scopes,
 //! `measure files OBJECT` prints the files of the line programs of its units,
 //! `measure module OBJECT` decodes all of it, from its tables to the index of its addresses,
-//! `measure finds OBJECT` then finds a million addresses and their frames,
-//! `measure asks OBJECT` loads it, and asks a million cached and a million uncached addresses,
 //! `measure frames OBJECT` prints the frames of addresses spread over it, and
-//! `measure dump OBJECT` prints its rows, and then these frames.
+//! `measure dump OBJECT` prints its rows and its scopes.
 #![tactic(auto)]
 
-mod asks;
-mod entries;
-mod finds;
 mod frames;
 mod leb;
 mod lines;
@@ -36,15 +29,11 @@ fn main(rt: HostRuntime) -> Result<()> {
     match words[0].as_str() {
         "leb" => measure_leb(&rt, &bytes),
         "lines" => measure_lines(&rt, &bytes),
-        "declarations" => measure_declarations(&rt, &bytes),
-        "values" => measure_values(&rt, &bytes),
         "scopes" => measure_scopes(&rt, &bytes),
         "rows" => lines::print_rows(&rt, &bytes),
         "scope-table" => scopes::print_scopes(&rt, &bytes),
         "files" => lines::print_files(&rt, &bytes),
         "module" => measure_module(&rt, bytes),
-        "finds" => finds::measure_finds(&rt, &decoded(&rt, bytes)?),
-        "asks" => asks::measure_asks(&rt, bytes),
         "frames" => frames::print_frames(&rt, &decoded(&rt, bytes)?),
         "dump" => {
             lines::print_rows(&rt, &bytes)?;
@@ -56,10 +45,7 @@ fn main(rt: HostRuntime) -> Result<()> {
 
 fn print_usage(rt: &HostRuntime) -> Result<()> {
     println!(rt; "usage: measure COMMAND FILE, where COMMAND is")?;
-    println!(rt;
-        "leb, lines, rows, files, declarations, values, scopes, scope-table, module, finds, asks,",
-    )?;
-    println!(rt; "frames or dump")?;
+    println!(rt; "leb, lines, rows, files, scopes, scope-table, module, frames or dump")?;
     Ok(())
 }
 
@@ -81,29 +67,6 @@ fn measure_lines(rt: &HostRuntime, bytes: &[u8]) -> Result<()> {
     let lines = lines::read(rt.alloc(), bytes)?;
     let time = start.elapsed(rt)?;
     println!(rt; "{} rows, {} ms", lines.rows().len(), time.as_millis())?;
-    Ok(())
-}
-
-fn measure_declarations(rt: &HostRuntime, bytes: &[u8]) -> Result<()> {
-    let start = Instant::now(rt)?;
-    let count = entries::count_declarations(rt.alloc(), bytes, 1000)?;
-    let time = start.elapsed(rt)?;
-    println!(rt; "{count} declarations, {} ms", time.as_millis())?;
-    Ok(())
-}
-
-fn measure_values(rt: &HostRuntime, bytes: &[u8]) -> Result<()> {
-    let start = Instant::now(rt)?;
-    let counts = entries::read(rt.alloc(), bytes)?;
-    let time = start.elapsed(rt)?;
-    println!(rt;
-        "{} units, {} declarations, {} entries, {} values, {} ms",
-        counts.units,
-        counts.declarations,
-        counts.entries,
-        counts.values,
-        time.as_millis()
-    )?;
     Ok(())
 }
 
