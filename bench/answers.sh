@@ -3,9 +3,9 @@
 # and the installed peers: in a batch over a pipe, in a batch from a file to a file (per second of
 # CPU time) and in ping-pong, with FILE:LINE alone and with functions and inlined callers. The
 # addresses are spread over an object in random order. For this program it also measures sixteen
-# addresses that are looked up repeatedly. The fast programs run in alternating turns, and the turn
-# with the median rate is printed. MANY is the number of addresses, and FEW is the number for slow
-# peers. It fails if plain C answers differently.
+# addresses that are looked up repeatedly. The fast programs run in alternating turns (eu-addr2line
+# too if it is fast), and the turn with the median rate is printed. MANY is the number of addresses,
+# and FEW is the number for slow peers. It fails if plain C answers differently.
 set -euo pipefail
 cd "$(dirname "$0")/.."
 program=${ADDR2LINE_LIVE:-crates/addr2line_live/out/addr2line_live}
@@ -94,14 +94,19 @@ show() {
     printf '  %-44s %s\n' "$what" "$(out/ask "$how" "$addresses" out/lengths "$@" || true)"
 }
 
-# The same for a program that may be slow. It gets all addresses if it answers the few quickly,
-# otherwise only the few.
-show_slow() {
-    local what=$1 how=$2 start
-    shift 2
+# Returns whether a program answers the few addresses quickly.
+is_fast() {
+    local start
     start=$(date +%s%N)
     "$@" < out/few > /dev/null || true
-    if [ $((($(date +%s%N) - start) / 1000000)) -lt 150 ]; then
+    [ $((($(date +%s%N) - start) / 1000000)) -lt 150 ]
+}
+
+# Asks a program that may be slow once. It gets all addresses if it is fast, otherwise only the few.
+show_slow() {
+    local what=$1 how=$2
+    shift 2
+    if is_fast "$@"; then
         show "$what, spread" "$how" out/spread "$@"
     else
         show "$what, fewer" "$how" out/few "$@"
@@ -124,6 +129,11 @@ measure() {
     if [ -n "${GIMLI_ADDR2LINE:-}" ]; then
         add "addr2line of gimli, spread" out/spread "$GIMLI_ADDR2LINE" -e "$object" $options
     fi
+    local in_turns=no
+    if command -v eu-addr2line > /dev/null && is_fast eu-addr2line -e "$object" $options; then
+        add 'eu-addr2line, spread' out/spread eu-addr2line -e "$object" $options
+        in_turns=yes
+    fi
     ask_in_turns "$how"
     if command -v llvm-symbolizer > /dev/null; then
         local style='--functions=none --no-inlines'
@@ -131,7 +141,7 @@ measure() {
         show 'llvm-symbolizer, spread' "$how" out/spread \
             llvm-symbolizer --output-style=GNU --no-demangle $style --obj="$object"
     fi
-    if command -v eu-addr2line > /dev/null; then
+    if command -v eu-addr2line > /dev/null && [ $in_turns = no ]; then
         show_slow eu-addr2line "$how" eu-addr2line -e "$object" $options
     fi
     show_slow 'addr2line of binutils' "$how" addr2line -e "$object" $options
