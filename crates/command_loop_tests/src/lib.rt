@@ -1,4 +1,5 @@
-//! Tests of `command_loop`: whole runs over the sample objects, with devices that fail on request.
+//! Tests of `command_loop`: whole runs over the sample objects, with devices that fail on request,
+//! and the options of command lines.
 #![tactic(auto)]
 
 #[cfg(test)]
@@ -19,6 +20,8 @@ mod formats;
 mod help;
 #[cfg(test)]
 mod messages;
+#[cfg(test)]
+mod options;
 #[cfg(test)]
 mod recorder;
 #[cfg(test)]

@@ -1,7 +1,7 @@
 //! Options and refusals of command lines.
 
 use clap::error::ErrorKind;
-use command_line::{CliFault, options};
+use command_loop::{CliFault, options};
 use io_streams::Options;
 use std::process::Abort;
 use std::test::*;

@@ -1,5 +1,0 @@
-//! Tests of the command line.
-#![tactic(auto)]
-
-#[cfg(test)]
-mod options;
