@@ -104,7 +104,7 @@ class CheckDocs(unittest.TestCase):
                      'is_frame(&rt, frames.next(), b"mid", 6);')
         line = """'is_frame(&rt, frames.next(), b"mid", 6);'"""
         self.reports(f"LIBRARY.md: {line} is not at this position of "
-                     "crates/module_map_tests/src/answers.rt")
+                     "crates/lookup_tests/src/map/answers.rt")
 
     def test_lines_of_an_example_in_another_order(self):
         first, second = ("    are_equal(rt, scope.ranges(of), range.as_slice());\n",
@@ -114,10 +114,10 @@ class CheckDocs(unittest.TestCase):
                      "crates/dwarf_entries_tests/src/samples.rt")
 
     def test_example_without_a_source(self):
-        first = "// crates/dwarf_lines_tests/src/rows.rt"
+        first = "// crates/dwarf_tests/src/lines/rows.rt"
         self.replace("docs/LIBRARY.md", first, first.replace("rows", "columns"))
         self.reports("LIBRARY.md: an example starts with "
-                     "'// crates/dwarf_lines_tests/src/columns.rt', which names no source")
+                     "'// crates/dwarf_tests/src/lines/columns.rt', which names no source")
 
 
 class CheckWords(unittest.TestCase):

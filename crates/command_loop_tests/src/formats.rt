@@ -5,10 +5,9 @@ use dwarf_samples::{format_of_64_bits, inlined};
 use std::alloc::{AllocError, Global};
 use std::test::*;
 
-/// Appends a number of eight bytes.
-fn put(bytes: &mut Vec<u8>, number: usize) -> Result<(), AllocError> {
-    bytes.extend_from_slice(&(number as u64).to_le_bytes())?;
-    Ok(())
+/// Returns the eight bytes of a number.
+fn eight(number: usize) -> [u8; 8] {
+    (number as u64).to_le_bytes()
 }
 
 /// Builds the first sample object with another `.debug_info` and another `.debug_line`. The bytes
@@ -17,22 +16,27 @@ fn with_sections(alloc: Global, info: &[u8], line: &[u8]) -> Result<Vec<u8>, All
     let sample = inlined();
     let at_line = info.len().saturating_add(163);
     let at_names = line.len().saturating_add(at_line);
+    let parts: [&[u8]; 13] = [
+        &sample[0..40],
+        // e_shoff
+        &eight(at_names.saturating_add(49)),
+        &sample[48..163],
+        info,
+        line,
+        // up to the size of .debug_info
+        &sample[334..543],
+        &eight(info.len()),
+        &sample[551..599],
+        &eight(at_line),
+        &eight(line.len()),
+        &sample[615..663],
+        &eight(at_names),
+        &sample[671..],
+    ];
     let mut bytes = Vec::new(alloc);
-    bytes.extend_from_slice(&sample[0..40])?;
-    // e_shoff
-    put(&mut bytes, at_names.saturating_add(49))?;
-    bytes.extend_from_slice(&sample[48..163])?;
-    bytes.extend_from_slice(info)?;
-    bytes.extend_from_slice(line)?;
-    // up to the size of .debug_info
-    bytes.extend_from_slice(&sample[334..543])?;
-    put(&mut bytes, info.len())?;
-    bytes.extend_from_slice(&sample[551..599])?;
-    put(&mut bytes, at_line)?;
-    put(&mut bytes, line.len())?;
-    bytes.extend_from_slice(&sample[615..663])?;
-    put(&mut bytes, at_names)?;
-    bytes.extend_from_slice(&sample[671..])?;
+    for part in parts {
+        bytes.extend_from_slice(part)?;
+    }
     Ok(bytes)
 }
 

@@ -1,0 +1,145 @@
+//! Tables that overlap one list of attributes.
+
+use crate::checks::{are_equal, put};
+use crate::forms::both_readers::{add, agree_at, attributes_of, lists_of};
+use abbreviation_memo::{AbbreviationTable, MemoizedLists, UNSHARED};
+use dwarf_forms::AttributeSpecification;
+use std::process::Abort;
+use std::test::*;
+
+/// Builds a declaration of 100 attributes without its end, with names from 0x80 on and the form
+/// addr. Another table starts at each form: its code and its children flag are forms of the list.
+fn open_list(rt: &(impl Abort + AllocGlobal)) -> Vec<u8> {
+    let mut section = Vec::new(rt.alloc());
+    put(rt, &mut section, &[1, 1, 0]);
+    for name in 0u8..100 {
+        put(rt, &mut section, &[0x80 | name, 1, 1]);
+    }
+    section
+}
+
+/// Builds the declaration with its end.
+fn one_list(rt: &(impl Abort + AllocGlobal)) -> Vec<u8> {
+    let mut section = open_list(rt);
+    put(rt, &mut section, &[0, 0, 0]);
+    section
+}
+
+/// Returns the attributes of that list from a name on.
+fn attributes_from(rt: &(impl Abort + AllocGlobal), first: u64) -> Vec<AttributeSpecification> {
+    let mut attributes = Vec::new(rt.alloc());
+    for name in first..0x80 + 100 {
+        let attribute = AttributeSpecification {
+            name,
+            form: 1,
+            constant: None,
+        };
+        add(rt, &mut attributes, attribute);
+    }
+    attributes
+}
+
+/// Reads the table at an offset. Returns the attributes of its first declaration, and the number of
+/// them that the declaration stores itself.
+fn first_of(
+    rt: &(impl Abort + AllocGlobal),
+    lists: &mut MemoizedLists<'_>,
+    offset: u64,
+) -> (Vec<AttributeSpecification>, usize) {
+    let mut left = 1;
+    let Ok(table) = AbbreviationTable::read(rt.alloc(), lists, offset, &mut left) else {
+        panic!(rt; "the table is refused");
+    };
+    let Some(declaration) = table.declarations().first() else {
+        panic!(rt; "no declaration");
+    };
+    let attributes = attributes_of(rt, lists, declaration);
+    (attributes, declaration.list().own().len())
+}
+
+/// Checks that the table at an offset has a declaration with the attributes from a name on. Also
+/// checks the number of attributes that it stores itself and the number of memoized lists.
+fn is_shared(
+    rt: &(impl Abort + AllocGlobal),
+    lists: &mut MemoizedLists<'_>,
+    offset: u64,
+    first: u64,
+    own: usize,
+    memoized: usize,
+) {
+    let (shared, count) = first_of(rt, lists, offset);
+    are_equal(rt, (count, lists.places().len()), (own, memoized));
+    let wanted = attributes_from(rt, first);
+    are_equal(rt, shared.as_slice() == wanted.as_slice(), true);
+}
+
+/// Checks the same if no other list of the section is memoized.
+fn is_alone(
+    rt: &(impl Abort + AllocGlobal),
+    section: &[u8],
+    offset: u64,
+    first: u64,
+    own: usize,
+    memoized: usize,
+) {
+    let mut lists = lists_of(rt, section);
+    is_shared(rt, &mut lists, offset, first, own, memoized);
+}
+
+#[test]
+fn tables_within_one_list(rt: HostRuntime) {
+    let section = one_list(&rt);
+    let mut lists = lists_of(&rt, &section);
+    // one list from each later attribute on, and the empty list at the end
+    let later = 100 - UNSHARED + 1;
+    is_shared(&rt, &mut lists, 0, 0x80, UNSHARED, later);
+    // from the forms of the attributes 9, 34 and 35: their tables have the attributes after the
+    // next one
+    is_shared(&rt, &mut lists, 32, 0x8b, UNSHARED, later);
+    is_shared(&rt, &mut lists, 107, 0xa4, UNSHARED, later);
+    is_shared(&rt, &mut lists, 110, 0xa5, 63, later);
+}
+
+#[test]
+fn tables_within_one_list_alone(rt: HostRuntime) {
+    let section = one_list(&rt);
+    is_alone(&rt, &section, 0, 0x80, UNSHARED, 101 - UNSHARED);
+    is_alone(&rt, &section, 32, 0x8b, UNSHARED, 90 - UNSHARED);
+    is_alone(&rt, &section, 107, 0xa4, UNSHARED, 1);
+    is_alone(&rt, &section, 110, 0xa5, 63, 0);
+}
+
+/// Builds a declaration of 100 attributes, like `one_list`, with another name and form at an index.
+fn with_attribute(rt: &(impl Abort + AllocGlobal), index: u8, name: u8, form: u8) -> Vec<u8> {
+    let mut section = Vec::new(rt.alloc());
+    put(rt, &mut section, &[1, 1, 0]);
+    for number in 0u8..100 {
+        if number == index {
+            put(rt, &mut section, &[0x80 | name, 1, form]);
+        } else {
+            put(rt, &mut section, &[0x80 | number, 1, 1]);
+        }
+    }
+    put(rt, &mut section, &[0, 0, 0]);
+    section
+}
+
+#[test]
+fn late_name_of_an_own_attribute(rt: HostRuntime) {
+    agree_at(&rt, &with_attribute(&rt, 80, 3, 1), 0);
+}
+
+#[test]
+fn late_name_of_a_memoized_attribute(rt: HostRuntime) {
+    agree_at(&rt, &with_attribute(&rt, 90, 70, 1), 0);
+}
+
+#[test]
+fn late_form_that_is_unknown(rt: HostRuntime) {
+    agree_at(&rt, &with_attribute(&rt, 80, 80, 0x7f), 0);
+}
+
+#[test]
+fn long_list_without_an_end(rt: HostRuntime) {
+    agree_at(&rt, &open_list(&rt), 0);
+}
