@@ -9,32 +9,31 @@ fn linkage_names_come_first_if_asked_for(rt: HostRuntime) {
     let load = b"load a 0 linkage\n1004\n";
     let named = b"loaded a 0x0000000000001000-0x0000000000002000\nmid\n/src/a.c:11\n";
     let linked = b"loaded a 0x0000000000001000-0x0000000000002000\n?leaf\n/src/a.c:11\n";
-    fresh(&rt, rt.alloc(), b"f", load, named);
-    fresh(&rt, rt.alloc(), b"fl", load, linked);
+    let runs: [Run<'_>; 2] = [(b"f", load, named), (b"fl", load, linked)];
+    fresh(&rt, &runs);
 }
 
 #[test]
 fn a_path_that_ends_in_a_slash_has_no_base_name(rt: HostRuntime) {
-    fresh(
-        &rt,
-        rt.alloc(),
-        b"s",
-        b"load a 0 slash\n1000\n",
-        b"loaded a 0x0000000000001000-0x0000000000002000\n??:10\n",
-    );
-    fresh(
-        &rt,
-        rt.alloc(),
-        b"",
-        b"load a 0 slash\n1000\n",
-        b"loaded a 0x0000000000001000-0x0000000000002000\n/src/:10\n",
-    );
+    let runs: [Run<'_>; 2] = [
+        (
+            b"s",
+            b"load a 0 slash\n1000\n",
+            b"loaded a 0x0000000000001000-0x0000000000002000\n??:10\n",
+        ),
+        (
+            b"",
+            b"load a 0 slash\n1000\n",
+            b"loaded a 0x0000000000001000-0x0000000000002000\n/src/:10\n",
+        ),
+    ];
+    fresh(&rt, &runs);
 }
 
 /// All frames for the first sample object, loaded at 0x10000: options, input and output.
 #[test]
-fn frames_of_the_first_object(rt: HostRuntime) -> Result<(), Fail> {
-    let rows: [(&[u8], &[u8], &[u8]); 3] = [
+fn frames_of_the_first_object(rt: HostRuntime) {
+    let runs: [Run<'_>; 3] = [
         // all frames with names
         (
             b"fi",
@@ -51,16 +50,13 @@ fn frames_of_the_first_object(rt: HostRuntime) -> Result<(), Fail> {
         // all frames without names
         (b"i", b"11004\n", b"/src/a.c:11\n/src/a.c:5\n/src/a.c:20\n"),
     ];
-    for (letters, input, wanted) in rows {
-        loaded(&rt, rt.alloc(), letters, input, wanted)?;
-    }
-    Ok(())
+    loaded(&rt, &runs);
 }
 
 /// Other answers for that object: options, input and output.
 #[test]
-fn answers_of_the_first_object(rt: HostRuntime) -> Result<(), Fail> {
-    let rows: [(&[u8], &[u8], &[u8]); 6] = [
+fn answers_of_the_first_object(rt: HostRuntime) {
+    let runs: [Run<'_>; 6] = [
         // ranges are half open
         (b"f", b"0x11008\n", b"mid\n/src/a.c:11\n"),
         // plain answers
@@ -82,16 +78,13 @@ fn answers_of_the_first_object(rt: HostRuntime) -> Result<(), Fail> {
         // without a linkage name, the name is printed
         (b"fl", b"11008\n", b"mid\n/src/a.c:11\n"),
     ];
-    for (letters, input, wanted) in rows {
-        loaded(&rt, rt.alloc(), letters, input, wanted)?;
-    }
-    Ok(())
+    loaded(&rt, &runs);
 }
 
 /// Answers without that object: options, input and output.
 #[test]
 fn answers_of_other_objects(rt: HostRuntime) {
-    let rows: [(&[u8], &[u8], &[u8]); 4] = [
+    let runs: [Run<'_>; 4] = [
         // nothing is known without modules
         (b"apf", b"0\n", b"0x0000000000000000: ?? ??:0\n"),
         // the first covering row answers
@@ -114,7 +107,5 @@ fn answers_of_other_objects(rt: HostRuntime) {
             b"loaded a 0x0000000000001000-0x0000000000002000\n/src/a?.c:10\n",
         ),
     ];
-    for (letters, input, wanted) in rows {
-        fresh(&rt, rt.alloc(), letters, input, wanted);
-    }
+    fresh(&rt, &runs);
 }

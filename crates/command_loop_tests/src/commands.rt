@@ -1,5 +1,6 @@
 //! Commands that change the modules, and answers before and after them.
 
+use crate::checks::are_equal;
 use crate::devices::{Paper, Script};
 use crate::fixtures::*;
 use crate::recorder::Recorder;
@@ -11,7 +12,7 @@ use std::test::*;
 
 #[test]
 fn loads_a_module(rt: HostRuntime) {
-    fresh(&rt, rt.alloc(), b"", LOAD, LOADED);
+    fresh(&rt, &[(b"", LOAD, LOADED)]);
 }
 
 #[test]
@@ -36,15 +37,15 @@ fn a_valid_load_asks_once(rt: HostRuntime) {
             &mut Paper::new(),
             &mut source,
         );
-        assert_eq!(rt; result, Ok(()));
-        assert_eq!(rt; source.requests.len(), requests);
+        are_equal(&rt, result, Ok(()));
+        are_equal(&rt, source.requests.len(), requests);
     }
 }
 
 /// Commands after the first sample object was loaded: options, input and output.
 #[test]
-fn commands_after_a_load(rt: HostRuntime) -> Result<(), Fail> {
-    let rows: [(&[u8], &[u8], &[u8]); 4] = [
+fn commands_after_a_load(rt: HostRuntime) {
+    let runs: [Run<'_>; 4] = [
         // lists modules by rising address
         (
             b"",
@@ -74,16 +75,13 @@ fn commands_after_a_load(rt: HostRuntime) -> Result<(), Fail> {
             loaded a 0x0000000000011000-0x0000000000012000\n/src/a.c:12\n",
         ),
     ];
-    for (letters, input, wanted) in rows {
-        loaded(&rt, rt.alloc(), letters, input, wanted)?;
-    }
-    Ok(())
+    loaded(&rt, &runs);
 }
 
 /// Commands of a run that starts without a module: options, input and output.
 #[test]
 fn commands_without_modules(rt: HostRuntime) {
-    let rows: [(&[u8], &[u8], &[u8]); 2] = [
+    let runs: [Run<'_>; 2] = [
         // loads up to the greatest address
         (
             b"",
@@ -93,9 +91,7 @@ fn commands_without_modules(rt: HostRuntime) {
         // no input has no reply
         (b"", b"", b""),
     ];
-    for (letters, input, wanted) in rows {
-        fresh(&rt, rt.alloc(), letters, input, wanted);
-    }
+    fresh(&rt, &runs);
 }
 
 /// Appends the addresses of 16 bytes of the first sample object as lines, and their answers.
@@ -129,5 +125,6 @@ fn cached_answers(rt: HostRuntime) -> Result<(), Fail> {
     input.extend_from_slice(b"move a 0x20000\n")?;
     wanted.extend_from_slice(b"moved a 0x0000000000021000-0x0000000000022000\n")?;
     ask_16(alloc, 0x21000, &mut input, &mut wanted)?;
-    loaded(&rt, alloc, b"", &input, &wanted)
+    loaded(&rt, &[(b"", &input, &wanted)]);
+    Ok(())
 }

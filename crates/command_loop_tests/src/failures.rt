@@ -1,5 +1,6 @@
 //! Runs with failing devices or without enough memory.
 
+use crate::checks::are_equal;
 use crate::devices::{Paper, Script};
 use crate::fixtures::*;
 use crate::shelf::Shelf;
@@ -52,8 +53,8 @@ fn nothing_fails(rt: HostRuntime) {
         &mut Script::new(SCRIPT, 4096),
         &mut writer,
     );
-    assert_eq!(rt; result, Ok(()));
-    assert!(rt; is_first_replies(writer.text(), 5));
+    let is_first = is_first_replies(writer.text(), 5);
+    are_equal(&rt, (result, is_first), (Ok(()), true));
 }
 
 /// Returns which of its three outcomes a run has if an allocation may fail: all replies, the
@@ -75,7 +76,7 @@ fn memory_fails(rt: HostRuntime) -> Result<(), Fail> {
     let mut reader = Script::new(SCRIPT, 7);
     let result = outcome(alloc, &small(alloc), &mut reader, &mut writer);
     let outcome = outcome_without_memory(result, writer.text());
-    assert_ne!(rt; outcome, "another");
+    are_equal(&rt, outcome == "another", false);
     println!(rt; "outcome: {outcome}")?;
     Ok(())
 }
@@ -89,8 +90,8 @@ fn a_cache_of_more_answers_than_memory_has(rt: HostRuntime) {
     let mut writer = Paper::new();
     let mut reader = Script::new(SCRIPT, 4096);
     let result = outcome(alloc, &options, &mut reader, &mut writer);
-    assert_eq!(rt; result, Err(RunFault::Memory));
-    assert_eq!(rt; (writer.text(), reader.input), (b"".as_slice(), SCRIPT));
+    are_equal(&rt, result, Err(RunFault::Memory));
+    are_equal(&rt, (writer.text(), reader.input), (b"".as_slice(), SCRIPT));
 }
 
 #[test]
@@ -99,16 +100,19 @@ fn a_write_fails(rt: HostRuntime) {
     let options = small(alloc);
     let mut whole = Paper::new();
     let result = outcome(alloc, &options, &mut Script::new(SCRIPT, 4096), &mut whole);
-    assert_eq!(rt; result, Ok(()));
+    are_equal(&rt, result, Ok(()));
     for capacity in 0..whole.text().len() {
         for is_stuck in [false, true] {
             let mut writer = Paper::new();
             writer.capacity = capacity;
             writer.is_stuck = is_stuck;
             let result = outcome(alloc, &options, &mut Script::new(SCRIPT, 7), &mut writer);
-            assert_eq!(rt; result, Err(RunFault::Writing));
-            assert_eq!(rt; writer.text().len(), capacity);
-            assert!(rt; whole.text().starts_with(writer.text()));
+            let wanted = whole.text().get(..capacity);
+            are_equal(
+                &rt,
+                (result, Some(writer.text())),
+                (Err(RunFault::Writing), wanted),
+            );
         }
     }
 }
@@ -125,8 +129,8 @@ fn a_flush_fails(rt: HostRuntime) {
             &mut Script::new(SCRIPT, 7),
             &mut writer,
         );
-        assert_eq!(rt; result, Err(RunFault::Writing));
-        assert!(rt; is_first_replies(writer.text(), flushes + 1));
+        let is_first = is_first_replies(writer.text(), flushes + 1);
+        are_equal(&rt, (result, is_first), (Err(RunFault::Writing), true));
     }
 }
 
@@ -141,9 +145,13 @@ fn a_read_fails(rt: HostRuntime) {
         reader.until = until;
         let mut writer = Paper::new();
         let result = outcome(alloc, &small(alloc), &mut reader, &mut writer);
-        assert_eq!(rt; result, Err(RunFault::Reading));
         let count = ENDS.iter().filter(|end| **end <= until).count();
-        assert!(rt; is_first_replies(writer.text(), count), "after {until}");
+        let is_first = is_first_replies(writer.text(), count);
+        are_equal(
+            &rt,
+            (until, result, is_first),
+            (until, Err(RunFault::Reading), true),
+        );
     }
 }
 
@@ -161,9 +169,11 @@ fn flushes_each_reply_before_it_reads_on(rt: HostRuntime) {
     let mut source = Shelf::new(alloc);
     let options = Options::plain(alloc);
     let result = run(alloc, &options, &mut reader, &mut writer, &mut source);
-    assert_eq!(rt; result, Ok(()));
-    assert_eq!(rt; flushes.get(), 4);
-    assert!(rt; !reader.is_early);
+    are_equal(
+        &rt,
+        (result, flushes.get(), reader.is_early),
+        (Ok(()), 4, false),
+    );
 }
 
 /// Each reply is a single write here. It is flushed before the next one, although all lines come at
@@ -176,6 +186,9 @@ fn flushes_each_reply_to_lines_of_one_piece(rt: HostRuntime) {
     let mut source = Shelf::new(alloc);
     let options = Options::plain(alloc);
     let result = run(alloc, &options, &mut reader, &mut writer, &mut source);
-    assert_eq!(rt; result, Ok(()));
-    assert_eq!(rt; (writer.writes, writer.is_late), (4, false));
+    are_equal(
+        &rt,
+        (result, writer.writes, writer.is_late),
+        (Ok(()), 4, false),
+    );
 }

@@ -1,5 +1,6 @@
 //! Objects from files.
 
+use crate::checks::are_equal;
 use crate::devices::{Paper, Script};
 use command_loop::{FetchFault, FileSource, Objects, Options, run};
 use dwarf_samples::inlined;
@@ -13,8 +14,8 @@ fn reads_objects_from_files(rt: HostRuntime) -> Result<(), Fail> {
     let bytes = source.fetch("inlined.o");
     fs::remove_file(&rt, "inlined.o")?;
     match bytes {
-        Ok(bytes) => assert_eq!(rt; bytes.as_slice(), inlined().as_slice()),
-        Err(fault) => assert_eq!(rt; fault, FetchFault::Memory),
+        Ok(bytes) => are_equal(&rt, bytes.as_slice(), inlined().as_slice()),
+        Err(fault) => are_equal(&rt, fault, FetchFault::Memory),
     }
     Ok(())
 }
@@ -23,10 +24,8 @@ fn reads_objects_from_files(rt: HostRuntime) -> Result<(), Fail> {
 fn no_object_without_a_file(rt: HostRuntime) {
     let mut source = FileSource::new(rt.alloc(), &rt);
     for path in ["none", ".", ""] {
-        assert!(rt;
-            matches!(source.fetch(path), Err(FetchFault::File)),
-            "{path}"
-        );
+        let fault = source.fetch(path).err();
+        are_equal(&rt, (path, fault), (path, Some(FetchFault::File)));
     }
 }
 
@@ -40,7 +39,7 @@ fn serves_an_object_from_a_file(rt: HostRuntime) -> Result<(), Fail> {
     let mut source = FileSource::new(rt.alloc(), &rt);
     let result = run(rt.alloc(), &options, &mut reader, &mut writer, &mut source);
     fs::remove_file(&rt, "A")?;
-    assert_eq!(rt; result, Ok(()));
+    are_equal(&rt, result, Ok(()));
     let wanted = b"loaded a 0x0000000000001000-0x0000000000002000
 /src/a.c:10
 /src/a.c:10
@@ -49,6 +48,6 @@ fn serves_an_object_from_a_file(rt: HostRuntime) -> Result<(), Fail> {
 ??:0
 ??:0
 ";
-    assert_eq!(rt; writer.text(), wanted.as_slice());
+    are_equal(&rt, writer.text(), wanted.as_slice());
     Ok(())
 }

@@ -67,7 +67,7 @@ const FRAMES: &[u8] = b"loaded a 0x0000000000011000-0x0000000000012000\n\
 /// Objects of both formats and with dead code: options, input and output.
 #[test]
 fn formats_and_dead_code(rt: HostRuntime) {
-    let rows: [(&[u8], &[u8], &[u8]); 6] = [
+    let runs: [Run<'_>; 6] = [
         // units and programs of 64 bits
         (b"fi", b"load a 0x10000 wide\n11004\n", FRAMES),
         // a unit of 64 bits with a program of 32
@@ -95,15 +95,13 @@ fn formats_and_dead_code(rt: HostRuntime) {
             leaf\n/src/a.c:11\nmain\n/src/a.c:5\n",
         ),
     ];
-    for (letters, input, wanted) in rows {
-        fresh(&rt, rt.alloc(), letters, input, wanted);
-    }
+    fresh(&rt, &runs);
 }
 
 /// Refused objects: input and output.
 #[test]
-fn refused_formats(rt: HostRuntime) -> Result<(), Fail> {
-    let rows: [(&[u8], &[u8]); 2] = [
+fn refused_formats(rt: HostRuntime) {
+    let runs: [(&[u8], &[u8]); 2] = [
         // a reserved length
         (
             b"load c 0 no length\n",
@@ -115,8 +113,5 @@ fn refused_formats(rt: HostRuntime) -> Result<(), Fail> {
             b"refused object .debug_line sequence-open at 0\n",
         ),
     ];
-    for (input, wanted) in rows {
-        refused(&rt, rt.alloc(), input, wanted)?;
-    }
-    Ok(())
+    refused(&rt, &runs);
 }

@@ -1,7 +1,6 @@
 //! The texts of the help and of refused arguments.
 
-use crate::devices::Paper;
-use crate::starts::unread;
+use crate::starts::ends;
 use std::test::*;
 
 /// The whole help.
@@ -49,35 +48,23 @@ fn help() -> &'static [u8] {
 
 /// The help is written to standard output, also after other options.
 #[test]
-fn prints_help(rt: HostRuntime) -> Result<(), Fail> {
+fn prints_help(rt: HostRuntime) {
     for arguments in [["--help", "-f"], ["-f", "-h"]] {
-        let mut writer = Paper::new();
-        let mut errors = Paper::new();
-        let status = unread(rt.alloc(), &arguments, &mut writer, &mut errors)?;
-        assert_eq!(rt; status, 0);
-        assert_eq!(rt; writer.text(), help());
-        assert_eq!(rt; errors.text(), b"".as_slice());
+        ends(&rt, &arguments, 0, help(), b"");
     }
-    Ok(())
 }
 
 /// The version is written to standard output, also after other options.
 #[test]
-fn prints_the_version(rt: HostRuntime) -> Result<(), Fail> {
+fn prints_the_version(rt: HostRuntime) {
     for arguments in [["--version", "-f"], ["-f", "-V"]] {
-        let mut writer = Paper::new();
-        let mut errors = Paper::new();
-        let status = unread(rt.alloc(), &arguments, &mut writer, &mut errors)?;
-        assert_eq!(rt; status, 0);
-        assert_eq!(rt; writer.text(), b"addr2line_live 0.9.0\n".as_slice());
-        assert_eq!(rt; errors.text(), b"".as_slice());
+        ends(&rt, &arguments, 0, b"addr2line_live 0.9.0\n", b"");
     }
-    Ok(())
 }
 
 /// Arguments that the parser refuses, and its message on standard error.
 #[test]
-fn prints_usage(rt: HostRuntime) -> Result<(), Fail> {
+fn prints_usage(rt: HostRuntime) {
     let refused: [([&str; 2], &[u8]); 3] = [
         (
             ["-x", "10"],
@@ -97,12 +84,6 @@ fn prints_usage(rt: HostRuntime) -> Result<(), Fail> {
         ),
     ];
     for (arguments, message) in refused {
-        let mut writer = Paper::new();
-        let mut errors = Paper::new();
-        let status = unread(rt.alloc(), &arguments, &mut writer, &mut errors)?;
-        assert_eq!(rt; status, 2);
-        assert_eq!(rt; writer.text(), b"".as_slice());
-        assert_eq!(rt; errors.text(), message);
+        ends(&rt, &arguments, 2, b"", message);
     }
-    Ok(())
 }

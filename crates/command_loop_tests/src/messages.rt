@@ -1,53 +1,43 @@
 //! What faults print.
 
+use crate::checks::{are_equal, expect};
 use command_loop::{BadLine, ExeFault, FetchFault, MapFault, RunFault};
+use std::fmt::Display;
+use std::process::Abort;
 use std::test::*;
 
-#[test]
-fn prints_invalid_lines(rt: HostRuntime) -> Result<(), Fail> {
-    let messages = [
-        (BadLine::LongLine, "long-line"),
-        (BadLine::Command, "command"),
-        (BadLine::Fields, "fields"),
-        (BadLine::Name, "name"),
-        (BadLine::Number, "number"),
-        (BadLine::Path, "path"),
-    ];
-    for (bad, message) in messages {
-        assert_eq!(rt; bad.to_string(rt.alloc())?.as_str(), message);
-    }
-    Ok(())
+/// Checks the message of a fault.
+fn is_printed(rt: &(impl Abort + AllocGlobal), fault: &impl Display, message: &str) {
+    let text = expect(rt, fault.to_string(rt.alloc()).ok(), "out of memory");
+    are_equal(rt, text.as_str(), message);
 }
 
 #[test]
-fn prints_run_faults(rt: HostRuntime) -> Result<(), Fail> {
-    let messages = [
-        (RunFault::Reading, "reading failed"),
-        (RunFault::Writing, "writing failed"),
-        (RunFault::Memory, "no memory"),
+fn prints_invalid_lines(rt: HostRuntime) {
+    is_printed(&rt, &BadLine::LongLine, "long-line");
+    is_printed(&rt, &BadLine::Command, "command");
+    is_printed(&rt, &BadLine::Fields, "fields");
+    is_printed(&rt, &BadLine::Name, "name");
+    is_printed(&rt, &BadLine::Number, "number");
+    is_printed(&rt, &BadLine::Path, "path");
+}
+
+#[test]
+fn prints_run_faults(rt: HostRuntime) {
+    is_printed(&rt, &RunFault::Reading, "reading failed");
+    is_printed(&rt, &RunFault::Writing, "writing failed");
+    is_printed(&rt, &RunFault::Memory, "no memory");
+    let faults = [
+        (ExeFault::NotFetched(FetchFault::File), "refused file"),
         (
-            RunFault::Exe(ExeFault::NotFetched(FetchFault::File)),
-            "refused file",
-        ),
-        (
-            RunFault::Exe(ExeFault::NotFetched(FetchFault::TooLarge)),
+            ExeFault::NotFetched(FetchFault::TooLarge),
             "refused too-large",
         ),
-        (
-            RunFault::Exe(ExeFault::NotFetched(FetchFault::Memory)),
-            "refused memory",
-        ),
-        (
-            RunFault::Exe(ExeFault::NotLoaded(MapFault::Range)),
-            "refused range",
-        ),
-        (
-            RunFault::Exe(ExeFault::NotLoaded(MapFault::Memory)),
-            "refused memory",
-        ),
+        (ExeFault::NotFetched(FetchFault::Memory), "refused memory"),
+        (ExeFault::NotLoaded(MapFault::Range), "refused range"),
+        (ExeFault::NotLoaded(MapFault::Memory), "refused memory"),
     ];
-    for (fault, message) in messages {
-        assert_eq!(rt; fault.to_string(rt.alloc())?.as_str(), message);
+    for (fault, message) in faults {
+        is_printed(&rt, &RunFault::Exe(fault), message);
     }
-    Ok(())
 }

@@ -1,93 +1,91 @@
 //! Options and refusals of command lines.
 
+use crate::checks::{are_equal, expect};
+use crate::fixtures::command_line;
 use clap::error::ErrorKind;
 use command_loop::{CliFault, options};
 use io_streams::Options;
 use std::process::Abort;
 use std::test::*;
 
-/// Appends an argument to a command line.
-fn put(rt: &(impl Abort + AllocGlobal), line: &mut Vec<String>, word: &str) {
-    let Ok(word) = String::from_str(rt.alloc(), word) else {
-        panic!(rt; "out of memory");
-    };
-    if line.push(word).is_err() {
-        panic!(rt; "out of memory");
-    }
-}
-
-/// Returns a command line: the program's name, followed by these arguments.
-fn line(rt: &(impl Abort + AllocGlobal), words: &[&str]) -> Vec<String> {
-    let mut line = Vec::new(rt.alloc());
-    put(rt, &mut line, "addr2line_live");
-    for word in words {
-        put(rt, &mut line, word);
-    }
-    line
-}
-
 /// Returns the options of arguments that are accepted.
 fn taken(rt: &(impl Abort + AllocGlobal), words: &[&str]) -> Options {
-    match options(rt.alloc(), &line(rt, words)) {
-        Ok(options) => options,
-        Err(_) => panic!(rt; "the words are refused"),
-    }
+    expect(
+        rt,
+        options(rt.alloc(), &command_line(rt, words)).ok(),
+        "the words are refused",
+    )
 }
 
 /// Checks that the parser refuses the arguments with this kind of fault.
 fn is_usage(rt: &(impl Abort + AllocGlobal), words: &[&str], kind: ErrorKind) {
-    match options(rt.alloc(), &line(rt, words)) {
-        Err(CliFault::Usage(error)) => assert_eq!(rt; error.kind(), kind),
+    match options(rt.alloc(), &command_line(rt, words)) {
+        Err(CliFault::Usage(error)) => are_equal(rt, error.kind(), kind),
         _ => panic!(rt; "the parser takes the words"),
     }
 }
 
 /// Checks which argument is reported as no address.
 fn is_no_address(rt: &(impl Abort + AllocGlobal), words: &[&str], wanted: &str) {
-    match options(rt.alloc(), &line(rt, words)) {
-        Err(CliFault::Address(word)) => assert_eq!(rt; word, wanted),
-        _ => panic!(rt; "no word is refused"),
-    }
+    let line = command_line(rt, words);
+    let refused = match options(rt.alloc(), &line) {
+        Err(CliFault::Address(word)) => Some(word),
+        _ => None,
+    };
+    are_equal(rt, refused, Some(wanted));
+}
+
+/// Checks the flags that arguments set: first those of one letter that add to an answer, then
+/// those that change how it is written.
+fn are_flags(
+    rt: &(impl Abort + AllocGlobal),
+    words: &[&str],
+    added: (bool, bool, bool),
+    written: (bool, bool, bool),
+) {
+    let options = taken(rt, words);
+    let actual = (options.addresses, options.functions, options.inlines);
+    are_equal(rt, actual, added);
+    let actual = (options.pretty, options.basenames, options.linkage);
+    are_equal(rt, actual, written);
+}
+
+#[test]
+fn flags(rt: HostRuntime) {
+    let (none, all) = ((false, false, false), (true, true, true));
+    are_flags(&rt, &[], none, none);
+    are_flags(&rt, &["-afi"], all, none);
+    are_flags(
+        &rt,
+        &["--pretty-print", "--basenames", "--linkage"],
+        none,
+        all,
+    );
+    are_flags(&rt, &["-f", "10"], (false, true, false), none);
 }
 
 #[test]
 fn no_words(rt: HostRuntime) {
     let options = taken(&rt, &[]);
-    assert!(rt; !options.addresses && !options.functions && !options.inlines);
-    assert!(rt; !options.pretty && !options.basenames && !options.linkage);
-    assert!(rt; options.exe.is_none() && options.words.is_empty());
-    assert_eq!(rt; options.cache, 1024);
-}
-
-#[test]
-fn letters_in_one_word(rt: HostRuntime) {
-    let options = taken(&rt, &["-afi"]);
-    assert!(rt; options.addresses && options.functions && options.inlines);
-    assert!(rt; !options.pretty && !options.basenames && !options.linkage);
-}
-
-#[test]
-fn long_names(rt: HostRuntime) {
-    let options = taken(&rt, &["--pretty-print", "--basenames", "--linkage"]);
-    assert!(rt; !options.addresses && !options.functions && !options.inlines);
-    assert!(rt; options.pretty && options.basenames && options.linkage);
+    are_equal(&rt, (options.exe.is_none(), options.words.len()), (true, 0));
+    are_equal(&rt, options.cache, 1024);
 }
 
 #[test]
 fn object_and_addresses(rt: HostRuntime) {
     let options = taken(&rt, &["-e", "A", "-f", "1004", "0x1010"]);
-    assert!(rt; options.functions && !options.inlines);
-    let Some(exe) = &options.exe else {
-        panic!(rt; "no object");
-    };
-    assert_eq!(rt; exe.as_str(), "A");
+    let exe = expect(&rt, options.exe.as_ref(), "no object");
     let wanted: [u64; 2] = [0x1004, 0x1010];
-    assert_eq!(rt; options.words.as_slice(), wanted.as_slice());
+    are_equal(
+        &rt,
+        (exe.as_str(), options.words.as_slice()),
+        ("A", wanted.as_slice()),
+    );
 }
 
 /// Checks the capacity of the cache that these arguments give.
 fn is_cache(rt: &(impl Abort + AllocGlobal), words: &[&str], wanted: usize) {
-    assert_eq!(rt; taken(rt, words).cache, wanted);
+    are_equal(rt, taken(rt, words).cache, wanted);
 }
 
 #[test]

@@ -4,24 +4,19 @@ use crate::fixtures::*;
 use std::test::*;
 
 #[test]
-fn lines_up_to_the_limit(rt: HostRuntime) -> Result<(), Fail> {
+fn lines_up_to_the_limit(rt: HostRuntime) {
     let mut input = [b'z'; 8206];
     input[..10].copy_from_slice(b"unload x\n\n");
     input[4106] = b'\n';
     input[8204] = b'\n';
-    loaded(
-        &rt,
-        rt.alloc(),
-        b"",
-        &input[..8205],
-        b"refused no-module\nrefused command\nrefused long-line\n",
-    )
+    let wanted = b"refused no-module\nrefused command\nrefused long-line\n";
+    loaded(&rt, &[(b"", &input[..8205], wanted)]);
 }
 
 /// Refusals after the first sample object was loaded: options, input and output.
 #[test]
-fn refusals_after_a_load(rt: HostRuntime) -> Result<(), Fail> {
-    let rows: [(&[u8], &[u8], &[u8]); 4] = [
+fn refusals_after_a_load(rt: HostRuntime) {
+    let runs: [Run<'_>; 4] = [
         // lines that are no commands
         (
             b"",
@@ -49,16 +44,13 @@ fn refusals_after_a_load(rt: HostRuntime) -> Result<(), Fail> {
             b"refused file\nrefused name-taken\n",
         ),
     ];
-    for (letters, input, wanted) in rows {
-        loaded(&rt, rt.alloc(), letters, input, wanted)?;
-    }
-    Ok(())
+    loaded(&rt, &runs);
 }
 
 /// Refusals without a module: options, input and output.
 #[test]
 fn refusals_without_modules(rt: HostRuntime) {
-    let rows: [(&[u8], &[u8], &[u8]); 1] = [
+    let runs: [Run<'_>; 1] = [
         // fields of each command
         (
             b"",
@@ -69,15 +61,13 @@ fn refusals_without_modules(rt: HostRuntime) {
             refused command\n",
         ),
     ];
-    for (letters, input, wanted) in rows {
-        fresh(&rt, rt.alloc(), letters, input, wanted);
-    }
+    fresh(&rt, &runs);
 }
 
 /// Malformed objects, with and without another module: input and output.
 #[test]
-fn malformed_objects(rt: HostRuntime) -> Result<(), Fail> {
-    let rows: [(&[u8], &[u8]); 5] = [
+fn malformed_objects(rt: HostRuntime) {
+    let runs: [(&[u8], &[u8]); 5] = [
         // abbreviations cut short
         (
             b"load c 0 A1\n",
@@ -105,8 +95,5 @@ fn malformed_objects(rt: HostRuntime) -> Result<(), Fail> {
             b"refused object .debug_line short at 0\nrefused object .debug_info reference at 54\n",
         ),
     ];
-    for (input, wanted) in rows {
-        refused(&rt, rt.alloc(), input, wanted)?;
-    }
-    Ok(())
+    refused(&rt, &runs);
 }

@@ -1,5 +1,6 @@
 //! Runs whose source does not return the object. The replies are the ones without it.
 
+use crate::checks::are_equal;
 use crate::devices::{Paper, Script};
 use crate::fixtures::*;
 use crate::recorder::Recorder;
@@ -25,18 +26,18 @@ fn each_load_asks_once(rt: HostRuntime) {
         &mut writer,
         &mut source,
     );
-    assert_eq!(rt; result, Ok(()));
-    assert_eq!(rt; source.requests.len(), 2);
+    are_equal(&rt, result, Ok(()));
+    are_equal(&rt, source.requests.len(), 2);
     for (request, wanted) in source.requests.iter().zip(["A", "none"]) {
-        assert_eq!(rt; request.path.as_str(), wanted);
-        assert_eq!(rt; request.result.is_ok(), wanted == "A");
+        are_equal(&rt, request.path.as_str(), wanted);
+        are_equal(&rt, request.result.is_ok(), wanted == "A");
     }
 }
 
 /// Sources without a file, with a file that is too large, and without memory.
 #[test]
 fn sources_that_fail(rt: HostRuntime) {
-    let rows: [(&[u8], &[u8], &[u8]); 3] = [
+    let runs: [Run<'_>; 3] = [
         // the source has no file
         (
             b"",
@@ -56,7 +57,5 @@ fn sources_that_fail(rt: HostRuntime) {
             b"refused memory\n??:0\nrefused no-module\n??:0\nrefused no-module\n",
         ),
     ];
-    for (letters, input, wanted) in rows {
-        fresh(&rt, rt.alloc(), letters, input, wanted);
-    }
+    fresh(&rt, &runs);
 }

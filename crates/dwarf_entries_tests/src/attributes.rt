@@ -72,8 +72,6 @@ fn forms_of_counts(rt: HostRuntime) {
 fn is_called_in_file_7(rt: &(impl Abort + AllocGlobal), attributes: Attributes<'_>) {
     let object = OneScope::new(rt, (&[], &[]), attributes);
     let read = scopes_of(rt, &object.sections());
-    let Some(scope) = read.scopes().first() else {
-        panic!(rt; "no scope");
-    };
+    let scope = expect(rt, read.scopes().first(), "no scope");
     are_equal(rt, call_of(&read, scope), (Some(7), None));
 }

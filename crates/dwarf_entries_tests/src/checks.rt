@@ -13,12 +13,21 @@ pub fn are_equal<T: Copy + Debug + PartialEq>(rt: &impl Abort, actual: T, wanted
     assert_eq!(rt; actual, wanted);
 }
 
+/// Returns a value that must be there. Otherwise the test fails with this message.
+pub fn expect<T>(rt: &impl Abort, value: Option<T>, missing: &str) -> T {
+    match value {
+        Some(value) => value,
+        None => panic!(rt; "{missing}"),
+    }
+}
+
 /// Reads the scopes of these sections.
 pub fn scopes_of(rt: &(impl Abort + AllocGlobal), sections: &Sections<'_>) -> Scopes {
-    match Scopes::read(rt.alloc(), sections) {
-        Ok(read) => read,
-        Err(_) => panic!(rt; "the sections are refused"),
-    }
+    expect(
+        rt,
+        Scopes::read(rt.alloc(), sections).ok(),
+        "the sections are refused",
+    )
 }
 
 /// Checks the fault of the sections, if any.

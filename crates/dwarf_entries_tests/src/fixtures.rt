@@ -1,8 +1,8 @@
 //! Builders of units for the tests, and of the results expected for them.
 
 pub use crate::checks::{
-    Row, are_equal, are_scopes, call_of, covers_or_is_refused, has_fault, have_fault, have_names,
-    is_invalid_unit, is_named_or_refused, is_refused, scopes_of,
+    Row, are_equal, are_scopes, call_of, covers_or_is_refused, expect, has_fault, have_fault,
+    have_names, is_invalid_unit, is_named_or_refused, is_refused, scopes_of,
 };
 use dwarf_bytes::{Cause, LoadFault, Object, Section};
 use dwarf_entries::{Range, Root, Sections, TextOffset};
@@ -26,17 +26,13 @@ pub fn sections<'a>(debug_info: &'a [u8], debug_abbrev: &'a [u8]) -> Sections<'a
 
 /// Returns the sections of a sample object.
 pub fn sections_of<'a>(rt: &impl Abort, object: &'a [u8]) -> Sections<'a> {
-    match Object::find(object) {
-        Ok(layout) => Sections::of(object, &layout),
-        Err(_) => panic!(rt; "the object is refused"),
-    }
+    let layout = expect(rt, Object::find(object).ok(), "the object is refused");
+    Sections::of(object, &layout)
 }
 
 /// Appends bytes.
 pub fn put(rt: &impl Abort, bytes: &mut Vec<u8>, more: &[u8]) {
-    if bytes.extend_from_slice(more).is_err() {
-        panic!(rt; "out of memory");
-    }
+    expect(rt, bytes.extend_from_slice(more).ok(), "out of memory");
 }
 
 /// Appends `count` copies of a byte.

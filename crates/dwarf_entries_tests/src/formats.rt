@@ -88,9 +88,7 @@ fn units_of_both_formats(rt: HostRuntime) {
 
 /// Appends the scopes of a unit.
 fn put_rows(rt: &impl Abort, wanted: &mut Vec<Row>, rows: [Row; 5]) {
-    if wanted.extend_from_slice(&rows).is_err() {
-        panic!(rt; "out of memory");
-    }
+    expect(rt, wanted.extend_from_slice(&rows).ok(), "out of memory");
 }
 
 #[test]

@@ -41,9 +41,7 @@ fn the_last_of_seventy_thousand_scopes(rt: HostRuntime) {
     let info = unit_of_many(&rt, 70_000);
     let read = scopes_of(&rt, &sections(&info, &TABLE));
     are_equal(&rt, read.scopes().len(), 70_001);
-    let Some(last) = read.scopes().last() else {
-        panic!(rt; "no scope");
-    };
+    let last = expect(&rt, read.scopes().last(), "no scope");
     let actual = (last.number(), last.offset(), last.end());
     are_equal(&rt, actual, (70_000, 1_539_994, 70_001));
     let covered = [range(1_124_080, 1_124_096)];

@@ -23,15 +23,11 @@ fn is_read(
 ) {
     let table = declarations(rt, (&[], &[]), (forms, &[]));
     let info = one_scope(rt, (&[], &[]), (&[], bytes));
-    let Ok(headers) = units(rt.alloc(), &info) else {
-        panic!(rt; "the unit is refused");
-    };
+    let headers = expect(rt, units(rt.alloc(), &info).ok(), "the unit is refused");
     let Ok(mut tables) = Tables::validate(rt.alloc(), &table, &headers) else {
         panic!(rt; "the table is refused");
     };
-    let Some(header) = headers.first() else {
-        panic!(rt; "no unit");
-    };
+    let header = expect(rt, headers.first(), "no unit");
     let Ok(number) = tables.number_of(rt.alloc(), header, 0) else {
         panic!(rt; "no table");
     };
@@ -47,9 +43,7 @@ fn is_read(
 /// is refused.
 fn is_entry(rt: &impl Abort, table: &UnitTable<'_>, info: &[u8], values: &[Value], end: usize) {
     let mut cursor = Cursor::new(info);
-    if cursor.seek(13).is_err() {
-        panic!(rt; "no entry");
-    }
+    expect(rt, cursor.seek(13).ok(), "no entry");
     let mut found = UsedAttributes::none();
     let tag = table.read_entry(&mut cursor, &mut found);
     are_equal(rt, tag, Ok(0x2e));
@@ -64,17 +58,21 @@ fn is_entry(rt: &impl Abort, table: &UnitTable<'_>, info: &[u8], values: &[Value
 /// Reads the values of the entry at offset 13 by their positions. Checks that it is not found if
 /// its last byte is missing, and that the null entry after it is not found.
 fn is_fixed(rt: &impl Abort, table: &UnitTable<'_>, info: &[u8], values: &[Value], end: usize) {
-    let Some(entry) = table.fixed_size_entry(info, 13) else {
-        panic!(rt; "no entry of a fixed size");
-    };
+    let entry = expect(
+        rt,
+        table.fixed_size_entry(info, 13),
+        "no entry of a fixed size",
+    );
     are_equal(rt, entry.tag, 0x2e);
     are_equal(rt, entry.after, end);
     for (name, parts) in values {
         are_equal(rt, parts_of(entry.values.value(*name)), *parts);
     }
-    let Some(part) = info.get(..end.saturating_sub(1)) else {
-        panic!(rt; "the unit ends before the entry");
-    };
+    let part = expect(
+        rt,
+        info.get(..end.saturating_sub(1)),
+        "the unit ends before the entry",
+    );
     are_equal(rt, table.fixed_size_entry(part, 13).is_some(), false);
     are_equal(rt, table.fixed_size_entry(info, end).is_some(), false);
 }

@@ -77,9 +77,7 @@ fn scopes_of_a_sample(rt: HostRuntime) {
 fn scopes_of_another_object(rt: HostRuntime) {
     let bare = leaf_without_code();
     let read = scopes_of(&rt, &sections_of(&rt, &inlined()));
-    let Some(leaf) = read.scopes().last() else {
-        panic!(rt; "no scope");
-    };
+    let leaf = expect(&rt, read.scopes().last(), "no scope");
     let call = (Some(1), Some(5));
     has_data(&rt, leaf, &read, Some(range(0x1004, 0x1008)), Some(0), call);
     let other = scopes_of(&rt, &sections_of(&rt, &bare));

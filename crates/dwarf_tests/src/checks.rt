@@ -9,11 +9,17 @@ pub fn are_equal<T: Copy + Debug + PartialEq>(rt: &impl Abort, actual: T, wanted
     assert_eq!(rt; actual, wanted);
 }
 
+/// Returns a value that must be there. Otherwise the test fails with this message.
+pub fn expect<T>(rt: &impl Abort, value: Option<T>, missing: &str) -> T {
+    match value {
+        Some(value) => value,
+        None => panic!(rt; "{missing}"),
+    }
+}
+
 /// Appends bytes.
 pub fn put(rt: &impl Abort, bytes: &mut Vec<u8>, more: &[u8]) {
-    if bytes.extend_from_slice(more).is_err() {
-        panic!(rt; "out of memory");
-    }
+    expect(rt, bytes.extend_from_slice(more).ok(), "out of memory");
 }
 
 /// Appends the same bytes `count` times.

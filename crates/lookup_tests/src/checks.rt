@@ -9,10 +9,15 @@ pub fn are_equal<T: Copy + Debug + PartialEq>(rt: &impl Abort, actual: T, wanted
     assert_eq!(rt; actual, wanted);
 }
 
+/// Returns a value that must be there. Otherwise the test fails with this message.
+pub fn expect<T>(rt: &impl Abort, value: Option<T>, missing: &str) -> T {
+    match value {
+        Some(value) => value,
+        None => panic!(rt; "{missing}"),
+    }
+}
+
 /// Copies bytes.
 pub fn copy(rt: &(impl Abort + AllocGlobal), bytes: &[u8]) -> Vec<u8> {
-    match bytes.to_vec(rt.alloc()) {
-        Ok(copy) => copy,
-        Err(_) => panic!(rt; "out of memory"),
-    }
+    expect(rt, bytes.to_vec(rt.alloc()).ok(), "out of memory")
 }

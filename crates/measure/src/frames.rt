@@ -11,22 +11,24 @@ const ASKED: u64 = 10_000;
 /// each frame, innermost first, a line with its name and its source position.
 pub fn print_frames(rt: &HostRuntime, module: &Module) -> Result<()> {
     let mut out = BufWriter::new(rt.alloc(), io::writer(rt))?;
-    let mut steps = Steps {
-        compares: 0,
-        decoded: 0,
-    };
     let stride = module.high().saturating_sub(module.low()) / ASKED + 1;
     let mut link = module.low();
     for _ in 0..ASKED {
-        writeln!(out, "{link:x}")?;
-        if let Some(place) = module.find(link, &mut steps) {
-            for frame in module.frames(place) {
-                print_frame(&mut out, &frame)?;
-            }
-        }
+        print_frames_at(&mut out, module, link)?;
         link = link.saturating_add(stride);
     }
     out.flush().context("writing")?;
+    Ok(())
+}
+
+/// Prints the frames of an address.
+fn print_frames_at<W: Write>(out: &mut W, module: &Module, link: u64) -> Result<()> {
+    writeln!(out, "{link:x}")?;
+    if let Some(place) = module.find(link, &mut Steps::default()) {
+        for frame in module.frames(place) {
+            print_frame(out, &frame)?;
+        }
+    }
     Ok(())
 }
 

@@ -3,7 +3,7 @@
 use crate::scopes;
 use anyhow::{Context, Result};
 use dwarf_bytes::{LoadFault, Object, Section};
-use dwarf_lines::{LineTables, PathParts};
+use dwarf_lines::{LineTables, PathParts, Row};
 use std::alloc::Global;
 use std::io::{self, BufWriter, Write};
 
@@ -23,17 +23,22 @@ pub fn print_rows(rt: &HostRuntime, bytes: &[u8]) -> Result<()> {
     let lines = read(rt.alloc(), bytes)?;
     let mut out = BufWriter::new(rt.alloc(), io::writer(rt))?;
     for row in lines.rows() {
-        write!(out, "{:x} ", row.address)?;
-        if row.end {
-            writeln!(out, "end")?;
-            continue;
-        }
-        if let Some(parts) = lines.path(row.program, row.file) {
-            print_path(&mut out, bytes, &parts)?;
-        }
-        writeln!(out, ":{}", row.line)?;
+        print_row(&mut out, bytes, &lines, row)?;
     }
     out.flush().context("writing")?;
+    Ok(())
+}
+
+fn print_row<W: Write>(out: &mut W, bytes: &[u8], lines: &LineTables, row: &Row) -> Result<()> {
+    write!(out, "{:x} ", row.address)?;
+    if row.end {
+        writeln!(out, "end")?;
+        return Ok(());
+    }
+    if let Some(parts) = lines.path(row.program, row.file) {
+        print_path(out, bytes, &parts)?;
+    }
+    writeln!(out, ":{}", row.line)?;
     Ok(())
 }
 

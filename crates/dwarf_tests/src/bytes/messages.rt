@@ -1,6 +1,6 @@
 //! The messages of faults, and the numbers of causes.
 
-use crate::checks::are_equal;
+use crate::checks::{are_equal, expect};
 use dwarf_bytes::{Cause, LoadFault, ReadFault, Section};
 use std::test::*;
 
@@ -13,9 +13,7 @@ fn prints_read_faults(rt: HostRuntime) {
         (ReadFault::Length, "length"),
     ];
     for (fault, message) in messages {
-        let Ok(printed) = fault.to_string(rt.alloc()) else {
-            panic!(rt; "out of memory");
-        };
+        let printed = expect(&rt, fault.to_string(rt.alloc()).ok(), "out of memory");
         are_equal(&rt, printed.as_str(), message);
     }
 }
@@ -23,9 +21,7 @@ fn prints_read_faults(rt: HostRuntime) {
 #[test]
 fn prints_load_faults(rt: HostRuntime) {
     let fault = LoadFault::at_item(Section::DebugStrOffsets, Cause::PcAndRanges, 54);
-    let Ok(text) = fault.to_string(rt.alloc()) else {
-        panic!(rt; "out of memory");
-    };
+    let text = expect(&rt, fault.to_string(rt.alloc()).ok(), "out of memory");
     are_equal(
         &rt,
         text.as_str(),

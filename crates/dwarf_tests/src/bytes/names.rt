@@ -1,6 +1,6 @@
 //! Section names in an object with many section headers.
 
-use crate::checks::{are_equal, put, put_many};
+use crate::checks::{are_equal, expect, put, put_many};
 use dwarf_bytes::{Cause, LoadFault, Object, Section, Span};
 use std::process::Abort;
 use std::test::*;
@@ -82,9 +82,11 @@ fn fault(at: u64) -> Option<LoadFault> {
 
 #[test]
 fn walks_over_no_name(rt: HostRuntime) {
-    let Ok(layout) = Object::find(&long_names(&rt, 0)) else {
-        panic!(rt; "the object is refused");
-    };
+    let layout = expect(
+        &rt,
+        Object::find(&long_names(&rt, 0)).ok(),
+        "the object is refused",
+    );
     are_equal(&rt, layout.debug_str, Span { place: 3, len: 5 });
     are_equal(&rt, layout.debug_info, Span { place: 0, len: 0 });
 }

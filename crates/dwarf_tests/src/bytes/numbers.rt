@@ -1,6 +1,6 @@
 //! Numbers and strings read by a cursor.
 
-use crate::checks::are_equal;
+use crate::checks::{are_equal, expect};
 use dwarf_bytes::{Cursor, Format, ReadFault, text_at};
 use std::fmt::Debug;
 use std::process::Abort;
@@ -11,18 +11,13 @@ const HIGH: u8 = 0xff;
 /// Returns a cursor at offset 1 of the bytes.
 fn at_one<'a>(rt: &impl Abort, bytes: &'a [u8]) -> Cursor<'a> {
     let mut cursor = Cursor::new(bytes);
-    if cursor.seek(1).is_err() {
-        panic!(rt; "no byte");
-    }
+    expect(rt, cursor.seek(1).ok(), "no byte");
     cursor
 }
 
 /// Returns the part of `len` bytes from a cursor on.
 fn part_of<'a>(rt: &impl Abort, cursor: &Cursor<'a>, len: u64) -> Cursor<'a> {
-    match cursor.part(len) {
-        Ok(part) => part,
-        Err(_) => panic!(rt; "the part is refused"),
-    }
+    expect(rt, cursor.part(len).ok(), "the part is refused")
 }
 
 #[test]

@@ -1,6 +1,6 @@
 //! Strings of sections, and their ends.
 
-use crate::checks::{are_equal, put, put_many};
+use crate::checks::{are_equal, expect, put, put_many};
 use dwarf_bytes::{ReadFault, Section, Span, Text, TextIndex, strings_end, text_at};
 use std::process::Abort;
 use std::test::*;
@@ -14,10 +14,7 @@ fn run(rt: &(impl Abort + AllocGlobal), len: usize) -> Vec<u8> {
 
 /// Returns the index of a section.
 fn index_of<'a>(rt: &(impl Abort + AllocGlobal), section: &'a [u8]) -> TextIndex<'a> {
-    match TextIndex::of(rt.alloc(), section) {
-        Ok(index) => index,
-        Err(_) => panic!(rt; "out of memory"),
-    }
+    expect(rt, TextIndex::of(rt.alloc(), section).ok(), "out of memory")
 }
 
 /// Checks the length of the string at an offset, both by the index and by a read of the section.

@@ -1,6 +1,6 @@
 //! A comparison of the reader of a single table and the one that shares attributes between tables.
 
-use crate::checks::are_equal;
+use crate::checks::{are_equal, expect};
 use abbreviation_memo::{AbbreviationDeclaration, AbbreviationTable, ListStart, MemoizedLists};
 use dwarf_forms::{Abbrevs, AttributeSpecification, Decl};
 use dwarf_samples::inlined;
@@ -9,10 +9,11 @@ use std::test::*;
 
 /// Returns the lists of a section, with no list memoized.
 pub fn lists_of<'a>(rt: &(impl Abort + AllocGlobal), section: &'a [u8]) -> MemoizedLists<'a> {
-    match MemoizedLists::new(rt.alloc(), section) {
-        Ok(lists) => lists,
-        Err(_) => panic!(rt; "out of memory"),
-    }
+    expect(
+        rt,
+        MemoizedLists::new(rt.alloc(), section).ok(),
+        "out of memory",
+    )
 }
 
 /// Appends an attribute.
@@ -21,9 +22,7 @@ pub fn add(
     attributes: &mut Vec<AttributeSpecification>,
     attribute: AttributeSpecification,
 ) {
-    if attributes.push(attribute).is_err() {
-        panic!(rt; "out of memory");
-    }
+    expect(rt, attributes.push(attribute).ok(), "out of memory");
 }
 
 /// Returns the attributes that a declaration stores itself.
@@ -31,10 +30,11 @@ fn own_attributes(
     rt: &(impl Abort + AllocGlobal),
     declaration: &AbbreviationDeclaration,
 ) -> Vec<AttributeSpecification> {
-    match Vec::from_slice(rt.alloc(), declaration.list().own()) {
-        Ok(attributes) => attributes,
-        Err(_) => panic!(rt; "out of memory"),
-    }
+    expect(
+        rt,
+        Vec::from_slice(rt.alloc(), declaration.list().own()).ok(),
+        "out of memory",
+    )
 }
 
 /// Appends the first attribute of the list at an offset. Returns the offset of the others, or
@@ -45,9 +45,11 @@ fn add_first(
     place: usize,
     attributes: &mut Vec<AttributeSpecification>,
 ) -> Option<usize> {
-    let Ok(start) = ListStart::read(rt.alloc(), section, place) else {
-        panic!(rt; "the list is refused");
-    };
+    let start = expect(
+        rt,
+        ListStart::read(rt.alloc(), section, place).ok(),
+        "the list is refused",
+    );
     let attribute = start.attribute?;
     add(rt, attributes, attribute);
     Some(start.rest)

@@ -1,6 +1,6 @@
 //! Tables that overlap one list of attributes.
 
-use crate::checks::{are_equal, put};
+use crate::checks::{are_equal, expect, put};
 use crate::forms::both_readers::{add, agree_at, attributes_of, lists_of};
 use abbreviation_memo::{AbbreviationTable, MemoizedLists, UNSHARED};
 use dwarf_forms::AttributeSpecification;
@@ -47,12 +47,12 @@ fn first_of(
     offset: u64,
 ) -> (Vec<AttributeSpecification>, usize) {
     let mut left = 1;
-    let Ok(table) = AbbreviationTable::read(rt.alloc(), lists, offset, &mut left) else {
-        panic!(rt; "the table is refused");
-    };
-    let Some(declaration) = table.declarations().first() else {
-        panic!(rt; "no declaration");
-    };
+    let table = expect(
+        rt,
+        AbbreviationTable::read(rt.alloc(), lists, offset, &mut left).ok(),
+        "the table is refused",
+    );
+    let declaration = expect(rt, table.declarations().first(), "no declaration");
     let attributes = attributes_of(rt, lists, declaration);
     (attributes, declaration.list().own().len())
 }

@@ -1,6 +1,6 @@
 //! Valid and invalid tables of declarations.
 
-use crate::checks::{are_equal, put};
+use crate::checks::{are_equal, expect, put};
 use dwarf_bytes::{Cause, LoadFault, Section};
 use dwarf_forms::{Abbrevs, AttributeSpecification, Decl};
 use dwarf_samples::inlined;
@@ -24,10 +24,11 @@ fn is_refused(rt: &(impl Abort + AllocGlobal), table: &[u8], cause: Cause, at: u
 
 /// Reads the table at the section's start without a fault.
 fn read(rt: &(impl Abort + AllocGlobal), section: &[u8], left: &mut u64) -> Abbrevs {
-    match Abbrevs::read(rt.alloc(), section, 0, left) {
-        Ok(table) => table,
-        Err(_) => panic!(rt; "the table is refused"),
-    }
+    expect(
+        rt,
+        Abbrevs::read(rt.alloc(), section, 0, left).ok(),
+        "the table is refused",
+    )
 }
 
 /// Checks the names and forms of a declaration's attributes, and that none has a constant.
@@ -59,9 +60,7 @@ fn declarations_of_a_unit(rt: HostRuntime) {
         are_equal(&rt, head, (code, tag, children));
         are_equal(&rt, decl.attributes().len(), attributes);
     }
-    let Some(inlined) = table.decls().get(2) else {
-        panic!(rt; "no declaration 3");
-    };
+    let inlined = expect(&rt, table.decls().get(2), "no declaration 3");
     let wanted = [
         (0x31, 0x13),
         (0x11, 0x01),
@@ -87,12 +86,8 @@ fn constants_in_declarations(rt: HostRuntime) {
     let mut left = MOST;
     let table = read(&rt, &[1, 0x11, 0, 3, 0x21, 0x7f, 0, 0, 0], &mut left);
     are_equal(&rt, table.decls().len(), 1);
-    let Some(decl) = table.decls().first() else {
-        panic!(rt; "no declaration");
-    };
-    let Some(attribute) = decl.attributes().first() else {
-        panic!(rt; "no attribute");
-    };
+    let decl = expect(&rt, table.decls().first(), "no declaration");
+    let attribute = expect(&rt, decl.attributes().first(), "no attribute");
     are_equal(&rt, attribute.constant, Some(-1));
 }
 
@@ -201,9 +196,7 @@ fn wide(rt: &(impl Abort + AllocGlobal), attributes: u8, again: u8) -> Vec<u8> {
 fn many_names(rt: HostRuntime) {
     let mut left = 1;
     let table = read(&rt, &wide(&rt, 100, 100), &mut left);
-    let Some(decl) = table.decls().first() else {
-        panic!(rt; "no declaration");
-    };
+    let decl = expect(&rt, table.decls().first(), "no declaration");
     are_equal(&rt, decl.attributes().len(), 100);
     for again in [1, 32, 33, 99] {
         is_refused(&rt, &wide(&rt, 100, again), Cause::AttrTwice, 0);

@@ -1,6 +1,6 @@
 //! Each form, with a value and with that value truncated.
 
-use crate::checks::are_equal;
+use crate::checks::{are_equal, expect};
 use dwarf_bytes::{Cursor, Format, ReadFault};
 use dwarf_forms::{Content, Value, ValueFault, value};
 use std::process::Abort;
@@ -22,6 +22,19 @@ fn number_of(value: Result<Value<'_>, ValueFault>) -> Option<(u64, u64)> {
                 content: Content::Number(number),
             },
         ) => Some((form, number)),
+        _ => None,
+    }
+}
+
+/// Returns the bytes of a block.
+fn block_of(value: Result<Value<'_>, ValueFault>) -> Option<&[u8]> {
+    match value {
+        Ok(
+            Value {
+                content: Content::Bytes(bytes),
+                ..
+            },
+        ) => Some(bytes),
         _ => None,
     }
 }
@@ -66,16 +79,8 @@ fn is_number(rt: &impl Abort, form: u64, bytes: &[u8], number: u64) {
 /// Checks that all of the bytes encode the block in a form, and the fault of one byte less.
 fn is_block(rt: &impl Abort, form: u64, bytes: &[u8], block: &[u8], cut: ReadFault) {
     let (value, place) = read(form, Format::Dwarf32, bytes);
-    are_equal(rt, (form, place), (form, bytes.len()));
-    match value {
-        Ok(
-            Value {
-                content: Content::Bytes(bytes),
-                ..
-            },
-        ) => assert!(rt; bytes == block, "{form:x}"),
-        _ => assert!(rt; false, "{form:x}"),
-    }
+    let actual = (form, block_of(value), place);
+    are_equal(rt, actual, (form, Some(block), bytes.len()));
     cut_has_fault(rt, form, bytes, cut);
 }
 
@@ -223,10 +228,8 @@ fn refused_forms(rt: HostRuntime) {
 
 /// Checks the message of a fault.
 fn is_printed(rt: &(impl Abort + AllocGlobal), fault: ValueFault, message: &str) {
-    match fault.to_string(rt.alloc()) {
-        Ok(text) => assert_eq!(rt; text.as_str(), message),
-        Err(_) => panic!(rt; "out of memory"),
-    }
+    let text = expect(rt, fault.to_string(rt.alloc()).ok(), "out of memory");
+    are_equal(rt, text.as_str(), message);
 }
 
 #[test]

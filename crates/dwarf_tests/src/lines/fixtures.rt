@@ -3,32 +3,25 @@
 
 ghost use Rattle.std.specs.Prelude.{◌≡◌, ◌+◌, length};
 
-use crate::checks::{are_equal, put};
+use crate::checks::{are_equal, expect, put};
 use dwarf_bytes::{Cause, LoadFault, Section};
 use dwarf_lines::{LineTables, ProgramNo, Row, Text};
 use dwarf_samples::{inlined, two_sequences as second_sample};
 use std::process::Abort;
 use std::test::*;
 
-/// Checks that two slices have the same bytes.
-pub fn are_same_bytes(rt: &impl Abort, actual: &[u8], wanted: &[u8]) {
-    assert_eq!(rt; actual, wanted);
-}
-
 /// Copies bytes.
 pub fn copy(rt: &(impl Abort + AllocGlobal), bytes: &[u8]) -> Vec<u8> {
-    match bytes.to_vec(rt.alloc()) {
-        Ok(copy) => copy,
-        Err(_) => panic!(rt; "out of memory"),
-    }
+    expect(rt, bytes.to_vec(rt.alloc()).ok(), "out of memory")
 }
 
 /// Reads a `.debug_line`, `.debug_line_str` and `.debug_str` without a fault.
 pub fn read_sections(rt: &(impl Abort + AllocGlobal), sections: [&[u8]; 3]) -> LineTables {
-    match LineTables::read(rt.alloc(), sections[0], sections[1], sections[2]) {
-        Ok(tables) => tables,
-        Err(_) => panic!(rt; "the program is refused"),
-    }
+    expect(
+        rt,
+        LineTables::read(rt.alloc(), sections[0], sections[1], sections[2]).ok(),
+        "the program is refused",
+    )
 }
 
 /// Reads a `.debug_line` without other sections and without a fault.
@@ -51,7 +44,7 @@ pub fn has_fault(rt: &(impl Abort + AllocGlobal), line: &[u8], cause: Cause, at:
 
 /// Checks all rows.
 pub fn are_rows(rt: &impl Abort, tables: &LineTables, rows: &[Row]) {
-    assert_eq!(rt; tables.rows(), rows);
+    are_equal(rt, tables.rows(), rows);
 }
 
 /// Checks the rows of a `.debug_line`.
@@ -77,7 +70,7 @@ pub fn has_path(
     file: u64,
     wanted: &[u8],
 ) {
-    are_same_bytes(rt, &path(rt, tables, sections, file), wanted);
+    are_equal(rt, path(rt, tables, sections, file).as_slice(), wanted);
 }
 
 /// Returns the 75 bytes of the first sample's `.debug_line`.
@@ -206,9 +199,7 @@ fn path(
     sections: [&[u8]; 3],
     file: u64,
 ) -> Vec<u8> {
-    let Some(parts) = tables.path(ProgramNo(0), file) else {
-        panic!(rt; "no path");
-    };
+    let parts = expect(rt, tables.path(ProgramNo(0), file), "no path");
     let mut text = Vec::new(rt.alloc());
     for (i, part) in parts.parts().iter().enumerate() {
         if i > 0 {

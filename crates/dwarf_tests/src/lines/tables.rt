@@ -1,6 +1,6 @@
 //! Tables of headers that could cost more time or memory than their size warrants.
 
-use crate::checks::{are_equal, put};
+use crate::checks::{are_equal, expect, put};
 use crate::lines::fixtures::*;
 use dwarf_bytes::{Cause, Section, Span};
 use dwarf_lines::{LineTables, ProgramNo, Text};
@@ -65,10 +65,8 @@ fn with_index(rt: &(impl Abort + AllocGlobal), form: u8, index: &[u8]) -> Vec<u8
 
 /// Checks the parts of the path of the first file.
 fn has_parts(rt: &impl Abort, tables: &LineTables, parts: &[Text]) {
-    match tables.path(ProgramNo(0), 0) {
-        Some(path) => assert_eq!(rt; path.parts(), parts),
-        None => panic!(rt; "no path"),
-    }
+    let path = expect(rt, tables.path(ProgramNo(0), 0), "no path");
+    are_equal(rt, path.parts(), parts);
 }
 
 /// Checks the path of the file `c` in the directory `e`, whose index has this form and these bytes.

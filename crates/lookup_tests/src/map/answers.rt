@@ -1,6 +1,6 @@
 //! Results of asks.
 
-use crate::checks::are_equal;
+use crate::checks::{are_equal, expect};
 use crate::map::fixtures::*;
 use addr_table::Frame;
 use dwarf_samples::{inlined, two_sequences};
@@ -28,9 +28,7 @@ fn no_module_answers_nothing(rt: HostRuntime) {
 
 /// Checks the name and the line of a frame.
 fn is_frame(rt: &impl Abort, frame: Option<Frame<'_>>, name: &[u8], line: u64) {
-    let Some(frame) = frame else {
-        panic!(rt; "too few frames");
-    };
+    let frame = expect(rt, frame, "too few frames");
     are_equal(rt, (frame.name(), frame.line()), (Some(name), line));
 }
 
@@ -53,9 +51,7 @@ fn the_frames_of_a_link_address(rt: HostRuntime) {
 fn a_module_may_know_nothing_of_an_address(rt: HostRuntime) {
     let mut modules = one(&rt, 0x10000, 4);
     let asked = modules.ask(0x11010);
-    let Some(found) = asked.found else {
-        panic!(rt; "no module");
-    };
+    let found = expect(&rt, asked.found, "no module");
     are_equal(&rt, (found.at, found.place), (0, None));
     are_equal(&rt, modules.answer(asked).frames().next().is_none(), true);
     // after the extent, and before it
@@ -71,9 +67,7 @@ fn each_of_two_modules_answers(rt: HostRuntime) {
     are_equal(&rt, line(&mut modules, 0x11000), Some(10));
     are_equal(&rt, line(&mut modules, 0x12000), Some(12));
     are_equal(&rt, line(&mut modules, 0x11000), Some(10));
-    let Some(found) = modules.ask(0x12000).found else {
-        panic!(rt; "no module");
-    };
+    let found = expect(&rt, modules.ask(0x12000).found, "no module");
     are_equal(&rt, found.at, 1);
 }
 

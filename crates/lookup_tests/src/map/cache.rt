@@ -49,12 +49,12 @@ fn a_full_cache_stores_every_fourth_answer(rt: HostRuntime) {
     modules.ask(0x11000);
     modules.ask(0x11001);
     for _ in 0..4 {
-        assert!(rt; compares(&mut modules, 0x11004) > 2);
+        are_equal(&rt, compares(&mut modules, 0x11004) > 2, true);
     }
     are_equal(&rt, compares(&mut modules, 0x11004), 2);
     // it took the place of the one that was asked least recently
     are_equal(&rt, compares(&mut modules, 0x11001), 2);
-    assert!(rt; compares(&mut modules, 0x11000) > 2);
+    are_equal(&rt, compares(&mut modules, 0x11000) > 2, true);
 }
 
 /// Data is read for at most eight addresses, whether or not they have an answer.
@@ -81,7 +81,7 @@ fn no_cache(rt: HostRuntime) {
     ask_all(&rt, &mut modules, 0x11000, 6);
     are_equal(&rt, modules.cached(), (0, 0));
     modules.ask(0x11004);
-    assert!(rt; modules.steps().compares > 2);
+    are_equal(&rt, modules.steps().compares > 2, true);
 }
 
 #[test]

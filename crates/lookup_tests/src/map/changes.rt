@@ -1,6 +1,6 @@
 //! Loads, unloads and moves, and the reasons for refusing them.
 
-use crate::checks::{are_equal, copy};
+use crate::checks::{are_equal, copy, expect};
 use crate::map::fixtures::*;
 use dwarf_bytes::{Cause, LoadFault, Section};
 use dwarf_samples::{cut_abbreviations, inlined, two_sequences};
@@ -58,9 +58,7 @@ fn an_overlap_names_the_lowest_module(rt: HostRuntime) {
     load(&rt, &mut modules, "d", 0x10000, &inlined());
     // overlaps c, at 0x20000 to 0x21000, and b, at 0x21800 to 0x22800
     load_gives(&rt, &mut modules, "e", 0x1ff00, Err(MapFault::Overlap(1)));
-    let Some((name, _, _)) = modules.list().nth(1) else {
-        panic!(rt; "no module");
-    };
+    let (name, _, _) = expect(&rt, modules.list().nth(1), "no module");
     are_equal(&rt, name, "c");
     load_gives(&rt, &mut modules, "e", 0x20000, Err(MapFault::Overlap(2)));
     lists(

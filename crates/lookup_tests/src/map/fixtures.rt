@@ -1,6 +1,6 @@
 //! Modules for the tests, and checks of their answers.
 
-use crate::checks::{are_equal, copy};
+use crate::checks::{are_equal, copy, expect};
 use dwarf_samples::inlined;
 use module_map::{Extent, MapFault, Modules};
 use std::process::Abort;
@@ -9,15 +9,17 @@ use std::test::*;
 /// Checks that the last ask took two to `most` comparisons. A failure prints `at`.
 pub fn takes_at_most(rt: &impl Abort, modules: &Modules, most: u64, at: u64) {
     let compares = modules.steps().compares;
-    assert!(rt; 2 <= compares && compares <= most, "{compares} at {at}");
+    let is_within = 2 <= compares && compares <= most;
+    are_equal(rt, (compares, at, is_within), (compares, at, true));
 }
 
 /// Creates an empty list of modules with a cache of `cache_entries` answers.
 pub fn empty(rt: &(impl Abort + AllocGlobal), cache_entries: usize) -> Modules {
-    match Modules::new(rt.alloc(), cache_entries) {
-        Ok(modules) => modules,
-        Err(_) => panic!(rt; "out of memory"),
-    }
+    expect(
+        rt,
+        Modules::new(rt.alloc(), cache_entries).ok(),
+        "out of memory",
+    )
 }
 
 /// Loads an object. The load is not refused.
@@ -28,23 +30,21 @@ pub fn load(
     base: u64,
     object: &[u8],
 ) {
-    if modules.load(name, base, copy(rt, object)).is_err() {
-        panic!(rt; "the load is refused");
-    }
+    expect(
+        rt,
+        modules.load(name, base, copy(rt, object)).ok(),
+        "the load is refused",
+    );
 }
 
 /// Unloads a module that is loaded.
 pub fn unload(rt: &impl Abort, modules: &mut Modules, name: &str) {
-    if modules.unload(name).is_err() {
-        panic!(rt; "the unload is refused");
-    }
+    expect(rt, modules.unload(name).ok(), "the unload is refused");
 }
 
 /// Moves a module. The move is not refused.
 pub fn move_to(rt: &impl Abort, modules: &mut Modules, name: &str, base: u64) {
-    if modules.move_to(name, base).is_err() {
-        panic!(rt; "the move is refused");
-    }
+    expect(rt, modules.move_to(name, base).ok(), "the move is refused");
 }
 
 /// Loads only the first sample at a base, with a cache of `cache_entries` answers.
@@ -102,7 +102,7 @@ pub fn lists(rt: &impl Abort, modules: &Modules, expected: &[(&str, u64, u64)]) 
             low: *low,
             high: low.saturating_add(0x1000),
         };
-        assert_eq!(rt; list.next(), Some((*name, extent, *base)));
+        are_equal(rt, list.next(), Some((*name, extent, *base)));
     }
-    assert!(rt; list.next().is_none(), "too many modules");
+    are_equal(rt, list.next(), None);
 }

@@ -1,6 +1,6 @@
 //! The maximum number of modules.
 
-use crate::checks::are_equal;
+use crate::checks::{are_equal, expect};
 use crate::map::fixtures::*;
 use dwarf_samples::inlined;
 use module_map::{MapFault, Modules};
@@ -9,9 +9,11 @@ use std::test::*;
 
 /// Loads the first sample under the name `mNUMBER`.
 fn load_number(rt: &(impl Abort + AllocGlobal), modules: &mut Modules, number: u64) {
-    let Ok(name) = format!(in rt.alloc(); "m{number}") else {
-        panic!(rt; "out of memory");
-    };
+    let name = expect(
+        rt,
+        format!(in rt.alloc(); "m{number}").ok(),
+        "out of memory",
+    );
     let base = number.saturating_mul(0x1000);
     load(rt, modules, name.as_str(), base, &inlined());
 }
@@ -45,9 +47,7 @@ fn is_answered(rt: &impl Abort, modules: &mut Modules, number: u64) {
     let start = number.saturating_mul(0x1000).saturating_add(0x1000);
     let asked = modules.ask(start.saturating_add(4));
     takes_at_most(rt, modules, 18, number);
-    let Some(found) = asked.found else {
-        panic!(rt; "no module");
-    };
+    let found = expect(rt, asked.found, "no module");
     are_equal(rt, found.at as u64, number);
     are_equal(rt, found.place.is_some(), true);
 }

@@ -1,6 +1,6 @@
 //! What faults print.
 
-use crate::checks::are_equal;
+use crate::checks::{are_equal, expect};
 use dwarf_bytes::{Cause, LoadFault, Section};
 use module_map::MapFault;
 use std::process::Abort;
@@ -8,9 +8,7 @@ use std::test::*;
 
 /// Checks what a fault prints.
 fn prints(rt: &(impl Abort + AllocGlobal), fault: MapFault, message: &str) {
-    let Ok(text) = fault.to_string(rt.alloc()) else {
-        panic!(rt; "out of memory");
-    };
+    let text = expect(rt, fault.to_string(rt.alloc()).ok(), "out of memory");
     are_equal(rt, text.as_str(), message);
 }
 

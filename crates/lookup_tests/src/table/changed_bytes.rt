@@ -1,6 +1,6 @@
 //! Tests each byte of the headers of the first sample with each of its 256 values.
 
-use crate::checks::{are_equal, copy};
+use crate::checks::{are_equal, copy, expect};
 use crate::table::fixtures::{find, numbers};
 use crate::table::plain_scan::PlainObject;
 use addr_table::Module;
@@ -13,9 +13,11 @@ fn is_scanned(rt: &(impl Abort + AllocGlobal), object: &[u8]) {
     let Ok(module) = Module::decode(rt.alloc(), copy(rt, object)) else {
         return;
     };
-    let Ok(plain) = PlainObject::read(rt.alloc(), object) else {
-        panic!(rt; "only the reference implementation refuses the object");
-    };
+    let plain = expect(
+        rt,
+        PlainObject::read(rt.alloc(), object).ok(),
+        "only the reference implementation refuses the object",
+    );
     for link in 0xff0..0x1021 {
         are_equal(
             rt,

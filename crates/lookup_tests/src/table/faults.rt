@@ -1,6 +1,6 @@
 //! Objects that are refused.
 
-use crate::checks::{are_equal, copy};
+use crate::checks::{are_equal, copy, expect};
 use crate::table::fixtures::*;
 use addr_table::Module;
 use dwarf_bytes::{Cause, LoadFault, Section};
@@ -16,9 +16,11 @@ fn is_refused(
     cause: Cause,
     at: u64,
 ) {
-    let Err((back, fault)) = Module::decode(rt.alloc(), copy(rt, object)) else {
-        panic!(rt; "no fault");
-    };
+    let (back, fault) = expect(
+        rt,
+        Module::decode(rt.alloc(), copy(rt, object)).err(),
+        "no fault",
+    );
     are_equal(rt, fault, LoadFault { section, cause, at });
     are_equal(rt, back.as_slice(), object);
 }

@@ -1,15 +1,17 @@
 //! Objects for the tests, and checks of their answers.
 
-use crate::checks::{are_equal, copy};
+use crate::checks::{are_equal, copy, expect};
 use addr_table::{AddressTable, Frame, Frames, Module, Path, Place, Site, Steps};
 use std::process::Abort;
 use std::test::*;
 
 /// Checks that a number is from `least` to `most`, inclusive.
 pub fn is_within(rt: &impl Abort, number: u64, least: u64, most: u64) {
-    assert!(rt;
-        least <= number && number <= most,
-        "{number} of {least} to {most}"
+    let is_within = least <= number && number <= most;
+    are_equal(
+        rt,
+        (number, least, most, is_within),
+        (number, least, most, true),
     );
 }
 
@@ -27,9 +29,7 @@ const NAMES: &[u8] = b"\0.debug_abbrev\0.debug_info\0.debug_line\0.debug_rnglist
 
 /// Appends bytes.
 pub fn put(rt: &impl Abort, bytes: &mut Vec<u8>, more: &[u8]) {
-    if bytes.extend_from_slice(more).is_err() {
-        panic!(rt; "out of memory");
-    }
+    expect(rt, bytes.extend_from_slice(more).ok(), "out of memory");
 }
 
 /// Appends numbers of eight bytes.
@@ -120,10 +120,11 @@ pub fn add_unit(rt: &impl Abort, info: &mut Vec<u8>, entries: &[u8]) {
 
 /// Decodes a module from bytes without a fault.
 pub fn module(rt: &(impl Abort + AllocGlobal), bytes: Vec<u8>) -> Module {
-    match Module::decode(rt.alloc(), bytes) {
-        Ok(module) => module,
-        Err(_) => panic!(rt; "the object is refused"),
-    }
+    expect(
+        rt,
+        Module::decode(rt.alloc(), bytes).ok(),
+        "the object is refused",
+    )
 }
 
 /// Decodes the module of a sample.

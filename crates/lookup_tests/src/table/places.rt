@@ -1,6 +1,6 @@
 //! Places of other modules, and the theorems.
 
-use crate::checks::are_equal;
+use crate::checks::{are_equal, expect};
 use crate::table::fixtures::*;
 use addr_table::{Place, laws};
 use dwarf_samples::{inlined, two_sequences};
@@ -10,10 +10,7 @@ use std::test::*;
 /// Returns the place of 0x1004 in the first sample: row 1 and scope 4.
 fn place(rt: &(impl Abort + AllocGlobal)) -> Place {
     let module = sample(rt, &inlined());
-    match find(&module, 0x1004) {
-        Some(place) => place,
-        None => panic!(rt; "no place"),
-    }
+    expect(rt, find(&module, 0x1004), "no place")
 }
 
 #[test]
@@ -44,9 +41,7 @@ fn a_place_of_a_module_with_other_rows(rt: HostRuntime) {
     let place = place(&rt);
     // the same scopes
     let module = sample(&rt, &two_sequences());
-    let Some(frame) = module.frames(place).next() else {
-        panic!(rt; "no frame");
-    };
+    let frame = expect(&rt, module.frames(place).next(), "no frame");
     are_equal(&rt, frame.name(), Some(b"leaf".as_slice()));
 }
 

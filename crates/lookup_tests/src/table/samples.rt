@@ -1,6 +1,6 @@
 //! Tests of the sample objects.
 
-use crate::checks::are_equal;
+use crate::checks::{are_equal, expect};
 use crate::table::fixtures::*;
 use addr_table::{Frames, Path};
 use dwarf_samples::{
@@ -72,17 +72,11 @@ fn a_scope_without_code_is_passed_over(rt: HostRuntime) {
 #[test]
 fn the_parts_of_a_path(rt: HostRuntime) {
     let module = sample(&rt, &inlined());
-    let Some(place) = find(&module, 0x1000) else {
-        panic!(rt; "no place");
-    };
-    let Some(frame) = module.frames(place).next() else {
-        panic!(rt; "no frame");
-    };
+    let place = expect(&rt, find(&module, 0x1000), "no place");
+    let frame = expect(&rt, module.frames(place).next(), "no frame");
     are_equal(&rt, frame.linkage(), None);
-    match frame.path() {
-        Some(path) => are_parts(&rt, path),
-        None => panic!(rt; "no path"),
-    }
+    let path = expect(&rt, frame.path(), "no path");
+    are_parts(&rt, path);
     are_equal(&rt, Frames::none().next().is_none(), true);
 }
 

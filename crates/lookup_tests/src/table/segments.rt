@@ -1,6 +1,6 @@
 //! Segments, the calls of the sweep, and comparisons.
 
-use crate::checks::are_equal;
+use crate::checks::{are_equal, expect};
 use crate::table::fixtures::*;
 use addr_table::{AddressTable, Module, Segment, Steps};
 use dwarf_samples::inlined;
@@ -15,9 +15,7 @@ fn is_segment(
     row: usize,
     scope: usize,
 ) {
-    let Some(segment) = segment else {
-        panic!(rt; "too few segments");
-    };
+    let segment = expect(rt, segment, "too few segments");
     are_equal(rt, (segment.from, segment.to), ends);
     let numbers = (segment.row.get(), segment.scope.get());
     are_equal(rt, numbers, (Some(row), Some(scope)));
