@@ -17,6 +17,12 @@ pub fn expect<T>(rt: &impl Abort, value: Option<T>, missing: &str) -> T {
     }
 }
 
+/// Moves a value to the heap. There one call drops it, instead of code for each field in each test,
+/// which takes the prover two seconds.
+pub fn boxed<T: Drop>(rt: &(impl Abort + AllocGlobal), value: T) -> Box<T> {
+    expect(rt, Box::new(rt.alloc(), value).ok(), "out of memory")
+}
+
 /// Copies bytes.
 pub fn copy(rt: &(impl Abort + AllocGlobal), bytes: &[u8]) -> Vec<u8> {
     expect(rt, bytes.to_vec(rt.alloc()).ok(), "out of memory")

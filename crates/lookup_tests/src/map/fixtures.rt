@@ -1,6 +1,6 @@
 //! Modules for the tests, and checks of their answers.
 
-use crate::checks::{are_equal, copy, expect};
+use crate::checks::{are_equal, boxed, copy, expect};
 use dwarf_samples::inlined;
 use module_map::{Extent, MapFault, Modules};
 use std::process::Abort;
@@ -14,12 +14,13 @@ pub fn takes_at_most(rt: &impl Abort, modules: &Modules, most: u64, at: u64) {
 }
 
 /// Creates an empty list of modules with a cache of `cache_entries` answers.
-pub fn empty(rt: &(impl Abort + AllocGlobal), cache_entries: usize) -> Modules {
-    expect(
+pub fn empty(rt: &(impl Abort + AllocGlobal), cache_entries: usize) -> Box<Modules> {
+    let modules = expect(
         rt,
         Modules::new(rt.alloc(), cache_entries).ok(),
         "out of memory",
-    )
+    );
+    boxed(rt, modules)
 }
 
 /// Loads an object. The load is not refused.
@@ -48,7 +49,7 @@ pub fn move_to(rt: &impl Abort, modules: &mut Modules, name: &str, base: u64) {
 }
 
 /// Loads only the first sample at a base, with a cache of `cache_entries` answers.
-pub fn one(rt: &(impl Abort + AllocGlobal), base: u64, cache_entries: usize) -> Modules {
+pub fn one(rt: &(impl Abort + AllocGlobal), base: u64, cache_entries: usize) -> Box<Modules> {
     let mut modules = empty(rt, cache_entries);
     load(rt, &mut modules, "a", base, &inlined());
     modules

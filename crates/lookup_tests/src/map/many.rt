@@ -19,7 +19,7 @@ fn load_number(rt: &(impl Abort + AllocGlobal), modules: &mut Modules, number: u
 }
 
 /// Loads modules `m0` to `m4095` of the first sample, 0x1000 apart.
-fn all(rt: &(impl Abort + AllocGlobal)) -> Modules {
+fn all(rt: &(impl Abort + AllocGlobal)) -> Box<Modules> {
     let mut modules = empty(rt, 0);
     for number in 0..4096u64 {
         load_number(rt, &mut modules, number);

@@ -1,6 +1,6 @@
 //! Objects for the tests, and checks of their answers.
 
-use crate::checks::{are_equal, copy, expect};
+use crate::checks::{are_equal, boxed, copy, expect};
 use addr_table::{AddressTable, Frame, Frames, Module, Path, Place, Site, Steps};
 use std::process::Abort;
 use std::test::*;
@@ -119,16 +119,17 @@ pub fn add_unit(rt: &impl Abort, info: &mut Vec<u8>, entries: &[u8]) {
 }
 
 /// Decodes a module from bytes without a fault.
-pub fn module(rt: &(impl Abort + AllocGlobal), bytes: Vec<u8>) -> Module {
-    expect(
+pub fn module(rt: &(impl Abort + AllocGlobal), bytes: Vec<u8>) -> Box<Module> {
+    let module = expect(
         rt,
         Module::decode(rt.alloc(), bytes).ok(),
         "the object is refused",
-    )
+    );
+    boxed(rt, module)
 }
 
 /// Decodes the module of a sample.
-pub fn sample(rt: &(impl Abort + AllocGlobal), bytes: &[u8]) -> Module {
+pub fn sample(rt: &(impl Abort + AllocGlobal), bytes: &[u8]) -> Box<Module> {
     module(rt, copy(rt, bytes))
 }
 

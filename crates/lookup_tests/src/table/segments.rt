@@ -73,7 +73,7 @@ const ABBREV: [u8; 17] = [
 ];
 
 /// Builds a module of 2,000 contiguous subprograms of 16 bytes each, from 0x1000 on.
-fn touching(rt: &(impl Abort + AllocGlobal)) -> Module {
+fn touching(rt: &(impl Abort + AllocGlobal)) -> Box<Module> {
     let mut entries = Vec::new(rt.alloc());
     put(rt, &mut entries, &[1]);
     for number in 0..2000u64 {
