@@ -22,6 +22,13 @@ fn status(
     program(rt.alloc(), &words, reader, writer, errors, &mut source)
 }
 
+/// Returns input that cannot be read.
+fn unreadable() -> Script<'static> {
+    let mut reader = Script::new(b"11004\n", 4096);
+    reader.until = 0;
+    reader
+}
+
 /// Checks the status of the program over input that cannot be read, and its output on both writers.
 pub fn ends(
     rt: &(impl Abort + AllocGlobal),
@@ -31,8 +38,7 @@ pub fn ends(
     message: &[u8],
 ) {
     let (mut writer, mut errors) = (Paper::new(), Paper::new());
-    let mut reader = Script::new(b"11004\n", 4096);
-    reader.until = 0;
+    let mut reader = unreadable();
     let status = status(rt, texts, &mut reader, &mut writer, &mut errors);
     are_equal(
         rt,
@@ -80,7 +86,7 @@ fn statuses(rt: HostRuntime) {
 fn help_that_cannot_be_written(rt: HostRuntime) {
     let (mut writer, mut errors) = (Paper::new(), Paper::new());
     writer.capacity = 0;
-    let mut reader = Script::new(b"", 4096);
+    let mut reader = unreadable();
     let status = status(&rt, &["--help"], &mut reader, &mut writer, &mut errors);
     let message = b"addr2line_live: writing failed\n";
     are_equal(&rt, (status, errors.text()), (1, message.as_slice()));
