@@ -232,9 +232,12 @@ roots_from number (unit ∷ units) =
     let past = number + count_by is_scope unit.dies in
     root_of number past unit.dies (roots_from past units)
 
--- The roots and scopes of an object. All units are read before the first scope.
-unfoldable pub tree_of : Sections → Result Tree LoadFault
-tree_of s = do
-  units ← units_read s
+-- The roots and scopes of these units.
+abbrev pub tree_in : Sections → List CompilationUnit → Result Tree LoadFault
+tree_in s units = do
   parsed ← in_section names.DebugInfo (all_scopes s units)
   Ok (record { roots = roots_from 0 units; scopes = map (λ j. j.scope) parsed })
+
+-- The roots and scopes of an object. All units are read before the first scope.
+unfoldable pub tree_of : Sections → Result Tree LoadFault
+tree_of s = units_read s >>= λ units. tree_in s units

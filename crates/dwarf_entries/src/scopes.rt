@@ -5,7 +5,7 @@ ghost use Rattle.std.specs.List.Sorted.{IsNonDecreasingBy};
 ghost use Rattle.dwarf_bytes.specs.Refusals.{Decodes};
 ghost use Rattle.dwarf_walk.specs.Sections.{sections_of};
 ghost use Rattle.dwarf_entries.specs.Scopes.{own, own_of, ranges_at, stmt_list_at, call_file_at};
-ghost use Rattle.dwarf_entries.specs.Scopes.{call_line_at, stmt_list_by_number, tree_of};
+ghost use Rattle.dwarf_entries.specs.Scopes.{call_line_at, stmt_list_by_number, tree_in, tree_of};
 
 use crate::calls::CallSite;
 use crate::scope::{Root, Scope};
@@ -46,6 +46,13 @@ impl Scopes {
     {
         bound_places(alloc, sections)?;
         let mut units = Units::read(alloc, sections)?;
+        Scopes::of_units(alloc, &mut units)
+    }
+
+    /// Parses the scopes of these units.
+    fn of_units(alloc: Global, units: &mut Units<'_>) -> Result<Scopes, LoadFault>
+        ensures { Decodes (λ scopes. scopes) result (tree_in units.old.sections units.old.units) }
+    {
         let lists = units.scopes(alloc)?;
         let roots = units.roots(alloc)?;
         Ok(Scopes { roots, lists })

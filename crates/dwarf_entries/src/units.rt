@@ -53,8 +53,8 @@ impl<'a> Units<'a> {
         ensures sections { IfOk result (λ read. read.sections ≡ sections_of sections.now) }
     {
         let headers = units(alloc, sections.debug_info)?;
-        let mut tables = Tables::validate(alloc, sections.debug_abbrev, headers.as_slice())?;
         let mut bitmap = EntryBitmap::new(alloc, sections.debug_info.len())?;
+        let mut tables = Tables::validate(alloc, sections.debug_abbrev, headers.as_slice())?;
         let headers = headers.as_slice();
         let units = all_entries(alloc, sections, headers, &mut tables, &mut bitmap)?;
         let bases = all_bases(alloc, sections, units.as_slice())?;

@@ -194,8 +194,7 @@ covers_of budget sections bases die = covers_by budget sections bases
 
 -- The ranges of an entry are appended. On success, the result also has the number of range list
 -- items that were read.
-abbrev pub AddsRanges : Result ℕ Cause → List Range → List Range → Result Covering Cause
-    → Type 0
+abbrev pub AddsRanges : Result ℕ Cause → List Range → List Range → Result Covering Cause → Type 0
 AddsRanges (Ok items) old new outcome =
     (found : List Range) × (outcome ≡ Ok (record { ranges = found; items = items }))
     × (new ≡ old ++ found)

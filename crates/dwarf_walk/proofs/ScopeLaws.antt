@@ -14,8 +14,7 @@ use Rattle.std.specs.List.{prefix_len}
 
 -- ---- one more entry
 
-pub walked-push : (least : ℕ) (dies : List Die) (die : Die)
-    → walked_scopes least (dies ++ die ∷ [])
+pub walked-push : (least : ℕ) (dies : List Die) (die : Die) → walked_scopes least (dies ++ die ∷ [])
     ≡ walked_scopes least dies ++ walked_scope (least_after least dies) die
 walked-push least [] die = append-nil (walked_scope least die)
 walked-push least (d ∷ dies) die =

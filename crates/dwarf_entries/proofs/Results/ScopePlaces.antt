@@ -68,8 +68,7 @@ module _ {us : List CompilationUnit} {i j k l n m : ℕ} {p q : ScopeSite}
 
   -- A site is below another in the same unit if and only if its number is between the other's
   -- number and end.
-  pub sites-below : ((i ≡ j) × IsBelow p.member.unit.dies l k)
-      ↔ ((n < m) × (m < n + 1 + p.inside))
+  pub sites-below : ((i ≡ j) × IsBelow p.member.unit.dies l k) ↔ ((n < m) × (m < n + 1 + p.inside))
   sites-below =
       let past = before-later a j in
       let before = before-later b i in

@@ -43,8 +43,7 @@ pub dies-rise : {s : Sections} {header : UnitHeader} {dies : List Die} → IsUni
 dies-rise {s} {header} {dies} is = grind (arith, entries-rise)
 
 pub record AreUnitsIn (s : Sections) (us : List CompilationUnit) : Type 0 where
-  pub each_is : (i : ℕ) (u : CompilationUnit) → slice_get us i ≡ Some u
-      → IsUnitIn s u.header u.dies
+  pub each_is : (i : ℕ) (u : CompilationUnit) → slice_get us i ≡ Some u → IsUnitIn s u.header u.dies
   pub apart :
       (i j : ℕ) (u v : CompilationUnit) → slice_get us i ≡ Some u → slice_get us j ≡ Some v → i < j
       → u.header.end ≤ v.header.start

@@ -74,8 +74,7 @@ pub record Packs (facts : ScopeFacts) (ranges_end : ℕ) (old new : List CallSit
   pub few : IsShort facts.site.file → IsShort facts.site.line → new ≡ old
   pub in_list : IsInList (length new) s.calls s.call_file s.call_line
   pub ends : s.ranges_end ≡ ranges_end
-  pub tells :
-      (roots : List Root) (ranges : List Range)
+  pub tells : (roots : List Root) (ranges : List Range)
       → scope_of roots new ranges s ≡ facts_of roots ranges facts
 
 -- A scope is appended to the scopes before.

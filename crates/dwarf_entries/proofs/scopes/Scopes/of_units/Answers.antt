@@ -1,14 +1,14 @@
 use Rattle.dwarf_entries.proofs
 use proofs.{List, [], length, ap, arith, length-map, each-length, Scope, ParsedScope, roots_from}
 use proofs.{parse_scope, all_sites, scopes-length, all-sites-count}
-use Rattle.dwarf_entries.proofs.scopes.Scopes.read.Goals as goal
+use Rattle.dwarf_entries.proofs.scopes.Scopes.of_units.Goals as goal
 
 pub roots-requires : goal.roots-requires
 roots-requires c =
-    let us = c.in_ok-units.units.units in
+    let us = c.args.units.now.units in
     let lists = c.in_ok-lists.lists in
     let parsed = c.in_ok-lists.ensures.scopes in
-    let made = each-length (parse_scope c.in_ok-units.units.sections us) [] (all_sites us) parsed.0
+    let made = each-length (parse_scope c.args.units.now.sections us) [] (all_sites us) parsed.0
     parsed.1 in
     let mapped = ap (λ (ss : List Scope). length ss) parsed.2 in
     let size = length-map parsed.0 (λ (j : ParsedScope). j.scope) in
