@@ -4,14 +4,15 @@
 # CPU time) and in ping-pong, with FILE:LINE alone and with functions and inlined callers. The
 # addresses are spread over an object in random order. For this program it also measures sixteen
 # addresses that are looked up repeatedly. The fast programs run in alternating turns (eu-addr2line
-# too if it is fast), and the turn with the median rate is printed. MANY is the number of addresses,
-# and FEW is the number for slow peers. It fails if plain C answers differently.
+# too if it is fast), and the fastest turn of each is printed, because other work on the machine only
+# slows a turn down. MANY is the number of addresses. Ping-pong asks a quarter of them, and slow
+# peers are asked FEW. It fails if plain C answers differently.
 set -euo pipefail
 cd "$(dirname "$0")/.."
 program=${ADDR2LINE_LIVE:-crates/addr2line_live/out/addr2line_live}
 many=${1:-200000}
 few=${2:-200}
-turns=5
+turns=15
 questions=() address_files=() commands=()
 tools/build.sh addr2line_live program.log
 [ -f out/objects/large ] || tools/make_objects.sh out/objects
@@ -50,13 +51,13 @@ for line in sys.stdin.buffer:
 print(*lengths, sep="\n")'
 }
 
-# Prints one line: the question, the turn with the median rate, and the range of the rates.
-print_median() {
+# Prints one line: the question, the turn with the highest rate, and the median of the rates.
+print_best() {
     local what=$1 results count
-    mapfile -t results <<< "$(sort -n "$2")"
+    mapfile -t results <<< "$(sort -rn "$2")"
     count=${#results[@]}
-    printf '  %-44s %s, %d turns from %s to %s\n' "$what" "${results[(count - 1) / 2]}" "$count" \
-        "${results[0]%% *}" "${results[count - 1]%% *}"
+    printf '  %-44s %s, the median of %d turns is %s\n' "$what" "${results[0]}" "$count" \
+        "${results[count / 2]%% *}"
 }
 
 # Adds a question for the fast programs.
@@ -81,7 +82,7 @@ ask_in_turns() {
         done
     done
     for number in "${!questions[@]}"; do
-        print_median "${questions[number]}" "out/turns.$number"
+        print_best "${questions[number]}" "out/turns.$number"
     done
     questions=() address_files=() commands=()
 }
@@ -114,9 +115,10 @@ show_slow() {
 }
 
 measure() {
-    local object=$1 how=$2 options=$3
-    spread "$object" "$many" "$many" > out/spread
-    spread "$object" "$many" 16 > out/hot
+    local object=$1 how=$2 options=$3 count=$many
+    [ "$how" != pingpong ] || count=$((many / 4))
+    spread "$object" "$count" "$count" > out/spread
+    spread "$object" "$count" 16 > out/hot
     head -n "$few" out/spread > out/few
     cmp <("$program" -e "$object" $options < out/spread) \
         <(out/replies -e "$object" $options < out/spread)
