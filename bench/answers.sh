@@ -3,10 +3,11 @@
 # and the installed peers: in a batch over a pipe, in a batch from a file to a file (per second of
 # CPU time) and in ping-pong, with FILE:LINE alone and with functions and inlined callers. The
 # addresses are spread over an object in random order. For this program it also measures sixteen
-# addresses that are looked up repeatedly. The fast programs run in alternating turns (eu-addr2line
-# too if it is fast), and the fastest turn of each is printed, because other work on the machine only
-# slows a turn down. MANY is the number of addresses. Ping-pong asks a quarter of them, and slow
-# peers are asked FEW. It fails if plain C answers differently.
+# addresses that are looked up repeatedly. The fast programs run in alternating turns, and the
+# fastest turn of each is printed, because other work on the machine only slows a turn down. MANY is
+# the number of addresses. Ping-pong asks a quarter of them. A peer that takes more than half a
+# second for them runs once, and gets only FEW of them if it takes more than five seconds. It fails
+# if plain C answers differently.
 set -euo pipefail
 cd "$(dirname "$0")/.."
 program=${ADDR2LINE_LIVE:-crates/addr2line_live/out/addr2line_live}
@@ -95,23 +96,41 @@ show() {
     printf '  %-44s %s\n' "$what" "$(out/ask "$how" "$addresses" out/lengths "$@" || true)"
 }
 
-# Returns whether a program answers the few addresses quickly.
-is_fast() {
-    local start
-    start=$(date +%s%N)
-    "$@" < out/few > /dev/null || true
-    [ $((($(date +%s%N) - start) / 1000000)) -lt 150 ]
+# Returns whether a program answers all addresses within a number of seconds.
+answers_within() {
+    local seconds=$1
+    shift
+    timeout "$seconds" "$@" < out/spread > /dev/null || [ $? -ne 124 ]
 }
 
-# Asks a program that may be slow once. It gets all addresses if it is fast, otherwise only the few.
-show_slow() {
-    local what=$1 how=$2
+# Adds a question for a peer that is fast. Asks a slow one once and prints its result.
+ask_peer() {
+    local name=$1 how=$2
     shift 2
-    if is_fast "$@"; then
-        show "$what, spread" "$how" out/spread "$@"
+    if answers_within 0.5 "$@"; then
+        add "$name, spread" out/spread "$@"
+    elif answers_within 5 "$@"; then
+        show "$name, spread" "$how" out/spread "$@"
     else
-        show "$what, fewer" "$how" out/few "$@"
+        show "$name, fewer" "$how" out/few "$@"
     fi
+}
+
+# Asks the peers that are installed.
+ask_peers() {
+    local object=$1 how=$2 options=$3 style='--functions=none --no-inlines'
+    [ -z "$options" ] || style='--functions=short --inlines'
+    if [ -n "${GIMLI_ADDR2LINE:-}" ]; then
+        add 'addr2line of gimli, spread' out/spread "$GIMLI_ADDR2LINE" -e "$object" $options
+    fi
+    if command -v llvm-symbolizer > /dev/null; then
+        ask_peer llvm-symbolizer "$how" \
+            llvm-symbolizer --output-style=GNU --no-demangle $style --obj="$object"
+    fi
+    if command -v eu-addr2line > /dev/null; then
+        ask_peer eu-addr2line "$how" eu-addr2line -e "$object" $options
+    fi
+    ask_peer 'addr2line of binutils' "$how" addr2line -e "$object" $options
 }
 
 measure() {
@@ -128,25 +147,8 @@ measure() {
     done
     add 'addr2line_live, sixteen addresses' out/hot "$program" -e "$object" $options
     add 'plain C, spread' out/spread out/replies -e "$object" $options
-    if [ -n "${GIMLI_ADDR2LINE:-}" ]; then
-        add "addr2line of gimli, spread" out/spread "$GIMLI_ADDR2LINE" -e "$object" $options
-    fi
-    local in_turns=no
-    if command -v eu-addr2line > /dev/null && is_fast eu-addr2line -e "$object" $options; then
-        add 'eu-addr2line, spread' out/spread eu-addr2line -e "$object" $options
-        in_turns=yes
-    fi
+    ask_peers "$object" "$how" "$options"
     ask_in_turns "$how"
-    if command -v llvm-symbolizer > /dev/null; then
-        local style='--functions=none --no-inlines'
-        [ -z "$options" ] || style='--functions=short --inlines'
-        show 'llvm-symbolizer, spread' "$how" out/spread \
-            llvm-symbolizer --output-style=GNU --no-demangle $style --obj="$object"
-    fi
-    if command -v eu-addr2line > /dev/null && [ $in_turns = no ]; then
-        show_slow eu-addr2line "$how" eu-addr2line -e "$object" $options
-    fi
-    show_slow 'addr2line of binutils' "$how" addr2line -e "$object" $options
 }
 
 for object in out/objects/small out/objects/program out/objects/large; do
