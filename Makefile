@@ -62,7 +62,7 @@ help:
 	@echo 'make long-run     sends a million commands to one process, then tests full outputs and'
 	@echo '                  unusual files (COMMANDS=1000000)'
 	@echo 'make bench        compares the speed with plain C and other symbolizers, and writes'
-	@echo '                  docs/MEASURED.md (a quarter of an hour; GIMLI_ADDR2LINE=PATH includes the'
+	@echo '                  docs/MEASURED.md (twenty minutes; GIMLI_ADDR2LINE=PATH includes the'
 	@echo '                  addr2line of gimli, and GIMLI_VERSION=TEXT names its version)'
 	@echo 'make growth       measures how the costs grow with the size of an object and the number of'
 	@echo '                  modules, and draws docs/growth.svg (two minutes, 1 GB in out/growth)'

@@ -13,7 +13,7 @@ cd "$(dirname "$0")/.."
 program=${ADDR2LINE_LIVE:-crates/addr2line_live/out/addr2line_live}
 many=${1:-200000}
 few=${2:-200}
-turns=15
+turns=5
 questions=() address_files=() commands=()
 tools/build.sh addr2line_live program.log
 [ -f out/objects/large ] || tools/make_objects.sh out/objects
