@@ -195,7 +195,7 @@ bench:
 	bash -c 'set -o pipefail; { bench/run.sh && bench/answers.sh; } | tee out/bench.txt'
 	bench/table.py out/bench.txt > out/MEASURED.md && mv out/MEASURED.md docs/MEASURED.md
 
-# Measures objects of 2 to 320 MB, and 1 to 4,096 modules.
+# Measures objects of 1 to 500 MB, and 1 to 4,096 modules.
 growth:
 	@tools/needs.sh growth $(or $(RT),$(if $(MEASURE),,rt)) python3 gcc g++ objcopy readelf
 	@tools/build.sh measure measure.log

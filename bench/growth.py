@@ -1,7 +1,7 @@
 #!/usr/bin/env python3
 """Measures how the costs of the program grow, prints the figures and draws docs/growth.svg.
 
-growth.py [FOLDER] measures with objects of 2 to 320 MB, which it makes in FOLDER (out/growth):
+growth.py [FOLDER] measures with objects of 1 to 500 MB, which it makes in FOLDER (out/growth):
 - the user and system time of reading and loading an object, for each megabyte of it;
 - the numbers of segments and of calls on the active set, and of the endpoints of rows and ranges;
 - the answers in a second of user and system time, with 1 to 4,096 loaded modules, to addresses in
@@ -24,7 +24,7 @@ from compare_addr2line import addresses
 
 PROGRAM = os.environ.get("ADDR2LINE_LIVE", TOP / "crates/addr2line_live/out/addr2line_live")
 MEASURE = os.environ.get("MEASURE", TOP / "crates/measure/out/measure")
-SIZES = [2, 5, 10, 20, 50, 100, 200, 320]  # larger ones exceed the limit on range items
+SIZES = [1, 2, 5, 10, 20, 50, 100, 200, 500]
 MODULES = [4**power for power in range(7)]
 ASKED = 1_000_000
 DISTANCE = 0x10000  # between the bases of modules

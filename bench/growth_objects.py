@@ -8,7 +8,7 @@ import tempfile
 from pathlib import Path
 
 TOP = Path(__file__).resolve().parent.parent
-FLAGS = ["-O2", "-g", "-gdwarf-5", "-fPIC"]
+FLAGS = ["-g", "-gdwarf-5", "-fPIC"]
 MEGABYTE = 1_000_000
 
 
@@ -20,8 +20,9 @@ def compiled(folder, count):
     """Compiles a source with `count` instantiations of containers, sorting and streams."""
     source, compiled_to = folder / "part.cpp", folder / "part.o"
     with source.open("w") as file:
-        run(TOP / "tools/instantiate.sh", count, "part", stdout=file)
-    run("g++", *FLAGS, "-c", "-o", compiled_to, source)
+        run(TOP / "tools/instantiate.sh", count, "part", "small", stdout=file)
+    # With -O2, the largest objects would exceed the limit on range items.
+    run("g++", "-O1", *FLAGS, "-c", "-o", compiled_to, source)
     return compiled_to
 
 
@@ -42,7 +43,7 @@ def objects(folder, sizes):
     if all(path.exists() for path in paths):
         return paths
     folder.mkdir(parents=True, exist_ok=True)
-    part = compiled(folder, 1)
+    part = compiled(folder, 3)
     one, two = (linked(part, copies, folder / "measured") for copies in (1, 2))
     (folder / "measured").unlink()
     for size, path in zip(sizes, paths):
@@ -55,5 +56,5 @@ def small_object(folder):
     """Compiles the program of the demo, which takes the place of each loaded module."""
     path = folder / "small"
     folder.mkdir(parents=True, exist_ok=True)
-    run("gcc", *FLAGS, "-o", path, TOP / "tools/demo.c")
+    run("gcc", "-O2", *FLAGS, "-o", path, TOP / "tools/demo.c")
     return path
