@@ -1,15 +1,18 @@
 -- Attribute lists by their first attributes and the rest.
 use Rattle.abbreviation_memo.specs.Lists.{IsListAt, first_of, list_at, list_from, listed}
-use Rattle.dwarf_bytes.proofs.Items.ItemLaws.{first_step, items_from-Lists, items_from-step}
-use Rattle.dwarf_bytes.proofs.{Items.Turns.{so-far-item, so-far-none}, Numbers.Moves.same-item}
-use Rattle.dwarf_bytes.specs.Items.{End, Item, Lists, items_from, without_offset}
+use Rattle.dwarf_bytes.proofs.Items.ItemLaws.{Lists-within, first_step, items_from-Lists}
+use Rattle.dwarf_bytes.proofs.Items.ItemLaws.{items_from-step, with_front}
+use Rattle.dwarf_bytes.proofs.Items.Turns.{SoFar, so-far-item, so-far-none}
+use Rattle.dwarf_bytes.proofs.Numbers.Moves.{same-item}
+use Rattle.dwarf_bytes.specs.Items.{At, End, Item, Lists, items_from, without_offset}
 use Rattle.dwarf_bytes.specs.{Position.Position, Refusals.ReadsNext, declared.fault.Cause.Cause}
 use Rattle.dwarf_forms.proofs.Moves.{attribute_at-advances, attribute_at-ends, attributes-ok}
-use Rattle.dwarf_forms.proofs.Moves.{attributes_at-lists, attributes_at-moves, found}
+use Rattle.dwarf_forms.proofs.Moves.{attributes_at-lists, attributes_at-moves, found, with-offset}
 use Rattle.dwarf_forms.proofs.SuffixLists.{attribute-again, end-again, list-continues, named}
 use Rattle.dwarf_forms.specs.Tables.{attribute_at, attributes_at}
 use Rattle.dwarf_forms.specs.declared.attribute.AttributeSpecification.{AttributeSpecification}
-use Rattle.std.proofs.Common.{Err, IfSome, List, None, Ok, Option, Some, [], ap, append_assoc}
+use Rattle.std.proofs.Common.{Err, IfSome, List, None, Ok, Option, Result, Some, [], ap, append-nil}
+use Rattle.std.proofs.Common.{append_assoc, suc, ◌-◌}
 use Rattle.std.proofs.Common.{arith, false, length, refl, sym, ℕ, ◌++◌, ◌<◌, ◌==◌, ◌∙◌, ◌∷◌, ◌≡◌}
 use Rattle.std.proofs.{Common.◌≤◌, lemmas.List.Folds.list_any-append}
 use Rattle.std.specs.List.{list_any}
@@ -18,7 +21,7 @@ pub list-read : (section : List ℕ) (at : ℕ) (xs : List AttributeSpecificatio
     → attributes_at section at ≡ Ok (xs, after) → list_at section at ≡ xs
 list-read section at xs after read = ap listed read
 
--- a list, by what is read first
+-- a list, by its first attribute
 attributes-step : (section : List ℕ) (at : ℕ) → attributes_at section at ≡ without_offset
     (first_step (items_from (length section) (attribute_at section)) [] at
     (attribute_at section [] at))
@@ -61,7 +64,28 @@ lists-alone section own before at (x ∷ xs) next listed =
           (rw (append_assoc own before (x ∷ [])) at listed.2),
     )
 
--- the list at an offset, by what is read first
+-- the attributes of a valid list from an offset on are a valid list
+pub rest-valid : (section : List ℕ) (place : ℕ) (first : List AttributeSpecification) (at : ℕ)
+    → SoFar (length section) (attribute_at section) place first at → IsListAt section place
+    → (list_at section place ≡ first ++ list_at section at) × IsListAt section at
+unfolding attributes_at
+rest-valid section place first at so_far is =
+    by_rest (items_from (length section) (attribute_at section) first at) refl
+    (so_far ∙ with-offset _ _ is.1)
+  where
+    by_rest : (r : Result (List AttributeSpecification × ℕ) At)
+        → items_from (length section) (attribute_at section) first at ≡ r
+        → with_front first r ≡ Ok (list_at section place, is.0)
+        → (list_at section place ≡ first ++ list_at section at) × IsListAt section at
+    by_rest (Ok (xs, end)) read whole =
+        let listed = Lists-within (suc (length section - at)) _ first at xs end read in
+        let others : attributes_at section at ≡ Ok (xs, end) = attributes-ok section at (xs, end)
+        (items_from-Lists _ _ (attribute_at-advances section) [] at xs end
+        (lists-alone section first [] at xs end (rw (append-nil first) listed))) in
+        (rw others (grind (arith, whole)), (end, rw others refl))
+    by_rest (Err e) read whole = absurd (grind (arith, whole))
+
+-- the list at an offset, by its first attribute
 pub record StartsAt (section : List ℕ) (place : ℕ) (first : Option AttributeSpecification)
     (rest : ℕ) : Type 0 where
   pub list : list_at section place ≡ list_from section first rest

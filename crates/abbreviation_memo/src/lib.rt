@@ -3,16 +3,14 @@
 //! the bytes of the section and the declarations that are read.
 #![tactic(auto)]
 
-mod abbreviation_declaration;
 mod abbreviation_table;
+mod list_end;
 mod list_start;
 mod memoize;
 mod memoized_lists;
 mod name_sets;
-mod shared;
 
-pub use abbreviation_declaration::AbbreviationDeclaration;
-pub use abbreviation_table::AbbreviationTable;
+pub use abbreviation_table::{AbbreviationDeclaration, AbbreviationTable};
+pub use list_end::{UNSHARED, first_attributes};
 pub use list_start::ListStart;
 pub use memoized_lists::MemoizedLists;
-pub use shared::{SharedList, UNSHARED};

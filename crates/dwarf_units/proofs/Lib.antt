@@ -3,6 +3,7 @@
 pub mod Common
 pub mod UnitLaws
 pub mod TableLaws
+pub mod ListLaws
 pub mod EntryAdvances
 pub mod EntryOrder
 pub mod FixedValues
@@ -15,6 +16,7 @@ pub mod SlotLaws
 unfoldable pub use Common.*
 pub use UnitLaws.*
 pub use TableLaws.*
+pub use ListLaws.*
 pub use EntryAdvances.*
 pub use EntryOrder.*
 pub use FixedValues.*

@@ -1,13 +1,11 @@
 -- The nodes with a precomputed layout.
-use Rattle.abbreviation_memo.specs.Declarations.{SharedAttributes}
-use Rattle.abbreviation_memo.specs.declared.shared.TheConstants.{UNSHARED}
 use Rattle.dwarf_bytes.proofs.Numbers.LebEncodings.{uleb-again}
 use Rattle.dwarf_units.proofs.Common
 use Common.{Attribute, AttributeSpecification, Bool, Cause, Declaration, Entry, Err, Format, IfSome}
-use Common.{IsShared, List, None, Null, Ok, Option, Result, Run, Some, Stretch, Table, Used, ℕ, []}
-use Common.{ap, append-nil, arith, at-last, attributes_at, attributes_in, block_at, common_steps}
+use Common.{List, None, Null, Ok, Option, Result, Run, Some, Stretch, Table, Used, ℕ, []}
+use Common.{ap, arith, at-last, attributes_at, attributes_in, block_at, common_steps}
 use Common.{cond, drop, drop_more, false, get_or_from_slice_get, inl, inr, le-ltb, length}
-use Common.{length-append, ne_eqb, option_and_then_some, refl, rest_attributes, runs_at, runs_of}
+use Common.{length-append, ne_eqb, option_and_then_some, refl, runs_at, runs_of}
 use Common.{same_Some, shape_at, slice_get, slice_get_within, stored_attributes}
 use Common.{stored_attributes_at, take, true, uleb_at, used_among, used_attributes_at, ◌++◌, ◌+◌}
 use Common.{◌<◌, ◌==◌, ◌>>=◌, ◌∙◌, ◌∷◌, ◌≡◌, ◌≤◌, ◌⊎◌}
@@ -129,11 +127,6 @@ fixed-used format own len slots is are bytes first le = rw
         let len_is : rest.len ≡ len = same_Some rest.len len is in
         rw (← same, block-there rest.len bytes first (omega (arith, le, len_is)), len_is) refl
     by_read (run ∷ runs) rest r is same = absurd (grind (arith, is))
-
--- A list that stores fewer than UNSHARED attributes has no rest.
-pub unshared : (section : List ℕ) (list : SharedAttributes) → IsShared section list
-    → length list.own < UNSHARED → list.own ++ rest_attributes section list.rest ≡ list.own
-unshared section list shared few = grind (arith, shared.full, few, append-nil)
 
 pub if_some-map : {X : Type 0} {P Q : X → Type 0} (r : Option X) → ((x : X) → P x → Q x)
     → IfSome r P → IfSome r Q

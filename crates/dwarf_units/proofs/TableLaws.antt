@@ -1,18 +1,14 @@
--- The tables of the units, and declarations that share attributes.
+-- The tables of the units.
 use Rattle.dwarf_units.proofs.Common
-use Common.{All, AreShared, Declaration, IsParsedFrom, IsShared, List, Ok, Result}
-use Common.{SharedDeclaration, Some, Table, UnitHeader, [], append-nil, arith, declarations_limit}
-use Common.{drop, drop_more, full_declarations, get_or, get_or_from_slice_get, in_section, length}
-use Common.{refl, slice_get, slice_get_within, suc, sum_by, sum_by_push, take, take-append_seam, ℕ}
-use Common.{◌++◌, ◌+◌, ◌-◌, ◌<◌, ◌∷◌, ◌≡◌, ◌≤◌}
-use Rattle.abbreviation_memo.specs.Declarations.{SharedAttributes, all_of, full_declaration}
-use Rattle.abbreviation_memo.specs.declared.shared.TheConstants.{UNSHARED}
+use Common.{All, Declaration, IsParsedFrom, List, Ok, Result, Some, Table, UnitHeader, [], arith}
+use Common.{declarations_limit, drop, drop_more, get_or, get_or_from_slice_get, in_section, length}
+use Common.{refl, slice_get, slice_get_within, sum_by, sum_by_push, take, ℕ, ◌++◌, ◌+◌, ◌-◌, ◌<◌}
+use Common.{◌∷◌, ◌≡◌, ◌≤◌}
 use Rattle.dwarf_bytes.proofs.Items.{EachLaws.{each-next, made_front}, EachPlaces.each-place}
 use Rattle.dwarf_bytes.specs.{Items.{At, each_from}, declared.fault.Section.Section}
 use Rattle.dwarf_forms.proofs.EncodedTables.{table-decoded}
 use Rattle.dwarf_forms.specs.Tables.{declarations_of, table_at}
-use Rattle.dwarf_units.specs.{Private.AbbreviationTables.own_attributes, Units.tables_of}
-use Rattle.std.proofs.lemmas.List.{Sums.sum_by-cons, take_all}
+use Rattle.dwarf_units.specs.Units.{tables_of}
 use Rattle.dwarf_bytes.specs.declared.fault.Section.TheVariants as sections
 
 abbrev pub table_for : List ℕ → List (List Declaration) → UnitHeader → Result (List Declaration) At
@@ -110,24 +106,3 @@ pub parsed-too-long : {X : Type 0} (section : List ℕ) (table : Table) (offset 
     → left ≤ declarations_limit → left < length table.declarations → X
 parsed-too-long section table offset left read parsed same is_read few past =
     grind (arith, table-whole left section offset read few, parsed.1)
-
--- ---- declarations that share attributes
-
--- The unshared attributes of a declaration are the first ones of all.
-own-first : (section : List ℕ) (list : SharedAttributes) → IsShared section list
-    → take UNSHARED (all_of section list) ≡ list.own
-own-first section list is =
-    grind (arith, append-nil list.own, take_all UNSHARED list.own, take-append_seam list.own)
-
-pub own_sum : (section : List ℕ) (ds : List SharedDeclaration) → AreShared section ds
-    → sum_by (λ d. length (own_attributes d)) (full_declarations section ds)
-    ≡ sum_by (λ d. length d.list.own) ds
-own_sum section [] are = refl
-own_sum section (d ∷ ds) are = grind (
-  arith,
-  own-first section d.list (are 0 d (omega arith)),
-  own_sum section ds (λ k e lt. are (suc k) e (omega (arith, lt))),
-  sum_by-cons (λ (e : Declaration). length (own_attributes e)) (full_declaration section d)
-      (full_declarations section ds),
-  sum_by-cons (λ (e : SharedDeclaration). length e.list.own) d ds,
-)

@@ -225,6 +225,7 @@ pub(crate) fn push_position(
     ensures { OnOk result (used.new.items ≡ used.old.items ++ option_to_list position) }
 {
     if let Some(position) = position {
+        used.reserve_exact(1)?;
         used.push(position)?;
     }
     Ok(())

@@ -2,20 +2,19 @@
 
 ghost use Rattle.std.specs.Prelude.{◌≡◌, IfOk, IfSome, Ok, true};
 ghost use Rattle.dwarf_units.specs.{Used.used_among, Private.FixedSizes.attributes_in};
-ghost use Rattle.dwarf_units.specs.Private.Runs.{all_at, fixed_size, own_runs, runs_of};
+ghost use Rattle.dwarf_units.specs.Private.Runs.{all_at, fixed_size, runs_of};
 ghost use Rattle.dwarf_units.specs.{Private.StoredAttributes.Fills, Private.Used.used_after};
 
 use crate::attribute_run::{AttributeRun, Stretch, push_position};
 use crate::fixed_sizes::end_of;
 use crate::used_attributes::UsedAttributes;
 use crate::used_position::UsedPosition;
-use abbreviation_memo::AbbreviationTable;
 use dwarf_bytes::{Cause, Cursor, Format};
 use dwarf_forms::AttributeSpecification;
 use std::alloc::{AllocError, Global};
 use std::marker::Model;
 
-/// The unshared attributes of the entries of a declaration.
+/// The first attributes of the entries of a declaration.
 #[derive(Drop)]
 pub(crate) struct AttributeRuns {
     runs: Vec<AttributeRun>,
@@ -34,7 +33,7 @@ impl Model for AttributeRuns {
 impl AttributeRuns {
     /// Computes the runs of a list of attributes.
     #[tactic(auto, unfolding(crate::specs::Private::Runs::runs_from))]
-    fn of(
+    pub(crate) fn of(
         alloc: Global,
         format: Format,
         declared: &[AttributeSpecification],
@@ -50,6 +49,7 @@ impl AttributeRuns {
                 len = end;
                 continue;
             }
+            runs.reserve_exact(1)?;
             runs.push(AttributeRun::of(len, used, specification)?)?;
             len = 0;
             used = Vec::new(alloc);
@@ -92,19 +92,4 @@ impl AttributeRuns {
         }
         self.rest.read(keep, format, cursor, found)
     }
-}
-
-/// Computes the runs of the unshared attributes of each declaration of a table.
-pub(crate) fn own_runs(
-    alloc: Global,
-    format: Format,
-    table: &AbbreviationTable,
-) -> Result<Vec<AttributeRuns>, AllocError>
-    ensures { IfOk result (λ runs. runs.items ≡ own_runs format table.now) }
-{
-    let mut runs = Vec::with_capacity(alloc, table.declarations().len())?;
-    for declaration in table.declarations() {
-        runs.push(AttributeRuns::of(alloc, format, declaration.list().own())?)?;
-    }
-    Ok(runs)
 }

@@ -1,18 +1,18 @@
 //! A cached abbreviation table (DWARF 5, 7.5.3).
 
-ghost use Rattle.std.specs.Prelude.{◌≡◌, ℕ, ◌≤◌, ◌+◌, ◌-◌, ◌*◌, ◌^◌, None, length, List, sum_by};
-ghost use Rattle.std.specs.Prelude.{IsTrue, ◌↔◌, IfOk, IfNone, IfSome, option_copied};
+ghost use Rattle.std.specs.Prelude.{◌≡◌, ℕ, ◌+◌, None, length, List, IsTrue, ◌↔◌, IfOk, IfNone};
+ghost use Rattle.std.specs.Prelude.{IfSome, option_copied};
 ghost use Rattle.dwarf_bytes.specs.{declared.format.Format.Format, Refusals.{Decodes, in_section}};
 ghost use Rattle.dwarf_forms.specs.Tables.{declarations_of};
-ghost use Rattle.abbreviation_memo.specs.Declarations.{AreShared, full_declarations};
+ghost use Rattle.abbreviation_memo.specs.Declarations.{full_declarations};
 ghost use Rattle.dwarf_units.specs.Entries.{declaration_of};
 ghost use Rattle.dwarf_units.specs.Private.AbbreviationTables.{table_key, table_size};
-ghost use Rattle.dwarf_units.specs.Private.Runs.{IsDeclaration, own_runs};
+ghost use Rattle.dwarf_units.specs.Private.ListRuns.{AreStored, IsDeclaration};
 ghost use Rattle.dwarf_units.specs.Private.{NodeLayouts.{IsLayoutAt, shape_at}, Tables.IsAt};
 ghost use Rattle.dwarf_bytes.specs.declared.fault.Section.TheVariants as sections;
 
-use crate::attribute_runs::{AttributeRuns, own_runs};
 use crate::linked_lists::LinkedLists;
+use crate::list_runs::{ListRuns, table_runs};
 use crate::node_layout::{NodeLayout, NodeShape, layouts};
 use crate::unit_headers::UnitHeader;
 use abbreviation_memo::{AbbreviationDeclaration, AbbreviationTable};
@@ -28,16 +28,20 @@ pub(crate) struct CachedTable<'a> {
     offset: u64,
     format: Format,
     table: AbbreviationTable,
-    /// The unshared attributes of each declaration.
-    runs: Vec<AttributeRuns>,
+    /// The attribute list of each declaration.
+    lists: Vec<ListRuns>,
     /// The layouts of nodes by their code.
     layouts: Vec<Option<NodeLayout>>,
+    /// The least number of bytes in which the declarations and their unshared attributes can be
+    /// encoded.
+    size: u128,
 }
 
 impl<'a> Model for CachedTable<'a> {
-    ghost use Rattle.std.specs.Prelude.{◌≡◌};
-    ghost use Rattle.abbreviation_memo.specs.Declarations.{AreShared, full_declarations};
-    ghost use Rattle.dwarf_units.specs.{Private.AbbreviationTables.Table, Private.Runs.own_runs};
+    ghost use Rattle.std.specs.Prelude.{◌≡◌, ◌+◌, ◌*◌, length};
+    ghost use Rattle.abbreviation_memo.specs.Declarations.{full_declarations};
+    ghost use Rattle.dwarf_units.specs.Private.AbbreviationTables.{Table, unshared_count};
+    ghost use Rattle.dwarf_units.specs.Private.ListRuns.{AreStored};
     ghost use Rattle.dwarf_units.specs.Private.NodeLayouts.{AreLayouts, code_count};
 
     ghost Value = { Table };
@@ -49,38 +53,43 @@ impl<'a> Model for CachedTable<'a> {
       declarations = full_declarations t.section.now t.table;
     } };
 
-    ghost invariant = { λ t. AreShared t.section.now t.table
-        × (t.runs.items ≡ own_runs t.format t.table)
+    ghost invariant = { λ t. AreStored t.section.now t.format t.table t.lists.items
         × AreLayouts t.format (full_declarations t.section.now t.table) (code_count t.table)
-        t.layouts.items };
+        t.layouts.items × (t.size ≡ 5 * length t.table
+        + 2 * unshared_count (full_declarations t.section.now t.table)) };
 }
 
 impl<'a> CachedTable<'a> {
     /// Parses the table at an offset, as `AbbreviationTable::read` does.
     pub(crate) fn read(
         alloc: Global,
-        lists: &mut LinkedLists<'a>,
+        linked: &mut LinkedLists<'a>,
         format: Format,
         offset: u64,
         left: &mut u64,
     ) -> Result<CachedTable<'a>, LoadFault>
         ensures decodes { Decodes (λ table. table.declarations) result
-            (in_section sections.DebugAbbrev (declarations_of left.old lists.old offset)) }
+            (in_section sections.DebugAbbrev (declarations_of left.old linked.old offset)) }
         ensures counted { IfOk result (λ table. left.new + length table.declarations ≡ left.old) }
-        ensures at { IfOk result (λ table. (table.section ≡ lists.old) × IsAt format offset table) }
-        ensures section { lists.new ≡ lists.old }
+        ensures at { IfOk result (λ table. (table.section ≡ linked.old)
+            × IsAt format offset table) }
+        ensures section { linked.new ≡ linked.old }
     {
-        let section = lists.section();
-        let table = lists.table(offset, left)?;
-        let runs = own_runs(alloc, format, &table)?;
-        let layouts = layouts(alloc, format, &table, &runs)?;
+        let section = linked.section();
+        let table = linked.table(offset, left)?;
+        let Ok((lists, count)) = table_runs(alloc, section, format, &table) else {
+            return Err(AllocError.into());
+        };
+        let layouts = layouts(alloc, format, &table, &lists)?;
+        let size = 5 * table.declarations().len() as u128 + 2 * count;
         Ok(CachedTable {
             section,
             offset,
             format,
             table,
-            runs,
+            lists,
             layouts,
+            size,
         })
     }
 
@@ -98,13 +107,13 @@ impl<'a> CachedTable<'a> {
         table_key(self.format, self.offset)
     }
 
-    /// Returns the declaration of a code and its unshared attributes.
-    pub(crate) fn find(&self, code: u64) -> Option<(&AbbreviationDeclaration, &AttributeRuns)>
+    /// Returns the declaration of a code and its attribute list.
+    pub(crate) fn find(&self, code: u64) -> Option<(&AbbreviationDeclaration, &ListRuns)>
         ensures some { IfSome result (λ found. IsDeclaration self.now.section self.now.format
             self.now.declarations code found.0.now found.1.now) }
         ensures none { IfNone result (declaration_of self.now.declarations code ≡ None) }
     {
-        declaration_and_runs(&self.table, &self.runs, code)
+        declaration_and_list(&self.table, &self.lists, code)
     }
 
     /// Returns the shape of the nodes with a one-byte code, if there is one.
@@ -132,13 +141,11 @@ impl<'a> CachedTable<'a> {
         self.table.declarations().len() as u64
     }
 
-    /// Returns the size of the table: the least number of bytes in which its declarations and
-    /// their unshared attributes can be encoded.
-    #[tactic(auto, using(crate::proofs::TableLaws::own_sum))]
+    /// Returns the size of the table.
     pub(crate) fn size(&self) -> u128
         ensures { result ≡ table_size self.now }
     {
-        5 * u128::from(self.len()) + 2 * attribute_count(self.table.declarations())
+        self.size
     }
 
     /// Returns whether a unit uses this table: the offset and the format are equal.
@@ -159,32 +166,21 @@ pub(crate) fn table_key(format: Format, offset: u64) -> u128
     }
 }
 
-/// Returns the declaration of a code and its runs. `runs` is parallel to the declarations.
-pub(crate) fn declaration_and_runs<'a>(
+/// Returns the declaration of a code and its list. `lists` is parallel to the declarations.
+pub(crate) fn declaration_and_list<'a>(
     table: &'a AbbreviationTable,
-    runs: &'a [AttributeRuns],
+    lists: &'a [ListRuns],
     code: u64,
-) -> Option<(&'a AbbreviationDeclaration, &'a AttributeRuns)>
-    ensures some { (section : List ℕ) (format : Format) → AreShared section table.now
-        → runs.now ≡ own_runs format table.now → IfSome result (λ found. IsDeclaration section
-        format (full_declarations section table.now) code found.0.now found.1.now) }
-    ensures none { (section : List ℕ) (format : Format) → runs.now ≡ own_runs format table.now
+) -> Option<(&'a AbbreviationDeclaration, &'a ListRuns)>
+    ensures some { (section : List ℕ) (format : Format)
+        → AreStored section format table.now lists.now → IfSome result (λ found. IsDeclaration
+        section format (full_declarations section table.now) code found.0.now found.1.now) }
+    ensures none { (section : List ℕ) (format : Format)
+        → AreStored section format table.now lists.now
         → IfNone result (declaration_of (full_declarations section table.now) code ≡ None) }
 {
     let place = table.position(code)?;
     let declaration = table.declarations().get(place)?;
-    let runs = runs.get(place)?;
-    Some((declaration, runs))
-}
-
-/// Counts the unshared attributes of declarations.
-fn attribute_count(declarations: &[AbbreviationDeclaration]) -> u128
-    ensures small { result ≤ length declarations.now * (2 ^ 64 - 1) }
-    ensures sum { result ≡ sum_by (λ declaration. length declaration.list.own) declarations.now }
-{
-    let mut count = 0u128;
-    for declaration in declarations {
-        count += declaration.list().own().len() as u128;
-    }
-    count
+    let list = lists.get(place)?;
+    Some((declaration, list))
 }

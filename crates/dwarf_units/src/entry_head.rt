@@ -7,8 +7,8 @@ ghost use Rattle.dwarf_units.specs.Private.Heads.{head_in, used_entry_at, Return
 ghost use Rattle.dwarf_units.specs.Private.StoredAttributes.{Fills};
 ghost use Rattle.dwarf_units.specs.Private.Used.{used_attributes_at};
 
-use crate::attribute_runs::AttributeRuns;
 use crate::linked_lists::LinkedLists;
+use crate::list_runs::ListRuns;
 use crate::unit_table::UnitTable;
 use crate::used_attributes::UsedAttributes;
 use abbreviation_memo::AbbreviationDeclaration;
@@ -23,25 +23,23 @@ pub(crate) const DEPTH_LIMIT: u32 = 256;
 pub struct EntryHead<'a> {
     format: Format,
     declaration: &'a AbbreviationDeclaration,
-    /// The attributes that the declaration does not share.
-    runs: &'a AttributeRuns,
-    lists: &'a LinkedLists<'a>,
+    list: &'a ListRuns,
+    linked: &'a LinkedLists<'a>,
 }
 
 impl<'a> Model for EntryHead<'a> {
-    ghost use Rattle.std.specs.Prelude.{◌≡◌, IfSome};
-    ghost use Rattle.abbreviation_memo.specs.{Declarations.full_declaration, Lists.IsListAt};
-    ghost use Rattle.dwarf_units.specs.{Private.Heads.Head, Private.Runs.runs_of};
+    ghost use Rattle.abbreviation_memo.specs.Declarations.{full_declaration};
+    ghost use Rattle.dwarf_units.specs.{Private.Heads.Head, Private.ListRuns.IsStored};
 
     ghost Value = { Head };
 
     ghost view = { λ h. record {
       format = h.format;
-      declaration = full_declaration h.lists.now h.declaration.now;
+      declaration = full_declaration h.linked.now h.declaration.now;
     } };
 
-    ghost invariant = { λ h. (h.runs.now ≡ runs_of h.format h.declaration.now.list.own)
-        × IfSome h.declaration.now.list.rest (IsListAt h.lists.now) };
+    ghost invariant = { λ h. IsStored h.linked.now h.format h.declaration.now.attributes
+        h.list.now };
 }
 
 impl<'a> UnitTable<'a> {
@@ -50,12 +48,12 @@ impl<'a> UnitTable<'a> {
         ensures { result
             ≡ option_map (head_in self.now) (declaration_of self.now.declarations code) }
     {
-        let (declaration, runs) = self.table.find(code)?;
+        let (declaration, list) = self.table.find(code)?;
         Some(EntryHead {
             format: self.table.format(),
             declaration,
-            runs,
-            lists: self.lists,
+            list,
+            linked: self.linked,
         })
     }
 
@@ -105,14 +103,14 @@ impl<'a> EntryHead<'a> {
     pub fn tag(&self) -> u64
         ensures { result ≡ self.now.declaration.tag }
     {
-        self.declaration.tag()
+        self.declaration.head.tag
     }
 
     /// Returns whether the entry is followed by its children.
     pub fn children(&self) -> bool
         ensures { result ≡ self.now.declaration.children }
     {
-        self.declaration.children()
+        self.declaration.head.children
     }
 
     /// Reads the attributes of the entry, which start at the cursor. Replaces the contents of
@@ -132,8 +130,8 @@ impl<'a> EntryHead<'a> {
         // The contract of `place` is needed: the offset is within the bytes or at their end.
         let _ = cursor.place();
         *found = UsedAttributes::none();
-        self.runs.read(keep, self.format, cursor, found)?;
-        let rest = self.declaration.list().rest();
-        self.lists.read(keep, self.format, rest, cursor, found)
+        self.list.runs.read(keep, self.format, cursor, found)?;
+        self.linked
+            .read(keep, self.format, self.list.rest, cursor, found)
     }
 }

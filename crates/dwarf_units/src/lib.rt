@@ -12,6 +12,7 @@ mod fixed_size_values;
 mod fixed_sizes;
 pub mod laws;
 mod linked_lists;
+mod list_runs;
 mod node_layout;
 mod table_store;
 mod tables;

@@ -4,7 +4,7 @@ ghost use Rattle.std.specs.Prelude.{◌≡◌, ◌+◌, IfOk, IfSome, IsOk, leng
 ghost use Rattle.dwarf_bytes.specs.Refusals.{Decodes, in_section};
 ghost use Rattle.dwarf_forms.specs.Tables.{declarations_of};
 ghost use Rattle.abbreviation_memo.specs.Lists.{IsListAt, list_at, rest_attributes};
-ghost use Rattle.abbreviation_memo.specs.Declarations.{AreShared, full_declarations};
+ghost use Rattle.abbreviation_memo.specs.Declarations.{HaveLists, full_declarations};
 ghost use Rattle.dwarf_units.specs.Private.Links.{AreLinks, IsLink, is_empty_unused};
 ghost use Rattle.dwarf_units.specs.Private.StoredAttributes.{Fills, stored_attributes_at};
 ghost use Rattle.dwarf_units.specs.Private.Used.{used_after};
@@ -74,7 +74,7 @@ impl<'a> LinkedLists<'a> {
         ensures decodes { Decodes (full_declarations self.old) result
             (in_section sections.DebugAbbrev (declarations_of left.old self.old offset)) }
         ensures counted { IfOk result (λ table. left.new + length table ≡ left.old) }
-        ensures shared { IfOk result (AreShared self.old) }
+        ensures lists { IfOk result (HaveLists self.old) }
         ensures section { self.new ≡ self.old }
     {
         let table = AbbreviationTable::read(self.alloc, &mut self.lists, offset, left)?;

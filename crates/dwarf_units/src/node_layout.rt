@@ -2,17 +2,16 @@
 //! 5, 7.5.2 and 7.5.3).
 
 ghost use Rattle.std.specs.Prelude.{◌≡◌, ℕ, List, IfOk};
-ghost use Rattle.abbreviation_memo.specs.Declarations.{IsShared, AreShared, full_declaration};
-ghost use Rattle.abbreviation_memo.specs.Declarations.{full_declarations};
+ghost use Rattle.abbreviation_memo.specs.Declarations.{full_declaration, full_declarations};
+ghost use Rattle.dwarf_units.specs.Private.ListRuns.{AreStored, IsStored};
 ghost use Rattle.dwarf_units.specs.Private.NodeLayouts.{AreLayouts, IsLayoutOf, IsLayoutOfCode};
 ghost use Rattle.dwarf_units.specs.Private.NodeLayouts.{code_count};
-ghost use Rattle.dwarf_units.specs.Private.Runs.{own_runs, runs_of};
 
-use crate::attribute_runs::AttributeRuns;
-use crate::cached_table::declaration_and_runs;
+use crate::cached_table::declaration_and_list;
+use crate::list_runs::ListRuns;
 use crate::used_name::SLOTS;
 use crate::value_slot::{ValueSlot, slots_of};
-use abbreviation_memo::{AbbreviationDeclaration, AbbreviationTable, UNSHARED};
+use abbreviation_memo::{AbbreviationDeclaration, AbbreviationTable};
 use dwarf_bytes::Format;
 use std::alloc::{AllocError, Global};
 
@@ -44,43 +43,42 @@ impl NodeLayout {
     fn of(
         format: Format,
         declaration: &AbbreviationDeclaration,
-        runs: &AttributeRuns,
+        list: &ListRuns,
     ) -> Option<NodeLayout>
-        ensures { (section : List ℕ) → IsShared section declaration.now.list
-            → runs.now ≡ runs_of format declaration.now.list.own
+        ensures { (section : List ℕ) → IsStored section format declaration.now.attributes list.now
             → IsLayoutOf format (full_declaration section declaration.now) result }
     {
-        let len = runs.fixed_size()?;
-        if declaration.list().own().len() >= UNSHARED {
+        if list.rest.is_some() {
             return None;
         }
+        let len = list.runs.fixed_size()?;
         let shape = NodeShape {
             is_null: false,
-            tag: declaration.tag(),
-            children: declaration.children(),
+            tag: declaration.head.tag,
+            children: declaration.head.children,
             len,
         };
-        let slots = slots_of(format, runs.last_positions());
+        let slots = slots_of(format, list.runs.last_positions());
         Some(NodeLayout { shape, slots })
     }
 }
 
 /// Computes the layouts of the nodes with the codes from 0 up to the number of declarations, at
-/// most 127. `runs` is parallel to the declarations.
+/// most 127. `lists` is parallel to the declarations.
 pub(crate) fn layouts(
     alloc: Global,
     format: Format,
     table: &AbbreviationTable,
-    runs: &[AttributeRuns],
+    lists: &[ListRuns],
 ) -> Result<Vec<Option<NodeLayout>>, AllocError>
-    ensures { IfOk result (λ layouts. (section : List ℕ) → AreShared section table.now
-        → runs.now ≡ own_runs format table.now → AreLayouts format
+    ensures { IfOk result (λ layouts. (section : List ℕ)
+        → AreStored section format table.now lists.now → AreLayouts format
         (full_declarations section table.now) (code_count table.now) layouts.items) }
 {
     let count = table.declarations().len().min(CODE_LIMIT) + 1;
     let mut layouts = Vec::with_capacity(alloc, count)?;
     for code in 0..count {
-        layouts.push(layout_of_code(format, table, runs, code as u64))?;
+        layouts.push(layout_of_code(format, table, lists, code as u64))?;
     }
     Ok(layouts)
 }
@@ -89,11 +87,10 @@ pub(crate) fn layouts(
 fn layout_of_code(
     format: Format,
     table: &AbbreviationTable,
-    runs: &[AttributeRuns],
+    lists: &[ListRuns],
     code: u64,
 ) -> Option<NodeLayout>
-    ensures { (section : List ℕ) → AreShared section table.now
-        → runs.now ≡ own_runs format table.now
+    ensures { (section : List ℕ) → AreStored section format table.now lists.now
         → IsLayoutOfCode format (full_declarations section table.now) code result }
 {
     if code == 0 {
@@ -105,6 +102,6 @@ fn layout_of_code(
         };
         return Some(NodeLayout { shape, slots: None });
     }
-    let (declaration, runs) = declaration_and_runs(table, runs, code)?;
-    NodeLayout::of(format, declaration, runs)
+    let (declaration, list) = declaration_and_list(table, lists, code)?;
+    NodeLayout::of(format, declaration, list)
 }

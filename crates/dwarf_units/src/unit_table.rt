@@ -16,7 +16,7 @@ use std::marker::Model;
 #[derive(Drop)]
 pub struct UnitTable<'a> {
     pub(crate) table: &'a CachedTable<'a>,
-    pub(crate) lists: &'a LinkedLists<'a>,
+    pub(crate) linked: &'a LinkedLists<'a>,
 }
 
 impl<'a> Model for UnitTable<'a> {
@@ -27,15 +27,15 @@ impl<'a> Model for UnitTable<'a> {
 
     ghost view = { λ t. t.table.now };
 
-    ghost invariant = { λ t. t.table.now.section ≡ t.lists.now };
+    ghost invariant = { λ t. t.table.now.section ≡ t.linked.now };
 }
 
 impl<'a> UnitTable<'a> {
-    pub(crate) fn new(table: &'a CachedTable<'a>, lists: &'a LinkedLists<'a>) -> UnitTable<'a>
-        requires { table.now.section ≡ lists.now }
+    pub(crate) fn new(table: &'a CachedTable<'a>, linked: &'a LinkedLists<'a>) -> UnitTable<'a>
+        requires { table.now.section ≡ linked.now }
         ensures { result ≡ table.now }
     {
-        UnitTable { table, lists }
+        UnitTable { table, linked }
     }
 
     /// Returns the shape of the node at an offset and the offset after the node, if the node has a

@@ -1,11 +1,10 @@
 -- The invariant of the memo, and what the memo reads.
 use Rattle.abbreviation_memo.specs.{Lists.list_at, Private.NameSets.is_in}
 use Rattle.abbreviation_memo.specs.declared.{memoized_lists.Memo.Memo, name_sets.Branch.Branch}
-use Rattle.abbreviation_memo.specs.declared.shared.TheConstants.{UNSHARED}
-use Rattle.dwarf_forms.specs.Tables.{attributes_at, shares_name}
+use Rattle.dwarf_forms.specs.Tables.{attributes_at}
 use Rattle.dwarf_forms.specs.declared.attribute.AttributeSpecification.{AttributeSpecification}
-use Rattle.std.specs.{BTreeMap.{BTreeMap, get}, List.list_any, Ordering.nat_cmp, Prelude.Bool}
-use Rattle.std.specs.Prelude.{List, Ok, Some, [], false, length, true, ℕ, ◌++◌, ◌<◌, ◌==◌, ◌≡◌, ◌≤◌}
+use Rattle.std.specs.{BTreeMap.{BTreeMap, get}, List.list_any, Ordering.nat_cmp}
+use Rattle.std.specs.Prelude.{List, Ok, Some, [], length, ℕ, ◌<◌, ◌==◌, ◌≡◌}
 
 -- the set contains the names of the attributes
 pub record HasNames (sets : List Branch) (set : ℕ) (attributes : List AttributeSpecification)
@@ -24,13 +23,3 @@ pub record AreMemos (section : List ℕ) (memos : BTreeMap ℕ Memo) (sets : Lis
   pub each : (place : ℕ) (memo : Memo) → get nat_cmp memos place ≡ Some memo
       → IsMemo section sets place memo
   pub empty : HasNames sets 0 []
-
--- The list at offset `first` starts with these attributes and ends before offset `at`, or else
--- there are UNSHARED of them, and any list at `at` without their names continues it.
-abbrev pub StartsList : Bool → List ℕ → ℕ → List AttributeSpecification → ℕ → Type 0
-StartsList true section first own at =
-    (attributes_at section first ≡ Ok (own, at)) × (length own ≤ UNSHARED)
-StartsList false section first own at =
-    ((rest : List AttributeSpecification) (after : ℕ) → attributes_at section at ≡ Ok (rest, after)
-    → shares_name own rest ≡ false → attributes_at section first ≡ Ok (own ++ rest, after))
-    × (length own ≡ UNSHARED)

@@ -1,4 +1,4 @@
-//! A comparison of the reader of a single table and the one that shares attributes between tables.
+//! A comparison of the reader of a single table and the one that memoizes attribute lists.
 
 use crate::checks::{are_equal, expect};
 use abbreviation_memo::{AbbreviationDeclaration, AbbreviationTable, ListStart, MemoizedLists};
@@ -25,18 +25,6 @@ pub fn add(
     expect(rt, attributes.push(attribute).ok(), "out of memory");
 }
 
-/// Returns the attributes that a declaration stores itself.
-fn own_attributes(
-    rt: &(impl Abort + AllocGlobal),
-    declaration: &AbbreviationDeclaration,
-) -> Vec<AttributeSpecification> {
-    expect(
-        rt,
-        Vec::from_slice(rt.alloc(), declaration.list().own()).ok(),
-        "out of memory",
-    )
-}
-
 /// Appends the first attribute of the list at an offset. Returns the offset of the others, or
 /// `None` if the list is empty.
 fn add_first(
@@ -55,17 +43,17 @@ fn add_first(
     Some(start.rest)
 }
 
-/// Returns the attributes of a declaration, in order: its own, and then the memoized ones.
+/// Returns the attributes of a declaration, in order.
 pub fn attributes_of(
     rt: &(impl Abort + AllocGlobal),
-    lists: &MemoizedLists<'_>,
+    section: &[u8],
     declaration: &AbbreviationDeclaration,
 ) -> Vec<AttributeSpecification> {
-    let mut attributes = own_attributes(rt, declaration);
-    let mut next = declaration.list().rest();
-    for _ in 0..lists.section().len() {
+    let mut attributes = Vec::new(rt.alloc());
+    let mut next = Some(declaration.attributes);
+    for _ in 0..section.len() {
         if let Some(place) = next {
-            next = add_first(rt, lists.section(), place, &mut attributes);
+            next = add_first(rt, section, place, &mut attributes);
         }
     }
     attributes
@@ -75,12 +63,12 @@ pub fn attributes_of(
 fn is_same(
     rt: &(impl Abort + AllocGlobal),
     decl: &Decl,
-    lists: &MemoizedLists<'_>,
+    section: &[u8],
     shared: &AbbreviationDeclaration,
 ) {
-    let head = (shared.code(), shared.tag(), shared.children());
+    let head = (shared.head.code, shared.head.tag, shared.head.children);
     are_equal(rt, (decl.code(), decl.tag(), decl.children()), head);
-    let attributes = attributes_of(rt, lists, shared);
+    let attributes = attributes_of(rt, section, shared);
     are_equal(rt, decl.attributes(), attributes.as_slice());
 }
 
@@ -88,12 +76,12 @@ fn is_same(
 fn are_same(
     rt: &(impl Abort + AllocGlobal),
     alone: &Abbrevs,
-    lists: &MemoizedLists<'_>,
+    section: &[u8],
     shared: &AbbreviationTable,
 ) {
     are_equal(rt, alone.decls().len(), shared.declarations().len());
     for (decl, other) in alone.decls().iter().zip(shared.declarations()) {
-        is_same(rt, decl, lists, other);
+        is_same(rt, decl, section, other);
     }
 }
 
@@ -105,7 +93,7 @@ pub fn agree_at(rt: &(impl Abort + AllocGlobal), section: &[u8], offset: u64) {
     let shared = AbbreviationTable::read(rt.alloc(), &mut lists, offset, &mut shared_left);
     are_equal(rt, left, shared_left);
     match (alone, shared) {
-        (Ok(alone), Ok(shared)) => are_same(rt, &alone, &lists, &shared),
+        (Ok(alone), Ok(shared)) => are_same(rt, &alone, section, &shared),
         (alone, shared) => are_equal(rt, alone.err(), shared.err()),
     }
 }

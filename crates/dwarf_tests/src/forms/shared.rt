@@ -2,7 +2,8 @@
 
 use crate::checks::{are_equal, expect, put};
 use crate::forms::both_readers::{add, agree_at, attributes_of, lists_of};
-use abbreviation_memo::{AbbreviationTable, MemoizedLists, UNSHARED};
+use abbreviation_memo::{AbbreviationTable, MemoizedLists, UNSHARED, first_attributes};
+use dwarf_bytes::Cursor;
 use dwarf_forms::AttributeSpecification;
 use std::process::Abort;
 use std::test::*;
@@ -39,13 +40,12 @@ fn attributes_from(rt: &(impl Abort + AllocGlobal), first: u64) -> Vec<Attribute
     attributes
 }
 
-/// Reads the table at an offset. Returns the attributes of its first declaration, and the number of
-/// them that the declaration stores itself.
+/// Reads the table at an offset. Returns the attributes of its first declaration.
 fn first_of(
     rt: &(impl Abort + AllocGlobal),
     lists: &mut MemoizedLists<'_>,
     offset: u64,
-) -> (Vec<AttributeSpecification>, usize) {
+) -> Vec<AttributeSpecification> {
     let mut left = 1;
     let table = expect(
         rt,
@@ -53,22 +53,20 @@ fn first_of(
         "the table is refused",
     );
     let declaration = expect(rt, table.declarations().first(), "no declaration");
-    let attributes = attributes_of(rt, lists, declaration);
-    (attributes, declaration.list().own().len())
+    attributes_of(rt, lists.section(), declaration)
 }
 
 /// Checks that the table at an offset has a declaration with the attributes from a name on. Also
-/// checks the number of attributes that it stores itself and the number of memoized lists.
+/// checks the number of memoized lists.
 fn is_shared(
     rt: &(impl Abort + AllocGlobal),
     lists: &mut MemoizedLists<'_>,
     offset: u64,
     first: u64,
-    own: usize,
     memoized: usize,
 ) {
-    let (shared, count) = first_of(rt, lists, offset);
-    are_equal(rt, (count, lists.places().len()), (own, memoized));
+    let shared = first_of(rt, lists, offset);
+    are_equal(rt, lists.places().len(), memoized);
     let wanted = attributes_from(rt, first);
     are_equal(rt, shared.as_slice() == wanted.as_slice(), true);
 }
@@ -79,11 +77,10 @@ fn is_alone(
     section: &[u8],
     offset: u64,
     first: u64,
-    own: usize,
     memoized: usize,
 ) {
     let mut lists = lists_of(rt, section);
-    is_shared(rt, &mut lists, offset, first, own, memoized);
+    is_shared(rt, &mut lists, offset, first, memoized);
 }
 
 #[test]
@@ -92,21 +89,47 @@ fn tables_within_one_list(rt: HostRuntime) {
     let mut lists = lists_of(&rt, &section);
     // one list from each later attribute on, and the empty list at the end
     let later = 100 - UNSHARED + 1;
-    is_shared(&rt, &mut lists, 0, 0x80, UNSHARED, later);
+    is_shared(&rt, &mut lists, 0, 0x80, later);
     // from the forms of the attributes 9, 34 and 35: their tables have the attributes after the
     // next one
-    is_shared(&rt, &mut lists, 32, 0x8b, UNSHARED, later);
-    is_shared(&rt, &mut lists, 107, 0xa4, UNSHARED, later);
-    is_shared(&rt, &mut lists, 110, 0xa5, 63, later);
+    is_shared(&rt, &mut lists, 32, 0x8b, later);
+    is_shared(&rt, &mut lists, 107, 0xa4, later);
+    is_shared(&rt, &mut lists, 110, 0xa5, later);
 }
 
 #[test]
 fn tables_within_one_list_alone(rt: HostRuntime) {
     let section = one_list(&rt);
-    is_alone(&rt, &section, 0, 0x80, UNSHARED, 101 - UNSHARED);
-    is_alone(&rt, &section, 32, 0x8b, UNSHARED, 90 - UNSHARED);
-    is_alone(&rt, &section, 107, 0xa4, UNSHARED, 1);
-    is_alone(&rt, &section, 110, 0xa5, 63, 0);
+    is_alone(&rt, &section, 0, 0x80, 101 - UNSHARED);
+    is_alone(&rt, &section, 32, 0x8b, 90 - UNSHARED);
+    is_alone(&rt, &section, 107, 0xa4, 1);
+    is_alone(&rt, &section, 110, 0xa5, 0);
+}
+
+/// Checks the offset after the first attributes of the list at an offset, and their number.
+fn has_first(
+    rt: &(impl Abort + AllocGlobal),
+    section: &[u8],
+    place: usize,
+    rest: Option<usize>,
+    len: usize,
+) {
+    let mut first = Vec::new(rt.alloc());
+    let mut cursor = Cursor::new(section);
+    expect(rt, cursor.seek(place).ok(), "no such offset");
+    let found = first_attributes(rt.alloc(), &mut first, &mut cursor);
+    are_equal(rt, found.ok(), Some(rest));
+    are_equal(rt, first.len(), len);
+}
+
+#[test]
+fn first_attributes_of_lists(rt: HostRuntime) {
+    let section = one_list(&rt);
+    has_first(&rt, &section, 3, Some(3 + 3 * 64), 64);
+    // with 64 attributes, an empty list follows
+    has_first(&rt, &section, 3 + 3 * 36, Some(303), 64);
+    has_first(&rt, &section, 3 + 3 * 37, None, 63);
+    has_first(&rt, &section, 303, None, 0);
 }
 
 /// Builds a declaration of 100 attributes, like `one_list`, with another name and form at an index.

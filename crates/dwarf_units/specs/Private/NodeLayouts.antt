@@ -1,5 +1,5 @@
 -- Nodes of a fixed size: null entries, and entries whose attributes all have a fixed size.
-use Rattle.abbreviation_memo.specs.declared.shared.TheConstants.{UNSHARED}
+use Rattle.abbreviation_memo.specs.declared.list_end.TheConstants.{UNSHARED}
 use Rattle.dwarf_bytes.specs.declared.format.Format.{Format}
 use Rattle.dwarf_forms.specs.Declarations.{Declaration}
 use Rattle.dwarf_units.specs.Entries.{Node, declaration_of, depth_limit, node_at_depth}

@@ -1,13 +1,11 @@
 -- The attributes of a declaration in runs: attributes of a fixed size, and the attribute after
 -- them.
-use Rattle.abbreviation_memo.specs.Declarations.{IsShared, SharedDeclaration, full_declaration}
 use Rattle.dwarf_bytes.specs.{Bind.◌>>=◌, Contents.content_at, Forms.form_of, Items.reading}
 use Rattle.dwarf_bytes.specs.{Numbers.block_at, declared.fault.Cause.Cause}
 use Rattle.dwarf_bytes.specs.declared.form.Form.TheVariants.{Direct, ImplicitConst, Indirect}
 use Rattle.dwarf_bytes.specs.declared.{form.ValueLayout.ValueLayout, format.Format.Format}
-use Rattle.dwarf_forms.specs.Declarations.{Declaration}
 use Rattle.dwarf_forms.specs.declared.attribute.AttributeSpecification.{AttributeSpecification}
-use Rattle.dwarf_units.specs.{Attributes.{accepts, is_used}, Entries.declaration_of}
+use Rattle.dwarf_units.specs.Attributes.{accepts, is_used}
 use Rattle.dwarf_units.specs.Private.FixedSizes.{attributes_in, end_of, used_position}
 use Rattle.dwarf_units.specs.Private.StoredAttributes.{stored_attributes_at}
 use Rattle.dwarf_units.specs.declared.attribute_run.LastAttribute.{LastAttribute}
@@ -15,8 +13,8 @@ use Rattle.dwarf_units.specs.declared.attribute_run.LastAttribute.TheVariants.{C
 use Rattle.dwarf_units.specs.declared.attributes.Attribute.{Attribute}
 use Rattle.dwarf_units.specs.declared.used_position.UsedPosition.{UsedPosition}
 use Rattle.std.specs.{Option.{option_map_or, option_to_list}, Prelude.{Bool, List, None, Ok}}
-use Rattle.std.specs.Prelude.{Option, Result, Some, [], false, if◌then◌else◌, length, map, true, ℕ}
-use Rattle.std.specs.Prelude.{◌&&◌, ◌++◌, ◌==◌, ◌∷◌, ◌≡◌}
+use Rattle.std.specs.Prelude.{Option, Result, Some, [], false, if◌then◌else◌, length, true, ℕ}
+use Rattle.std.specs.Prelude.{◌&&◌, ◌++◌, ◌==◌, ◌∷◌}
 use Rattle.dwarf_bytes.specs.declared.form.ValueLayout.TheVariants as layouts
 
 -- ---- attributes whose values need no check
@@ -75,17 +73,6 @@ runs_from format n used (s ∷ ss) = option_map_or
 
 abbrev pub runs_of : Format → List AttributeSpecification → Runs
 runs_of format declared = runs_from format 0 [] declared
-
--- The runs of the unshared attributes of each declaration.
-abbrev pub own_runs : Format → List SharedDeclaration → List Runs
-own_runs format declarations = map (λ declaration. runs_of format declaration.list.own) declarations
-
--- The declaration of a code as it is stored, with the runs of its unshared attributes.
-pub record IsDeclaration (section : List ℕ) (format : Format) (declarations : List Declaration)
-    (code : ℕ) (declaration : SharedDeclaration) (stored : Runs) : Type 0 where
-  pub declared : declaration_of declarations code ≡ Some (full_declaration section declaration)
-  pub shared : IsShared section declaration.list
-  pub runs : stored ≡ runs_of format declaration.list.own
 
 -- The size of all attributes, if it is fixed.
 abbrev pub fixed_size : Runs → Option ℕ

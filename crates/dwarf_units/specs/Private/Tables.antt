@@ -6,7 +6,7 @@ use Rattle.dwarf_units.specs.Private.AbbreviationTables.{Table, table_key, table
 use Rattle.dwarf_units.specs.{Units.declarations_limit, declared.unit_headers.UnitHeader.UnitHeader}
 use Rattle.std.specs.{BTreeMap.{BTreeMap, get}, List.All, Ordering.nat_cmp, Prelude.{Err, IfErr}}
 use Rattle.std.specs.Prelude.{List, Ok, Result, Some, [], if◌then◌else◌, length, nat_le, slice_get}
-use Rattle.std.specs.Prelude.{sum_by, take, ℕ, ◌*◌, ◌++◌, ◌+◌, ◌<◌, ◌∷◌, ◌≡◌, ◌≤◌, ◌⊎◌}
+use Rattle.std.specs.Prelude.{sum_by, take, ℕ, ◌++◌, ◌+◌, ◌<◌, ◌∷◌, ◌≡◌, ◌≤◌, ◌⊎◌}
 use Rattle.dwarf_bytes.specs.declared.fault.Section.TheVariants as sections
 
 -- The tables of a section by index, and the number of those that are cached permanently. A table

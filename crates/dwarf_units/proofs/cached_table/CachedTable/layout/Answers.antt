@@ -14,4 +14,4 @@ returns c =
     c.get.ensures.lookup.1) ∙ ap (λ r. option_copied r) c.in_ok-get.was in
     rw (c.as_ref.ensures.value, ← c.self.view_is) (layout-there _ (code_count table)
     c.deref.result.now c.args.code c.in_ok-get.field-0.now counted
-    (rw c.deref.ensures.value c.self.invariant.2) (rw c.from.ensures at here))
+    (rw c.deref.ensures.value c.self.invariant.1) (rw c.from.ensures at here))

@@ -1,12 +1,13 @@
-use Rattle.dwarf_units.proofs.{◌∙◌, AreShared}
+use Rattle.dwarf_units.proofs.{refl}
 use Rattle.dwarf_units.proofs.cached_table.CachedTable.read.Goals as goal
 
+pub table_runs-requires : goal.table_runs-requires
+table_runs-requires c = rw c.section-section.ensures c.in_ok-table.ensures.lists
+
 pub invariant_of-result : goal.invariant_of-result
-invariant_of-result c =
-    let shared : AreShared c.section-section.result.now c.in_ok-table.table =
-    rw c.section-section.ensures (c.in_ok-table.ensures.shared) in (
-      shared,
-      c.in_ok-runs.ensures,
-      c.in_ok-layouts.ensures c.section-section.result.now shared
-          (c.deref.ensures.value ∙ c.in_ok-runs.ensures),
-    )
+invariant_of-result c = (
+  c.in-Ok.ensures.stored,
+  c.in_ok-layouts.ensures c.section-section.result.now
+      (rw c.deref.ensures.value c.in-Ok.ensures.stored),
+  rw (c.declarations.ensures, c.in-Ok.ensures.count) refl,
+)

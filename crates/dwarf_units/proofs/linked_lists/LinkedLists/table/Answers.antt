@@ -5,3 +5,6 @@ invariant_of-self c = rw c.in_err-table.ensures.section c.self.invariant
 
 pub link_all-requires : goal.link_all-requires
 link_all-requires c = rw c.in_ok-table.ensures.section c.self.invariant
+
+pub returns-clause-lists : goal.returns-clause-lists
+returns-clause-lists c = rw (← c.self.view_is) c.in_ok-table.ensures.lists
