@@ -129,7 +129,7 @@ impl<'a> EntryHead<'a> {
     {
         // The contract of `place` is needed: the offset is within the bytes or at their end.
         let _ = cursor.place();
-        *found = UsedAttributes::none();
+        found.clear();
         self.list.runs.read(keep, self.format, cursor, found)?;
         self.linked
             .read(keep, self.format, self.list.rest, cursor, found)

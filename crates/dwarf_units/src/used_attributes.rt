@@ -14,14 +14,19 @@ use std::marker::Model;
 #[derive(Drop)]
 pub struct UsedAttributes {
     values: [Option<AttributeValue>; SLOTS],
+    /// Whether an attribute was added.
+    is_filled: bool,
 }
 
 impl Model for UsedAttributes {
-    ghost use Rattle.dwarf_units.specs.{Private.Slots.in_slots, Used.Used};
+    ghost use Rattle.std.specs.Prelude.{◌≡◌, [], false};
+    ghost use Rattle.dwarf_units.specs.{Private.Slots.in_slots, Used.{Used, used_among}};
 
     ghost Value = { Used };
 
     ghost view = { λ u. in_slots u.values };
+
+    ghost invariant = { λ u. u.is_filled ≡ false → in_slots u.values ≡ used_among [] };
 }
 
 impl UsedAttributes {
@@ -31,6 +36,16 @@ impl UsedAttributes {
     {
         UsedAttributes {
             values: [None; SLOTS],
+            is_filled: false,
+        }
+    }
+
+    /// Removes all attributes. It is called for each entry, and most entries add none.
+    pub(crate) fn clear(&mut self)
+        ensures { self.new ≡ used_among [] }
+    {
+        if self.is_filled {
+            *self = UsedAttributes::none();
         }
     }
 
@@ -39,6 +54,7 @@ impl UsedAttributes {
     pub(crate) fn add(&mut self, name: UsedName, value: AttributeValue)
         ensures { self.new ≡ with_used self.old (named_attribute name value ∷ []) }
     {
+        self.is_filled = true;
         let slot = name.slot();
         self.values[slot] = self.values[slot].or(Some(value));
     }
