@@ -36,7 +36,7 @@ pub(crate) fn all_entries(
 {
     let mut units = Vec::new(alloc);
     for header in headers {
-        let number = tables.number_of(alloc, header, 0)?;
+        let number = tables.number_of(alloc, header)?;
         let table = tables.table(number);
         let info = sections.debug_info;
         let unit = entries(alloc, info, *header, number, &table, bitmap)?;

@@ -28,7 +28,7 @@ fn is_read(
         panic!(rt; "the table is refused");
     };
     let header = expect(rt, headers.first(), "no unit");
-    let Ok(number) = tables.number_of(rt.alloc(), header, 0) else {
+    let Ok(number) = tables.number_of(rt.alloc(), header) else {
         panic!(rt; "no table");
     };
     let table = tables.table(number);

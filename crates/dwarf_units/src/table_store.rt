@@ -64,27 +64,8 @@ impl<'a> TableStore<'a> {
         &self.tables[number]
     }
 
-    /// Returns the index of the table of a unit, if it is cached. Tries the index `guess` first.
-    // Inlined: called for each scope and each reference.
-    #[inline(always)]
-    pub(crate) fn index(&self, unit: &UnitHeader, guess: usize) -> Option<usize>
-        ensures none { IfNone result (AreElsewhere unit.now.format unit.now.abbreviations
-            self.now.tables) }
-        ensures some { IfSome result (IsIndexOf self.now unit.now) }
-        ensures stays { IfSome result (λ _. IsCachedOrTooLarge self.now unit.now) }
-        ensures limit { IsWithinLimit self.now }
-    {
-        if self.is_index(unit, guess) {
-            return Some(guess);
-        }
-        self.find(unit)
-    }
-
     /// Returns the index of the table of a unit, if it is cached.
-    // Not inlined: it is rare, and its code would slow down the caller.
-    #[cold]
-    #[inline(never)]
-    fn find(&self, unit: &UnitHeader) -> Option<usize>
+    pub(crate) fn find(&self, unit: &UnitHeader) -> Option<usize>
         ensures none { IfNone result (AreElsewhere unit.now.format unit.now.abbreviations
             self.now.tables) }
         ensures some { IfSome result (IsIndexOf self.now unit.now) }

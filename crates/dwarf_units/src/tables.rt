@@ -1,14 +1,14 @@
 //! A cache of the abbreviation tables of all units (DWARF 5, 7.5.3).
 
 ghost use Rattle.std.specs.Prelude.{◌≡◌, ℕ, ◌+◌, ◌<◌, ◌≤◌, List, Some, Ok, length, nat_lt};
-ghost use Rattle.std.specs.{Prelude.{slice_get, IfOk, OnOk, IfSome, IfNone}, List.All};
+ghost use Rattle.std.specs.{Prelude.{slice_get, IfOk, OnOk, IfSome, IfNone, IsTrue}, List.All};
 ghost use Rattle.dwarf_bytes.specs.Refusals.{in_section};
 ghost use Rattle.dwarf_forms.specs.Declarations.{Declaration};
 ghost use Rattle.dwarf_units.specs.Units.{declarations_limit, tables_of};
 ghost use Rattle.dwarf_units.specs.{Private.AbbreviationTables.Table, Private.Tables.AreElsewhere};
 ghost use Rattle.dwarf_units.specs.Private.Tables.{IsAdded, IsAt, IsNumberOf, IsWithinLimit};
 ghost use Rattle.dwarf_units.specs.Private.Tables.{Refuses, IsCachedOrTooLarge, StaysCached};
-ghost use Rattle.dwarf_units.specs.Private.Tables.{table_read, with_table};
+ghost use Rattle.dwarf_units.specs.Private.Tables.{IsTableAt, table_read, with_table};
 ghost use Rattle.dwarf_bytes.specs.declared.fault.Section.TheVariants as sections;
 
 use crate::cached_table::CachedTable;
@@ -112,7 +112,7 @@ impl<'a> Tables<'a> {
         ensures stays { IfSome result (λ _. IsCachedOrTooLarge self.now unit.now) }
         ensures limit { IsWithinLimit self.now }
     {
-        let number = self.store.index(unit, 0)?;
+        let number = self.store.find(unit)?;
         let len = self.store.table(number).len();
         if len > left {
             return None;
@@ -120,17 +120,23 @@ impl<'a> Tables<'a> {
         Some(len)
     }
 
-    /// Returns the index of the table of a unit, which is valid until the next call. Tries the
-    /// index `guess` first. A table that is not cached is re-parsed and replaces the previous
-    /// temporary table.
+    /// Returns whether the table at an index is the table of a unit.
     // Inlined: called for each scope and each reference.
     #[inline(always)]
-    pub fn number_of(
-        &mut self,
-        alloc: Global,
-        unit: &UnitHeader,
-        guess: usize,
-    ) -> Result<usize, LoadFault>
+    pub fn is_number_of(&self, unit: &UnitHeader, number: usize) -> bool
+        ensures some { IsTrue result → IsNumberOf self.now.section unit.now self.now.tables number }
+        ensures none { IsTableAt unit.now.format unit.now.abbreviations self.now.tables number
+            → IsTrue result }
+    {
+        self.store.is_index(unit, number)
+    }
+
+    /// Returns the index of the table of a unit, which is valid until the next call. A table that
+    /// is not cached is re-parsed and replaces the previous temporary table.
+    // Not inlined: it is rare, and its code would slow down the caller.
+    #[cold]
+    #[inline(never)]
+    pub fn number_of(&mut self, alloc: Global, unit: &UnitHeader) -> Result<usize, LoadFault>
         ensures ok { IfOk result (IsNumberOf self.old.section unit.now self.new.tables) }
         ensures err { Refuses result (table_read declarations_limit self.old.section unit.now) }
         ensures section { self.new.section ≡ self.old.section }
@@ -144,7 +150,7 @@ impl<'a> Tables<'a> {
             × (self.new ≡ with_table self.old table)) }
         ensures limit { IsWithinLimit self.new }
     {
-        if let Some(number) = self.store.index(unit, guess) {
+        if let Some(number) = self.store.find(unit) {
             return Ok(number);
         }
         let mut left = DECLARATIONS_LIMIT;

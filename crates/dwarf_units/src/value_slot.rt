@@ -96,6 +96,10 @@ fn read_after(offset: u16, width: Width, cursor: &mut Cursor) -> Result<u64, Cau
     ensures { ReadsField (λ n. n) result (field_after offset width) cursor.old cursor.new }
 {
     cursor.block(u64::from(offset))?;
+    // Most values have four bytes. A match alone is compiled to a jump that is hard to predict.
+    if let Width::Four = width {
+        return Ok(u64::from(cursor.u32()?));
+    }
     Ok(match width {
         Width::One => u64::from(cursor.u8()?),
         Width::Two => u64::from(cursor.u16()?),

@@ -26,7 +26,11 @@ impl<'a> EntryReader<'a> {
         ensures info { self.new.info.now ≡ self.old.info.now }
         ensures long { self.new.long ≡ self.old.long }
     {
-        match self.tables.number_of(self.alloc, header, guess) {
+        if self.tables.is_number_of(header, guess) {
+            self.number = guess;
+            return Ok(());
+        }
+        match self.tables.number_of(self.alloc, header) {
             Ok(number) => {
                 self.number = number;
                 Ok(())

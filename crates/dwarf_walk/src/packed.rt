@@ -8,8 +8,8 @@ use std::alloc::AllocError;
 pub fn narrow(number: usize) -> Result<u32, AllocError>
     ensures { OkIff result (number < 2 ^ 32) number }
 {
-    match u32::try_from(number) {
-        Ok(narrow) => Ok(narrow),
-        Err(_) => Err(AllocError),
+    if number > u32::MAX as usize {
+        return Err(AllocError);
     }
+    Ok(number as u32)
 }

@@ -3,7 +3,7 @@
 use crate::checks::{are_equal, expect, put};
 use crate::forms::both_readers::{add, agree_at, attributes_of, lists_of};
 use abbreviation_memo::{AbbreviationTable, MemoizedLists, UNSHARED, first_attributes};
-use dwarf_bytes::Cursor;
+use dwarf_bytes::{Cause, Cursor};
 use dwarf_forms::AttributeSpecification;
 use std::process::Abort;
 use std::test::*;
@@ -130,6 +130,18 @@ fn first_attributes_of_lists(rt: HostRuntime) {
     has_first(&rt, &section, 3 + 3 * 36, Some(303), 64);
     has_first(&rt, &section, 3 + 3 * 37, None, 63);
     has_first(&rt, &section, 303, None, 0);
+}
+
+// The test runner can make each allocation fail.
+#[test]
+fn out_of_memory_is_the_only_fault_of_a_valid_list(rt: HostRuntime) {
+    let section = [0x03, 0x08, 0x11, 0x01, 0, 0];
+    let mut first = Vec::new(rt.alloc());
+    let mut cursor = Cursor::new(&section);
+    match first_attributes(rt.alloc(), &mut first, &mut cursor) {
+        Ok(rest) => are_equal(&rt, (rest, first.len(), cursor.place()), (None, 2, 6)),
+        Err(cause) => are_equal(&rt, cause, Cause::Memory),
+    }
 }
 
 /// Builds a declaration of 100 attributes, like `one_list`, with another name and form at an index.
