@@ -64,26 +64,56 @@ lists-alone section own before at (x ∷ xs) next listed =
           (rw (append_assoc own before (x ∷ [])) at listed.2),
     )
 
--- the attributes of a valid list from an offset on are a valid list
-pub rest-valid : (section : List ℕ) (place : ℕ) (first : List AttributeSpecification) (at : ℕ)
+-- the attributes of a valid list after its first ones
+others-listed : (section : List ℕ) (place : ℕ) (first : List AttributeSpecification) (at : ℕ)
     → SoFar (length section) (attribute_at section) place first at → IsListAt section place
-    → (list_at section place ≡ first ++ list_at section at) × IsListAt section at
+    → (xs : List AttributeSpecification) × (end : ℕ) × Lists (attribute_at section) first at xs end
+    × (list_at section place ≡ first ++ xs)
 unfolding attributes_at
-rest-valid section place first at so_far is =
+others-listed section place first at so_far is =
     by_rest (items_from (length section) (attribute_at section) first at) refl
     (so_far ∙ with-offset _ _ is.1)
   where
     by_rest : (r : Result (List AttributeSpecification × ℕ) At)
         → items_from (length section) (attribute_at section) first at ≡ r
         → with_front first r ≡ Ok (list_at section place, is.0)
-        → (list_at section place ≡ first ++ list_at section at) × IsListAt section at
-    by_rest (Ok (xs, end)) read whole =
-        let listed = Lists-within (suc (length section - at)) _ first at xs end read in
-        let others : attributes_at section at ≡ Ok (xs, end) = attributes-ok section at (xs, end)
-        (items_from-Lists _ _ (attribute_at-advances section) [] at xs end
-        (lists-alone section first [] at xs end (rw (append-nil first) listed))) in
-        (rw others (grind (arith, whole)), (end, rw others refl))
+        → (xs : List AttributeSpecification) × (end : ℕ)
+        × Lists (attribute_at section) first at xs end × (list_at section place ≡ first ++ xs)
+    by_rest (Ok (xs, end)) read whole = (
+      xs,
+      end,
+      Lists-within (suc (length section - at)) _ first at xs end read,
+      grind (arith, whole),
+    )
     by_rest (Err e) read whole = absurd (grind (arith, whole))
+
+-- the attributes of a valid list from an offset on are a valid list
+pub rest-valid : (section : List ℕ) (place : ℕ) (first : List AttributeSpecification) (at : ℕ)
+    → SoFar (length section) (attribute_at section) place first at → IsListAt section place
+    → (list_at section place ≡ first ++ list_at section at) × IsListAt section at
+rest-valid section place first at so_far is =
+    let (xs, end, listed, whole) = others-listed section place first at so_far is in
+    let others : attributes_at section at ≡ Ok (xs, end) = attributes-ok section at (xs, end)
+    (items_from-Lists _ _ (attribute_at-advances section) [] at xs end
+    (lists-alone section first [] at xs end (rw (append-nil first) listed))) in
+    (rw others whole, (end, rw others refl))
+
+-- the next attribute of a valid list has another name than those before it
+pub next-apart : (section : List ℕ) (place : ℕ) (first : List AttributeSpecification) (at : ℕ)
+    (x : AttributeSpecification) (next : ℕ)
+    → SoFar (length section) (attribute_at section) place first at → IsListAt section place
+    → attribute_at section [] at ≡ Ok (Item x next) → list_any (named x.name) first ≡ false
+next-apart section place first at x next so_far is read =
+    let (xs, end, listed, whole) = others-listed section place first at so_far is in
+    by_list xs end listed
+  where
+    by_list : (xs : List AttributeSpecification) (end : ℕ)
+        → Lists (attribute_at section) first at xs end → list_any (named x.name) first ≡ false
+    by_list [] end listed = let ends = end-again section first [] at end listed in cc
+    by_list (y ∷ ys) end listed =
+        let again = attribute-again section first [] at y listed.0 listed.1 refl in
+        rw (same-item x y next listed.0 (sym read ∙ again)).0
+        (found section first at (Item y listed.0) listed.1).1.1
 
 -- the list at an offset, by its first attribute
 pub record StartsAt (section : List ℕ) (place : ℕ) (first : Option AttributeSpecification)

@@ -122,8 +122,7 @@ impl AbbreviationTable {
     }
 }
 
-/// Returns the fault of the table at `offset`, which is parsed alone. If it has none, memory ran
-/// out before.
+/// Parses the table at `offset` alone and returns its fault. If it has none, memory ran out.
 fn fault_of(alloc: Global, section: &[u8], offset: u64, budget: u64) -> LoadFault
     ensures { (result ≡ memory_fault) ⊎ (in_section sections.DebugAbbrev
         (declarations_of budget section.now offset) ≡ Err result) }

@@ -1,6 +1,7 @@
 //! The first attributes of a list, and its end (DWARF 5, 7.5.3).
 
-ghost use Rattle.std.specs.{Prelude.{◌≡◌, ◌==◌, IfOk, Ok}, List.list_any};
+ghost use Rattle.std.specs.{Prelude.{◌≡◌, ◌==◌, IfErr, IfOk, Ok}, List.list_any};
+ghost use Rattle.dwarf_bytes.specs.declared.fault.Cause.TheVariants as causes;
 ghost use Rattle.dwarf_forms.specs.Tables.{attributes_at};
 ghost use Rattle.abbreviation_memo.specs.Lists.{IsListAt, StartsList, StartsWith, list_at};
 
@@ -11,8 +12,7 @@ use dwarf_forms::AttributeSpecification;
 use dwarf_forms::steps::first_attribute;
 use std::alloc::Global;
 
-/// The number of attributes at the start of a list that are never memoized. Compilers write shorter
-/// lists.
+/// The number of first attributes that are never memoized. Compilers write shorter lists.
 pub const UNSHARED: usize = 64;
 
 /// Moves the cursor after the attributes of a declaration and the two zeros that end them.
@@ -41,7 +41,7 @@ pub(crate) fn skip_attributes(
 
 /// Replaces the contents of `first` by the first attributes of the list at the cursor, at most
 /// `UNSHARED`. Returns the offset of the others, or `None` if the list ends before. Fails at the
-/// first attribute that is invalid or has the name of another.
+/// first attribute that is invalid or has the name of another. Of a valid list, only memory fails.
 pub fn first_attributes(
     alloc: Global,
     first: &mut Vec<AttributeSpecification>,
@@ -51,6 +51,8 @@ pub fn first_attributes(
         first.new.items rest cursor.new.place) }
     ensures valid { IfOk result (λ rest. IsListAt cursor.old.bytes cursor.old.place
         → StartsWith cursor.old.bytes cursor.old.place first.new.items rest) }
+    ensures memory { IfErr result (λ cause. IsListAt cursor.old.bytes cursor.old.place
+        → cause ≡ causes.Memory) }
     ensures bytes { IfOk result (λ _. cursor.new.bytes ≡ cursor.old.bytes) }
 {
     first.clear();

@@ -24,8 +24,7 @@ pub(crate) fn memoize(
     Ok(())
 }
 
-/// Returns the offsets in the list at `place` from which the rest of the list is not memoized, in
-/// order.
+/// Returns the offsets in the list at `place` from which its rest is not memoized, in order.
 fn new_places(alloc: Global, lists: &MemoizedLists<'_>, place: usize) -> Result<Vec<usize>, Cause> {
     let mut places = Vec::new(alloc);
     let mut place = place;

@@ -1,5 +1,7 @@
 -- The forms of attributes (DWARF 5, 7.5.6, table 7.6).
-use Rattle.std.specs.Prelude.{ℕ, List, [], ◌∷◌, Option, nat_eq, find, option_map}
+use Rattle.std.specs.Prelude.{ℕ, ◌+◌, List, [], ◌∷◌, Option, None, Some, length, nat_eq, nat_lt, find}
+use Rattle.std.specs.Prelude.{option_map, if◌then◌else◌}
+use Rattle.dwarf_bytes.specs.Numbers.{field}
 use Rattle.dwarf_bytes.specs.declared.constants.TheConstants.{DW_FORM_ADDR, DW_FORM_BLOCK2}
 use Rattle.dwarf_bytes.specs.declared.constants.TheConstants.{DW_FORM_BLOCK4, DW_FORM_DATA2}
 use Rattle.dwarf_bytes.specs.declared.constants.TheConstants.{DW_FORM_DATA4, DW_FORM_DATA8}
@@ -36,6 +38,12 @@ byte_len Two = 2
 byte_len Three = 3
 byte_len Four = 4
 byte_len Eight = 8
+
+-- the number of a width at an offset, if its bytes are present
+abbrev pub number_at : Width → List ℕ → ℕ → Option ℕ
+number_at width bytes at =
+    if nat_lt (length bytes) (at + byte_len width) then None
+    else Some (field (byte_len width) bytes at)
 
 -- The supported forms and the layouts of their values. DW_FORM_ref_sup4 (0x1c), DW_FORM_strp_sup
 -- (0x1d), DW_FORM_ref_sup8 (0x24) and all other numbers are refused.

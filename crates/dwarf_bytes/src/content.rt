@@ -53,7 +53,7 @@ impl<'a> Content<'a> {
 }
 
 /// Reads a number of the given width.
-fn number(width: Width, cursor: &mut Cursor) -> Result<u64, ReadFault>
+pub(crate) fn number(width: Width, cursor: &mut Cursor) -> Result<u64, ReadFault>
     ensures { Reads (λ x. x) result (fixed_at (byte_len width)) cursor.old cursor.new }
 {
     Ok(match width {

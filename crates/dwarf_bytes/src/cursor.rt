@@ -4,12 +4,14 @@ ghost use Rattle.std.specs.Prelude.{◌≡◌, ◌≤◌, ◌<◌, ◌+◌, ◌�
 ghost use Rattle.dwarf_bytes.specs.Position.{Position, Reads};
 ghost use Rattle.dwarf_bytes.specs.Numbers.{block_at, u8_at, u16_at, u24_at, u32_at, u64_at};
 ghost use Rattle.dwarf_bytes.specs.Numbers.{uleb_at, sleb_at, cstr_at, initial_length_at};
-ghost use Rattle.dwarf_bytes.specs.Numbers.{offset_at};
+ghost use Rattle.dwarf_bytes.specs.{Forms.number_at, Numbers.offset_at};
 
 use crate::fault::ReadFault;
+use crate::form::Width;
 use crate::format::Format;
 use crate::leb::{sleb_front, uleb_front};
 use crate::text::text_front;
+use crate::widths::number_at;
 use byteorder::{ByteOrder, LittleEndian};
 use std::marker::Model;
 
@@ -110,6 +112,16 @@ impl<'a> Cursor<'a> {
         }
         self.place += len as usize;
         Ok(&rest[..len as usize])
+    }
+
+    /// Returns the number of a width that starts `skipped` bytes after the cursor, if its bytes are
+    /// present.
+    // Inlined into other crates: called for each attribute of each scope.
+    #[inline(always)]
+    pub fn number_after(&self, skipped: u16, width: Width) -> Option<u64>
+        ensures { result ≡ number_at width self.now.bytes (self.now.place + skipped) }
+    {
+        number_at(self.bytes, self.place + usize::from(skipped), width)
     }
 
     #[tactic(auto, unfolding(crate::specs::Numbers::fixed_at))]

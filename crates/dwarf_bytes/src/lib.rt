@@ -20,6 +20,7 @@ mod section_names;
 mod tables;
 mod text;
 mod text_index;
+mod widths;
 mod words;
 
 pub use content::Content;

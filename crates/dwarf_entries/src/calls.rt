@@ -27,8 +27,7 @@ pub(crate) enum Calls {
 }
 
 impl CallSite {
-    /// Decodes a packed call site. `wide` is the list of the call sites that need more than 16
-    /// bits.
+    /// Decodes a packed call site. `wide` has the call sites that need more than 16 bits.
     pub(crate) fn unpack(calls: Calls, file: u16, line: u16, wide: &[CallSite]) -> CallSite
         ensures { result ≡ call_site wide.now calls file line }
     {

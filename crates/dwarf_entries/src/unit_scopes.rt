@@ -1,5 +1,4 @@
-//! The pass over the scopes of all units (DWARF 5, 3.3), which resolves their names and then their
-//! ranges.
+//! The pass over all scopes (DWARF 5, 3.3), which resolves their names and then their ranges.
 
 ghost use Rattle.std.specs.Prelude.{◌≡◌, ◌≤◌, ◌<◌, ◌+◌, ◌^◌, List, Some, ◌-◌, length, min};
 ghost use Rattle.std.specs.Prelude.{map, slice_get, IfOk};

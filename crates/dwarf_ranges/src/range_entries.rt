@@ -20,8 +20,7 @@ pub(crate) enum Operand {
     Number,
 }
 
-/// The operands of an entry. An entry with one operand sets the base. An entry with two covers a
-/// range.
+/// The operands of an entry. One operand sets the base, and two operands cover a range.
 #[derive(Clone, Copy)]
 pub(crate) struct Operands {
     pub(crate) first: Operand,

@@ -70,8 +70,7 @@ fn list_place(sections: &Sections<'_>, bases: &Bases, value: AttributeValue) -> 
     Ok(u128::from(table.base) + u128::from(offset))
 }
 
-/// Appends the ranges of the range list at an offset of `.debug_rnglists`. Reads at most `budget`
-/// entries.
+/// Appends the ranges of the list at an offset of `.debug_rnglists`. Reads up to `budget` entries.
 fn add_list(
     budget: u64,
     sections: &Sections<'_>,

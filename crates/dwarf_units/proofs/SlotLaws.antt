@@ -1,10 +1,10 @@
 -- The used attributes of an entry: their names, adding attributes one by one, and their positions.
 use Rattle.dwarf_units.proofs.Common
 use Common.{Attribute, AttributeValue, Bool, Format, List, None, Option, Some, Used, UsedName}
-use Common.{UsedPosition, [], arith, attribute_in, attributes_in, false, filter, find, get_or}
-use Common.{ValueLayout, content_at, is_used, length, map, name_of, named_attribute, number_in}
-use Common.{option_map, refl, slot_of, sym, true, used_among, used_name, value_named, value_of}
-use Common.{with_used, ℕ, ◌++◌, ◌<◌, ◌==◌, ◌∙◌, ◌∷◌, ◌≡◌}
+use Common.{UsedPosition, ValueLayout, [], arith, attribute_in, attributes_in, block_at, content_at}
+use Common.{false, filter, find, fixed_at, get_or, is_used, length, map, name_of, named_attribute}
+use Common.{number_in, option_map, refl, slot_of, sym, true, used_among, used_name, value_named}
+use Common.{value_of, with_used, ℕ, ◌++◌, ◌<◌, ◌==◌, ◌∙◌, ◌∷◌, ◌≡◌}
 use Rattle.dwarf_bytes.specs.declared.form.Width.{Width}
 use Rattle.dwarf_units.specs.declared.value_slot.ValueSlot.{TheVariants.{At, Missing}, ValueSlot}
 use Rattle.dwarf_units.specs.Private.Slots.{AreSlots, slot_value, used_in, value_in, width_in}
@@ -163,5 +163,5 @@ pub width-value : (format : Format) (layout : ValueLayout) (width : Width) (form
     (bytes : List ℕ) (first : ℕ) → width_in format layout ≡ Some width
     → slot_value bytes first (At form width n)
     ≡ Some (record { form = form; number = number_in format bytes first (positions.At n layout) })
-unfolding content_at
+unfolding content_at block_at fixed_at
 width-value format layout width form n bytes first is = grind (arith, is)

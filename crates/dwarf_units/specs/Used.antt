@@ -1,5 +1,4 @@
--- The used attributes of an entry by name (DWARF 5, 2.2). If an attribute occurs twice, the first
--- value counts.
+-- The used attributes of an entry by name (DWARF 5, 2.2). The first of two values counts.
 use Rattle.dwarf_bytes.specs.declared.constants.TheConstants.{DW_AT_ABSTRACT_ORIGIN}
 use Rattle.dwarf_bytes.specs.declared.constants.TheConstants.{DW_AT_ADDR_BASE, DW_AT_CALL_FILE}
 use Rattle.dwarf_bytes.specs.declared.constants.TheConstants.{DW_AT_CALL_LINE, DW_AT_HIGH_PC}

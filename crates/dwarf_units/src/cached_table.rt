@@ -20,8 +20,7 @@ use dwarf_bytes::{Format, LoadFault};
 use std::alloc::{AllocError, Global};
 use std::marker::Model;
 
-/// An abbreviation table, its offset in `.debug_abbrev`, and what is computed from it for units of
-/// a format.
+/// An abbreviation table, its offset in `.debug_abbrev`, and its data for units of a format.
 #[derive(Drop)]
 pub(crate) struct CachedTable<'a> {
     section: &'a [u8],
@@ -32,8 +31,7 @@ pub(crate) struct CachedTable<'a> {
     lists: Vec<ListRuns>,
     /// The layouts of nodes by their code.
     layouts: Vec<Option<NodeLayout>>,
-    /// The least number of bytes in which the declarations and their unshared attributes can be
-    /// encoded.
+    /// The least number of bytes that encode the declarations and their unshared attributes.
     size: u128,
 }
 

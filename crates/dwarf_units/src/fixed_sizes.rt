@@ -67,8 +67,7 @@ fn is_signed(layout: ValueLayout) -> bool
     matches!(layout, ValueLayout::Signed)
 }
 
-/// Returns the size of an attribute whose value is in its declaration: 0 if the value is valid,
-/// otherwise `None`.
+/// Returns the size of an attribute whose value is in its declaration: 0, if it is valid.
 fn constant_len(specification: &AttributeSpecification) -> Option<u16>
     ensures { result ≡ constant_len specification.now }
 {

@@ -1,5 +1,4 @@
-//! Nodes of a fixed size: null entries, and entries whose attributes all have a fixed size (DWARF
-//! 5, 7.5.2 and 7.5.3).
+//! Nodes of a fixed size: null entries, and entries with only such attributes (DWARF 5, 7.5).
 
 ghost use Rattle.std.specs.Prelude.{◌≡◌, ℕ, List, IfOk};
 ghost use Rattle.abbreviation_memo.specs.Declarations.{full_declaration, full_declarations};

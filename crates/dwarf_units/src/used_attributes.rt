@@ -9,8 +9,7 @@ use crate::entry_values::EntryValues;
 use crate::used_name::{SLOTS, UsedName};
 use std::marker::Model;
 
-/// The values of the used attributes of an entry. If an attribute occurs twice, the first value
-/// counts.
+/// The values of the used attributes of an entry. The first of two values counts.
 #[derive(Drop)]
 pub struct UsedAttributes {
     values: [Option<AttributeValue>; SLOTS],

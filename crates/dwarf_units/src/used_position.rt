@@ -1,5 +1,4 @@
-//! The positions of used attributes in entries that start with attributes of a fixed size (DWARF 5,
-//! 7.5.3).
+//! The positions of used attributes after attributes of a fixed size (DWARF 5, 7.5.3).
 
 ghost use Rattle.std.specs.Prelude.{◌≡◌};
 ghost use Rattle.dwarf_bytes.specs.Refusals.{ReadsField};

@@ -2,15 +2,13 @@
 //! a fixed size (DWARF 5, 7.5.3).
 
 ghost use Rattle.std.specs.Prelude.{◌≡◌, ℕ, List, Some, IfSome};
-ghost use Rattle.dwarf_bytes.specs.Refusals.{ReadsField};
-ghost use Rattle.dwarf_units.specs.Private.Slots.{AreSlots, field_after, slot_value, value_in};
-ghost use Rattle.dwarf_units.specs.Private.Slots.{width_in};
+ghost use Rattle.dwarf_units.specs.Private.Slots.{AreSlots, slot_value, value_in, width_in};
 
 use crate::attributes::AttributeValue;
 use crate::used_name::SLOTS;
 use crate::used_position::{UsedPosition, UsedValue};
 use dwarf_bytes::constants::DW_FORM_IMPLICIT_CONST;
-use dwarf_bytes::{Cause, Cursor, Format, ValueLayout, Width};
+use dwarf_bytes::{Cursor, Format, ValueLayout, Width};
 
 /// Where an entry has the value of a used attribute. It takes six bytes, because every scope reads
 /// nine of them and every reference four.
@@ -19,8 +17,7 @@ pub(crate) enum ValueSlot {
     Missing,
     /// The declaration has the value (DW_FORM_implicit_const).
     Constant(u16),
-    /// The entry has the value: its form, its width, and the number of bytes after the start of the
-    /// first attribute.
+    /// The entry has the value: its form, its width, and its offset from the first attribute.
     At(u8, Width, u16),
 }
 
@@ -58,7 +55,7 @@ impl ValueSlot {
             }),
             ValueSlot::At(form, width, offset) => Some(AttributeValue {
                 form: u64::from(form),
-                number: read_after(offset, width, &mut first.fork()).unwrap_or(0),
+                number: first.number_after(offset, width).unwrap_or(0),
             }),
         }
     }
@@ -87,24 +84,4 @@ fn width_in(format: Format, layout: ValueLayout) -> Option<Width>
         (ValueLayout::Offset, Format::Dwarf64) => Some(Width::Eight),
         _ => None,
     }
-}
-
-/// Skips a number of bytes and reads the number of the given width after them.
-// Inlined: called for each attribute of each scope and each reference.
-#[inline(always)]
-fn read_after(offset: u16, width: Width, cursor: &mut Cursor) -> Result<u64, Cause>
-    ensures { ReadsField (λ n. n) result (field_after offset width) cursor.old cursor.new }
-{
-    cursor.block(u64::from(offset))?;
-    // Most values have four bytes. A match alone is compiled to a jump that is hard to predict.
-    if let Width::Four = width {
-        return Ok(u64::from(cursor.u32()?));
-    }
-    Ok(match width {
-        Width::One => u64::from(cursor.u8()?),
-        Width::Two => u64::from(cursor.u16()?),
-        Width::Three => u64::from(cursor.u24()?),
-        Width::Four => u64::from(cursor.u32()?),
-        Width::Eight => cursor.u64()?,
-    })
 }

@@ -24,8 +24,7 @@ use dwarf_bytes::Cause;
 use dwarf_units::{Tables, UsedAttributes};
 use std::alloc::{AllocError, Global};
 
-/// The size in bytes above which an entry is cached, so that it is not re-read for each reference
-/// to it.
+/// The size in bytes above which an entry is cached, not re-read for each reference to it.
 const LONG: usize = 256;
 
 /// Re-reads entries of units with the cached tables. Offsets are relative to the start of
@@ -63,8 +62,7 @@ impl<'a> EntryReader<'a> {
         }
     }
 
-    /// Re-reads the scope at an offset in a unit. Fails with `Cause::Reference` if the entry is no
-    /// scope.
+    /// Re-reads the scope at an offset in a unit. Fails with `Cause::Reference` if none is there.
     pub fn scope(&mut self, unit: &UnitEntries, offset: usize) -> Result<ScopeEntry, Cause>
         ensures scope { (s : SectionBytes) (table : List Declaration) → IsReaderOf s self.old
             → declarations_of declarations_limit s.debug_abbrev unit.now.header.abbreviations

@@ -1,5 +1,4 @@
-//! The cache of long entries. Each is read at most twice, regardless of the number of references to
-//! it.
+//! The cache of long entries. Each is read at most twice, however many references it has.
 
 ghost use Rattle.std.specs.Prelude.{◌≡◌, ◌==◌, ◌↔◌, None, Some, IfSome, IsTrue, OnOk, OnErr};
 ghost use Rattle.std.specs.Prelude.{if◌then◌else◌};

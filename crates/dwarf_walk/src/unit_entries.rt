@@ -118,8 +118,7 @@ impl RootEntry {
     }
 }
 
-/// Returns a reference, or `None` if it is a type signature (DW_FORM_ref_sig8), which is not
-/// followed.
+/// Returns a reference unless it is a type signature (DW_FORM_ref_sig8), which is not followed.
 fn entry_reference(value: AttributeValue) -> Option<AttributeValue>
     ensures { result ≡ entry_reference (Some value) }
 {

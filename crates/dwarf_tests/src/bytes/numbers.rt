@@ -1,7 +1,7 @@
 //! Numbers and strings read by a cursor.
 
 use crate::checks::{are_equal, expect};
-use dwarf_bytes::{Cursor, Format, ReadFault, text_at};
+use dwarf_bytes::{Cursor, Format, ReadFault, Width, text_at};
 use std::fmt::Debug;
 use std::process::Abort;
 use std::test::*;
@@ -36,6 +36,29 @@ fn reads_fixed_widths(rt: HostRuntime) {
     are_equal(&rt, cursor.place(), 18);
     are_equal(&rt, cursor.block(1), Ok([19].as_slice()));
     are_equal(&rt, cursor.block(1), Err(ReadFault::Short));
+}
+
+/// A number after the cursor is read near the end too, and the cursor does not move.
+#[test]
+fn reads_numbers_after_the_cursor(rt: HostRuntime) {
+    let cursor = at_one(&rt, &[1, 2, 3, 4, 5, 6, 7, 8, 9, 10]);
+    are_equal(&rt, cursor.number_after(0, Width::One), Some(0x02));
+    are_equal(&rt, cursor.number_after(1, Width::Two), Some(0x0403));
+    are_equal(&rt, cursor.number_after(1, Width::Three), Some(0x0005_0403));
+    are_equal(&rt, cursor.number_after(0, Width::Four), Some(0x0504_0302));
+    are_equal(
+        &rt,
+        cursor.number_after(1, Width::Eight),
+        Some(0x0a09_0807_0605_0403),
+    );
+    are_equal(&rt, cursor.number_after(2, Width::Eight), None);
+    are_equal(&rt, cursor.number_after(5, Width::Four), Some(0x0a09_0807));
+    are_equal(&rt, cursor.number_after(6, Width::Four), None);
+    are_equal(&rt, cursor.number_after(6, Width::Three), Some(0x000a_0908));
+    are_equal(&rt, cursor.number_after(8, Width::Two), None);
+    are_equal(&rt, cursor.number_after(8, Width::One), Some(0x0a));
+    are_equal(&rt, cursor.number_after(9, Width::One), None);
+    are_equal(&rt, cursor.place(), 1);
 }
 
 #[test]

@@ -1,28 +1,22 @@
 -- The used attributes of an entry in slots, one for each name.
-use Rattle.dwarf_bytes.specs.{Bind.◌>>=◌, Forms.byte_len, Items.reading, declared.fault.Cause.Cause}
-use Rattle.dwarf_bytes.specs.Numbers.{block_at, fixed_at}
+use Rattle.dwarf_bytes.specs.Forms.{number_at}
 use Rattle.dwarf_bytes.specs.declared.constants.TheConstants.{DW_FORM_IMPLICIT_CONST}
 use Rattle.dwarf_bytes.specs.declared.form.ValueLayout.{TheVariants.{Fixed, Offset}, ValueLayout}
 use Rattle.dwarf_bytes.specs.declared.form.Width.{TheVariants.{Eight, Four}, Width}
 use Rattle.dwarf_bytes.specs.declared.format.Format.{Format, TheVariants.{Dwarf32, Dwarf64}}
-use Rattle.dwarf_units.specs.Private.{FixedSizes.{number_in, number_or_zero}, Names.slot_of}
+use Rattle.dwarf_units.specs.Private.{FixedSizes.number_in, Names.slot_of}
 use Rattle.dwarf_units.specs.Used.{Used, used_by}
 use Rattle.dwarf_units.specs.declared.attributes.AttributeValue.{AttributeValue}
 use Rattle.dwarf_units.specs.declared.used_position.UsedPosition.{UsedPosition}
 use Rattle.dwarf_units.specs.declared.value_slot.ValueSlot.TheVariants.{At, Constant, Missing}
 use Rattle.dwarf_units.specs.declared.value_slot.ValueSlot.{ValueSlot}
-use Rattle.std.specs.Prelude.{List, None, Option, Result, Some, find, length, option_map}
-use Rattle.std.specs.Prelude.{slice_index_or, ℕ, ◌<◌, ◌==◌, ◌≡◌}
+use Rattle.std.specs.Prelude.{List, None, Option, Some, find, length, option_map, slice_index_or}
+use Rattle.std.specs.Prelude.{unwrap_or, ℕ, ◌+◌, ◌<◌, ◌==◌, ◌≡◌}
 
 abbrev pub in_slots : List (Option AttributeValue) → Used
 in_slots values = used_by (λ name. slice_index_or values (slot_of name) None)
 
 -- ---- the values of entries whose attributes all have a fixed size
-
--- The number of a width after n bytes.
-abbrev pub field_after : ℕ → Width → List ℕ → ℕ → Result (ℕ × ℕ) Cause
-field_after n width bytes at = reading (block_at n bytes at)
-    >>= λ block. reading (fixed_at (byte_len width) bytes block.1)
 
 -- The width of the values in a layout, if they are numbers of a fixed size.
 abbrev pub width_in : Format → ValueLayout → Option Width
@@ -36,7 +30,7 @@ abbrev pub slot_value : List ℕ → ℕ → ValueSlot → Option AttributeValue
 slot_value bytes first Missing = None
 slot_value bytes first (Constant n) = Some (record { form = DW_FORM_IMPLICIT_CONST; number = n })
 slot_value bytes first (At form width n) =
-    Some (record { form = form; number = number_or_zero (field_after n width bytes first) })
+    Some (record { form = form; number = unwrap_or (number_at width bytes (first + n)) 0 })
 
 -- The used attributes of the entry.
 abbrev pub used_in : List ValueSlot → List ℕ → ℕ → Used
