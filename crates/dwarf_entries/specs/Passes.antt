@@ -4,8 +4,7 @@ use Rattle.dwarf_bytes.specs.declared.fault.LoadFault.{LoadFault}
 use Rattle.std.specs.Prelude.{Err, List, Ok, Result, length, take, ℕ, ◌≡◌, ◌⊎◌}
 use Rattle.dwarf_bytes.specs.declared.fault.Section.TheVariants as names
 
--- The result of a pass, related to the outcome, or the fault of the outcome. The call may also fail
--- because memory ran out.
+-- The result of a pass, related to the outcome, or the fault of the outcome or of memory.
 abbrev pub PassGives : {X Y : Type 0} → (X → Y → Type 0) → Result X LoadFault → Result Y At → Type 0
 PassGives {X} {Y} are (Ok x) outcome = (y : Y) × (outcome ≡ Ok y) × are x y
 PassGives are (Err fault) outcome =

@@ -36,8 +36,7 @@ impl PackedText {
         }
     }
 
-    /// Packs the location of a string. An offset of 2^32 - 1 or more is reported as an allocation
-    /// failure.
+    /// Packs a location. An offset of 2^32 - 1 or more is reported as an allocation failure.
     pub(crate) fn of(text: TextOffset) -> Result<PackedText, AllocError>
         ensures { IfOk result (λ packed. unpacked_text packed ≡ Some text) }
     {

@@ -99,8 +99,7 @@ impl<'a> Units<'a> {
         Ok((facts(numbers, entry, names), items))
     }
 
-    /// Appends the scopes of a unit. Each scope is re-read. `left` is the number of range items
-    /// that may still be read.
+    /// Re-reads and appends the scopes of a unit. `left` is the number of range items left to read.
     fn unit_scopes(
         &mut self,
         unit: usize,

@@ -76,8 +76,7 @@ abbrev pub ranges_in : RangeListEntry → List Range
 ranges_in (Base base) = []
 ranges_in (Covers range) = option_to_list range
 
--- An operand at an offset of .debug_rnglists: the address at an index of .debug_addr, an address,
--- or a number.
+-- An operand at an offset of .debug_rnglists: an address, its index in .debug_addr, or a number.
 abbrev pub operand_at : Sections → Bases → Operand → List ℕ → ℕ → Result (ℕ × ℕ) Cause
 operand_at sections bases Index lists at = do
   index ← reading (uleb_at lists at)

@@ -159,9 +159,9 @@ slots-used format used slots bytes first are = same-used _ _
 -- ---- the value in a slot
 
 -- A value in a layout of a fixed width is the number of this width.
-pub width-value : (format : Format) (layout : ValueLayout) (width : Width) (form n : ℕ)
+pub width_value : (format : Format) (layout : ValueLayout) (width : Width) (form n : ℕ)
     (bytes : List ℕ) (first : ℕ) → width_in format layout ≡ Some width
     → slot_value bytes first (At form width n)
     ≡ Some (record { form = form; number = number_in format bytes first (positions.At n layout) })
 unfolding content_at block_at fixed_at
-width-value format layout width form n bytes first is = grind (arith, is)
+width_value format layout width form n bytes first is = grind (arith, is)

@@ -79,8 +79,7 @@ is_direct (Some ImplicitConst) = false
 is_direct (Some Indirect) = false
 is_direct None = false
 
--- The form of a value and the offset after it. DW_FORM_indirect takes the form from the entry,
--- before the value.
+-- The form of a value and the offset after it. DW_FORM_indirect has the form before the value.
 abbrev pub form_at : ℕ → List ℕ → ℕ → Result (ℕ × ℕ) Cause
 form_at form bytes at = if form == DW_FORM_INDIRECT then (do
   inner ← reading (uleb_at bytes at)

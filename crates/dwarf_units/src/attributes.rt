@@ -14,8 +14,7 @@ use dwarf_bytes::{Cause, Content, Cursor, Form, Format};
 use dwarf_forms::{AttributeSpecification, Value, ValueFault, value};
 
 /// The value of an attribute: its form, after DW_FORM_indirect is resolved, and its value as a
-/// number. For a string stored in the entry itself, the number is the string's offset in the
-/// section.
+/// number. For a string in the entry itself, the number is the string's offset in the section.
 #[derive(Clone, Copy)]
 pub struct AttributeValue {
     pub form: u64,

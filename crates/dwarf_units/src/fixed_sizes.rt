@@ -9,8 +9,7 @@ use crate::attributes::{accepts, is_negative_count, is_used};
 use dwarf_bytes::{Content, Form, Format, ValueLayout, Width};
 use dwarf_forms::AttributeSpecification;
 
-/// Returns the end of an attribute that starts at an offset, if its size is fixed and the end is at
-/// most 65,535.
+/// Returns the end of an attribute at an offset, if its size is fixed and the end at most 65,535.
 pub(crate) fn end_of(
     format: Format,
     offset: u16,

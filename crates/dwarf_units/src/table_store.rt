@@ -12,8 +12,7 @@ use std::alloc::{AllocError, Global};
 use std::collections::BTreeMap;
 use std::marker::Model;
 
-/// The cached tables that fit the budget, followed by at most one temporary table: the last table
-/// that did not fit.
+/// The cached tables that fit the budget, then at most one temporary table, the last that did not.
 #[derive(Drop)]
 pub(crate) struct TableStore<'a> {
     section: &'a [u8],

@@ -8,6 +8,7 @@ ghost use Rattle.dwarf_units.specs.{Private.FixedSizes.used_value, Private.Names
 
 use crate::attributes::{AttributeValue, number_of};
 use crate::used_name::UsedName;
+use crate::value_slot::width_in;
 use dwarf_bytes::{Cause, Content, Cursor, Form, Format, ValueLayout};
 use dwarf_forms::AttributeSpecification;
 
@@ -48,9 +49,10 @@ impl UsedPosition {
     {
         let number = match self.value {
             UsedValue::Constant(number) => number,
-            UsedValue::At(offset, layout) => {
-                read_after(offset, format, layout, &mut first.fork()).unwrap_or(0)
-            }
+            UsedValue::At(offset, layout) => match width_in(format, layout) {
+                Some(width) => first.number_after(offset, width).unwrap_or(0),
+                None => read_after(offset, format, layout, &mut first.fork()).unwrap_or(0),
+            },
         };
         AttributeValue {
             form: self.form,

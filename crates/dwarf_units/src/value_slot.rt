@@ -75,7 +75,7 @@ pub(crate) fn slots_of(format: Format, used: &[UsedPosition]) -> Option<[ValueSl
 }
 
 /// Returns the width of the values in a layout, if they are numbers of a fixed size.
-fn width_in(format: Format, layout: ValueLayout) -> Option<Width>
+pub(crate) fn width_in(format: Format, layout: ValueLayout) -> Option<Width>
     ensures { result ≡ width_in format layout }
 {
     match (layout, format) {

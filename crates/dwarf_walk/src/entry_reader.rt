@@ -27,8 +27,7 @@ use std::alloc::{AllocError, Global};
 /// The size in bytes above which an entry is cached, not re-read for each reference to it.
 const LONG: usize = 256;
 
-/// Re-reads entries of units with the cached tables. Offsets are relative to the start of
-/// `.debug_info`.
+/// Re-reads entries of units with the cached tables. Offsets are relative to `.debug_info`.
 #[derive(Drop)]
 pub struct EntryReader<'a> {
     pub(crate) alloc: Global,
@@ -116,8 +115,7 @@ impl<'a> EntryReader<'a> {
         Ok(entry)
     }
 
-    /// Caches the entries of a unit whose offsets are in `bitmap`. Entries that cannot be read are
-    /// skipped.
+    /// Caches the entries of a unit whose offsets are in `bitmap`. Unreadable entries are skipped.
     #[cold]
     #[inline(never)]
     fn cache_unit(&mut self, unit: &UnitEntries, bitmap: &EntryBitmap) -> Result<(), AllocError>

@@ -19,8 +19,7 @@ pub struct Sections<'a> {
 }
 
 impl Sections<'_> {
-    /// Slices the sections out of the bytes of an object. A section that extends beyond the bytes
-    /// is truncated.
+    /// Slices the sections out of an object's bytes. A section beyond their end is truncated.
     pub fn of<'a>(bytes: &'a [u8], layout: &Layout) -> Sections<'a>
         ensures { sections_of result ≡ sections_in bytes.now layout.now }
     {

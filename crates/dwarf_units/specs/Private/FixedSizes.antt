@@ -17,8 +17,7 @@ use Rattle.std.specs.Prelude.{if◌then◌else◌, map, nat_le, option_and_then,
 
 -- ---- sizes of attributes
 
--- The size of a value in a layout in bytes, if all values have this size and any bytes are a valid
--- value.
+-- The size in bytes of the values in a layout, if it is fixed and any bytes are a valid value.
 abbrev pub layout_len : Format → ValueLayout → Option ℕ
 layout_len format (Fixed width) = Some (byte_len width)
 layout_len format Offset = Some (offset_len format)

@@ -72,8 +72,7 @@ abbrev pub StaysCached : CachedTables → CachedTables → Type 0
 StaysCached old new = (rest : List Table)
     × (take new.permanent new.tables ≡ take old.permanent old.tables ++ rest)
 
--- The cache after one more table is added. The table is permanent if all of them are within the
--- limit.
+-- The cache after one more table, which is permanent if all of them are within the limit.
 abbrev pub with_table : CachedTables → Table → CachedTables
 with_table k table =
     let tables = take k.permanent k.tables ++ table ∷ [] in

@@ -5,8 +5,7 @@ use Rattle.dwarf_walk.specs.declared.descendants.WalkedScope.{WalkedScope}
 use Rattle.dwarf_walk.specs.{declared.unit_entries.ScopePlace.ScopePlace, ScopeEntries.is_scope}
 use Rattle.dwarf_units.specs.Entries.{Die}
 
--- The scope of an entry, if it is one. `least` is the least depth of the entries since the scope
--- before it.
+-- The scope of an entry, if it is one. `least` is the least depth since the scope before it.
 abbrev pub walked_scope : ℕ → Die → List WalkedScope
 walked_scope least die =
     if is_scope die
