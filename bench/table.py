@@ -25,7 +25,7 @@ COLUMNS = {
     " the same checks, stores the same data and gives the same replies in the fastest way that we"
     " know.",
     "earlier plain C": "Earlier plain C (`bench/earlier`) makes the same checks and stores the same"
-    " data in a simpler and slower way.",
+    " data, without the tables for lookups, in a simpler and slower way.",
     "huge pages": "Huge pages is addr2line_live with huge pages for its memory"
     " (`GLIBC_TUNABLES=glibc.malloc.hugetlb=1`).",
 }
