@@ -1,6 +1,7 @@
 //! A priority queue of ends of ranges.
 
 ghost use Rattle.std.specs.Prelude.{◌≡◌, ◌∷◌, [], ℕ, ◌^◌, ◌<◌, ◌≤◌, OnOk, MatchOption};
+ghost use Rattle.std.specs.Bool.{Decides};
 ghost use Rattle.std.specs.List.{All};
 ghost use Rattle.std.specs.List.Sorted.{IsPermutation};
 ghost use Rattle.addr_table.specs.declared.open_ends.End.{End as Ended};
@@ -39,6 +40,13 @@ impl EndHeap {
         EndHeap {
             heap: BinaryHeap::new(alloc),
         }
+    }
+
+    /// Returns whether there are no ends.
+    pub(crate) fn is_empty(&self) -> bool
+        ensures { Decides result (self.now ≡ []) }
+    {
+        self.heap.is_empty()
     }
 
     /// Adds an end.

@@ -117,6 +117,7 @@ impl NestedEnds {
     {
         match pop_up_to(&mut self.stack, end) {
             Some(key) => Some(key),
+            None if self.heap.is_empty() => None,
             None => self.heap.take_up_to(end),
         }
     }
