@@ -74,6 +74,26 @@ fn is_scope(rt: &impl Abort, scope: &Scope, wanted: (usize, ScopeKind)) {
     are_equal(rt, (scope.offset(), scope.kind()), wanted);
 }
 
+/// A unit with children, subprograms, and entries whose tag is 65,536 plus that of a subprogram.
+const LONG_TAG: [u8; 18] = [
+    1, 0x11, 1, 0, 0, // unit
+    2, 0x2e, 0, 0, 0, // subprogram
+    3, 0xae, 0x80, 0x04, 0, 0, 0, // 0x1002e
+    0,
+];
+
+#[test]
+fn tags_of_more_than_16_bits(rt: HostRuntime) {
+    // 12: unit, then entries at offsets 13, 14 and 15
+    let info = unit(&rt, &[1, 2, 3, 2, 0]);
+    let read = scopes_of(&rt, &sections(&info, &LONG_TAG));
+    are_equal(&rt, read.roots(), [root(12, 0, 2)].as_slice());
+    are_equal(&rt, read.scopes().len(), 2);
+    for (scope, offset) in read.scopes().iter().zip([13, 15]) {
+        is_scope(&rt, scope, (offset, ScopeKind::Subprogram));
+    }
+}
+
 #[test]
 fn codes_of_no_declaration(rt: HostRuntime) {
     let last: [u8; 10] = [0xff, 0xff, 0xff, 0xff, 0xff, 0xff, 0xff, 0xff, 0xff, 0x01];

@@ -31,6 +31,12 @@ fn is_read(
     let Ok(number) = tables.number_of(rt.alloc(), header) else {
         panic!(rt; "no table");
     };
+    are_equal(rt, tables.is_number_of(header, number), true);
+    are_equal(
+        rt,
+        tables.is_number_of(header, number.wrapping_add(1)),
+        false,
+    );
     let table = tables.table(number);
     is_entry(rt, &table, &info, values, end);
     if fixed {
@@ -144,4 +150,17 @@ fn entry_of_a_fixed_size(rt: HostRuntime) {
         (UsedName::Ranges, None),
     ];
     is_read(&rt, &forms, &bytes, &values, 41, true);
+}
+
+/// Reads an entry of a fixed size with a stmt_list, which has no slot: it is used of units alone.
+#[test]
+fn entry_with_an_attribute_of_units(rt: HostRuntime) {
+    // subprogram: high_pc as data1, stmt_list as sec_offset
+    let forms = [0x12, 0x0b, 0x10, 0x17];
+    let values = [
+        (UsedName::HighPc, Some((0x0b, 9))),
+        (UsedName::StmtList, Some((0x17, 7))),
+        (UsedName::LowPc, None),
+    ];
+    is_read(&rt, &forms, &[9, 7, 0, 0, 0], &values, 19, false);
 }

@@ -60,8 +60,7 @@ impl Model for AttributeRun {
 }
 
 impl Stretch {
-    /// Reads the attributes of an entry, which start at the cursor. Adds the used ones to `found`
-    /// if `keep` is set.
+    /// Reads the attributes from the cursor on. Adds the used ones to `found` if `keep` is set.
     // Inlined: called for each entry.
     #[inline(always)]
     #[tactic(auto, using(crate::proofs::StoredReads::read_steps))]
@@ -116,8 +115,7 @@ impl AttributeRun {
         Ok(AttributeRun { stretch, last })
     }
 
-    /// Reads the attributes of an entry, which start at the cursor. Adds the used ones to `found`
-    /// if `keep` is set.
+    /// Reads the attributes from the cursor on. Adds the used ones to `found` if `keep` is set.
     // Inlined: called for each entry.
     #[inline(always)]
     #[tactic(auto, using(crate::proofs::StoredReads::read_steps))]

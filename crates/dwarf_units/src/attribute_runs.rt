@@ -72,8 +72,7 @@ impl AttributeRuns {
         self.rest.used.as_slice()
     }
 
-    /// Reads the attributes of an entry, which start at the cursor. Adds the used ones to `found`
-    /// if `keep` is set.
+    /// Reads the attributes from the cursor on. Adds the used ones to `found` if `keep` is set.
     // Inlined: called for each entry.
     #[inline(always)]
     #[tactic(auto, using(crate::proofs::StoredReads::read_steps))]

@@ -2,7 +2,7 @@
 
 use crate::attributes::AttributeValue;
 use crate::entry_values::EntryValues;
-use crate::used_name::{SLOTS, UsedName};
+use crate::used_name::{ENTRY_SLOTS, UsedName};
 use crate::value_slot::ValueSlot;
 use dwarf_bytes::Cursor;
 use std::marker::Model;
@@ -12,7 +12,7 @@ use std::marker::Model;
 pub struct FixedSizeValues<'a> {
     /// A cursor at the first attribute.
     pub(crate) first: Cursor<'a>,
-    pub(crate) slots: &'a [ValueSlot; SLOTS],
+    pub(crate) slots: &'a [ValueSlot; ENTRY_SLOTS],
 }
 
 /// An entry whose attributes all have a fixed size.
@@ -37,6 +37,7 @@ impl<'a> EntryValues for FixedSizeValues<'a> {
 
     #[inline(always)]
     fn value(&self, name: UsedName) -> Option<AttributeValue> {
-        self.slots[name.slot()].value(&self.first)
+        let slots = self.slots;
+        slots.get(name.slot())?.value(&self.first)
     }
 }

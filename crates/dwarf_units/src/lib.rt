@@ -1,5 +1,4 @@
-//! Units of `.debug_info`, their abbreviation tables, and the attributes of their entries (DWARF
-//! 5, chapter 7.5).
+//! Units of `.debug_info`, their abbreviation tables and the attributes of entries (DWARF 5, 7.5).
 #![tactic(auto)]
 
 mod attribute_run;

@@ -64,8 +64,7 @@ impl<'a> LinkedLists<'a> {
         self.lists.section()
     }
 
-    /// Parses the table at an offset, as `AbbreviationTable::read` does, and links the lists that
-    /// it memoizes.
+    /// Parses the table at an offset, as `AbbreviationTable::read` does. Links its memoized lists.
     pub(crate) fn table(
         &mut self,
         offset: u64,

@@ -8,7 +8,7 @@ ghost use Rattle.dwarf_units.specs.Private.NodeLayouts.{code_count};
 
 use crate::cached_table::declaration_and_list;
 use crate::list_runs::ListRuns;
-use crate::used_name::SLOTS;
+use crate::used_name::ENTRY_SLOTS;
 use crate::value_slot::{ValueSlot, slots_of};
 use abbreviation_memo::{AbbreviationDeclaration, AbbreviationTable};
 use dwarf_bytes::Format;
@@ -20,13 +20,13 @@ const CODE_LIMIT: usize = 127;
 /// What the nodes with a one-byte code have in common, if their size is fixed.
 #[derive(Clone, Copy)]
 pub struct NodeShape {
-    pub is_null: bool,
     /// The tag of the entries. It is 0 if the node is a null entry.
-    pub tag: u64,
-    /// Whether the entries are followed by their children.
-    pub children: bool,
+    pub tag: u16,
     /// The size of the attributes in bytes.
     pub(crate) len: u16,
+    pub is_null: bool,
+    /// Whether the entries are followed by their children.
+    pub children: bool,
 }
 
 /// The shape of the nodes with a code, and where the entries have the values of their used
@@ -34,7 +34,7 @@ pub struct NodeShape {
 #[derive(Clone, Copy)]
 pub(crate) struct NodeLayout {
     pub(crate) shape: NodeShape,
-    pub(crate) slots: Option<[ValueSlot; SLOTS]>,
+    pub(crate) slots: Option<[ValueSlot; ENTRY_SLOTS]>,
 }
 
 impl NodeLayout {
@@ -53,7 +53,7 @@ impl NodeLayout {
         let len = list.runs.fixed_size()?;
         let shape = NodeShape {
             is_null: false,
-            tag: declaration.head.tag,
+            tag: u16::try_from(declaration.head.tag).ok()?,
             children: declaration.head.children,
             len,
         };

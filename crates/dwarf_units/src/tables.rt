@@ -71,8 +71,7 @@ impl<'a> Tables<'a> {
         Ok(tables)
     }
 
-    /// Parses the table of a unit, unless it is cached. Subtracts its declarations from `left` in
-    /// both cases.
+    /// Parses the table of a unit unless it is cached. Always subtracts its size from `left`.
     #[tactic(auto, using(crate::proofs::IndexLaws::stays_parsed))]
     fn validate_unit(
         &mut self,

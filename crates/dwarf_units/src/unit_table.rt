@@ -65,8 +65,7 @@ impl<'a> UnitTable<'a> {
         Some((shape, after))
     }
 
-    /// Re-reads the entry at an offset, if its layout has slots. Its used attributes are read when
-    /// they are asked for.
+    /// Re-reads the entry at an offset, if its layout has slots. Its values are read on demand.
     // Inlined: called for each scope and each reference.
     #[inline(always)]
     pub fn fixed_size_entry(&self, bytes: &'a [u8], place: usize) -> Option<FixedSizeEntry<'a>>
@@ -82,7 +81,7 @@ impl<'a> UnitTable<'a> {
         let first = cursor.fork();
         cursor.block(u64::from(layout.shape.len)).ok()?;
         Some(FixedSizeEntry {
-            tag: layout.shape.tag,
+            tag: u64::from(layout.shape.tag),
             after: cursor.place(),
             values: FixedSizeValues { first, slots },
         })

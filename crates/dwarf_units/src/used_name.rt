@@ -7,6 +7,8 @@ use dwarf_bytes::constants::*;
 
 /// The number of slots, one for each name of a used attribute.
 pub(crate) const SLOTS: usize = 13;
+/// The number of slots whose names are not for roots alone. They are the first ones.
+pub(crate) const ENTRY_SLOTS: usize = 9;
 
 /// The name of a used attribute.
 #[derive(Clone, Copy)]

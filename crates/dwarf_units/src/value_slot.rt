@@ -5,7 +5,7 @@ ghost use Rattle.std.specs.Prelude.{◌≡◌, ℕ, List, Some, IfSome};
 ghost use Rattle.dwarf_units.specs.Private.Slots.{AreSlots, slot_value, value_in, width_in};
 
 use crate::attributes::AttributeValue;
-use crate::used_name::SLOTS;
+use crate::used_name::ENTRY_SLOTS;
 use crate::used_position::{UsedPosition, UsedValue};
 use dwarf_bytes::constants::DW_FORM_IMPLICIT_CONST;
 use dwarf_bytes::{Cursor, Format, ValueLayout, Width};
@@ -61,15 +61,19 @@ impl ValueSlot {
     }
 }
 
-/// Returns the slots of all used attributes. Returns `None` if one does not fit.
-pub(crate) fn slots_of(format: Format, used: &[UsedPosition]) -> Option<[ValueSlot; SLOTS]>
+/// Returns the slots of all used attributes. Returns `None` if one has none or does not fit.
+pub(crate) fn slots_of(format: Format, used: &[UsedPosition]) -> Option<[ValueSlot; ENTRY_SLOTS]>
     ensures { IfSome result (AreSlots format used.now) }
 {
-    let mut slots = [ValueSlot::Missing; SLOTS];
+    let mut slots = [ValueSlot::Missing; ENTRY_SLOTS];
     // From the last position to the first, because the first position of a name counts.
     for index in (0..used.len()).rev() {
         let position = used[index];
-        slots[position.name.slot()] = ValueSlot::of(format, position)?;
+        let slot = position.name.slot();
+        if slot >= ENTRY_SLOTS {
+            return None;
+        }
+        slots[slot] = ValueSlot::of(format, position)?;
     }
     Some(slots)
 }

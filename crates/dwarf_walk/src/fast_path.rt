@@ -58,7 +58,7 @@ impl Walk {
     {
         let depth = self.depth + u32::from(shape.children) - u32::from(shape.is_null);
         bitmap.add_offset(place, !shape.is_null)?;
-        self.add_scope(place, shape.tag, shape.is_null)?;
+        self.add_scope(place, u64::from(shape.tag), shape.is_null)?;
         self.depth = depth;
         Ok(())
     }

@@ -10,17 +10,18 @@ use Rattle.dwarf_units.specs.declared.node_layout.{NodeLayout.NodeLayout, NodeSh
 use Rattle.dwarf_units.specs.declared.value_slot.ValueSlot.{ValueSlot}
 use Rattle.std.specs.Prelude.{IfSome, List, None, Ok, Option, Some, false, if◌then◌else◌, length}
 use Rattle.std.specs.Prelude.{min, nat_lt, option_and_then, option_map, slice_get, true, ℕ, ◌+◌}
-use Rattle.std.specs.Prelude.{◌==◌, ◌||◌, ◌≡◌, ◌≤◌}
+use Rattle.std.specs.Prelude.{◌&&◌, ◌==◌, ◌^◌, ◌||◌, ◌≡◌, ◌≤◌}
 
 -- The shape of the entries of a declaration, if their size is fixed. A declaration with UNSHARED
 -- attributes or more may share some.
 abbrev pub shape_of : Format → Declaration → Option NodeShape
-shape_of format d = if nat_lt (length d.attributes) UNSHARED then option_map (λ len. record {
-  is_null = false;
-  tag = d.tag;
-  children = d.children;
-  len = len;
-}) (fixed_size (runs_of format d.attributes)) else None
+shape_of format d = if nat_lt (length d.attributes) UNSHARED && nat_lt d.tag (2 ^ 16)
+    then option_map (λ len. record {
+      is_null = false;
+      tag = d.tag;
+      children = d.children;
+      len = len;
+    }) (fixed_size (runs_of format d.attributes)) else None
 
 -- The shape of the nodes with a code.
 abbrev pub shape_of_code : Format → List Declaration → ℕ → Option NodeShape

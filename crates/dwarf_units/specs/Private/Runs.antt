@@ -1,5 +1,4 @@
--- The attributes of a declaration in runs: attributes of a fixed size, and the attribute after
--- them.
+-- The attributes of a declaration in runs: some of a fixed size, and the attribute after them.
 use Rattle.dwarf_bytes.specs.{Bind.◌>>=◌, Contents.content_at, Forms.form_of, Items.reading}
 use Rattle.dwarf_bytes.specs.{Numbers.block_at, declared.fault.Cause.Cause}
 use Rattle.dwarf_bytes.specs.declared.form.Form.TheVariants.{Direct, ImplicitConst, Indirect}

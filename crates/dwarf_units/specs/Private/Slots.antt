@@ -45,7 +45,7 @@ value_in format bytes first p =
 -- Each slot has the value at the first position of its name.
 pub record AreSlots (format : Format) (used : List UsedPosition) (slots : List ValueSlot) : Type 0
   where
-    pub len : length slots ≡ 13
+    pub len : length slots ≡ 9
     pub each : (slot : ℕ) → slot < 13 → (bytes : List ℕ) (first : ℕ)
         → slot_value bytes first (slice_index_or slots slot Missing)
         ≡ option_map (value_in format bytes first) (find (λ p. slot_of p.name == slot) used)

@@ -6,7 +6,7 @@ use Rattle.dwarf_units.proofs.value_slot.slots_of.Given as goal
 
 abbrev pub invariant-loop-index : goal.invariant-loop-index
 invariant-loop-index l = record {
-  len : length l.slots ≡ 13;
+  len : length l.slots ≡ 9;
   each : (slot : ℕ) → slot < 13 → (bytes : List ℕ) (first : ℕ)
       → slot_value bytes first (slice_index_or l.slots slot Missing)
       ≡ option_map (value_in l.format bytes first)
