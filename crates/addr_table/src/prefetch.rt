@@ -1,4 +1,4 @@
-//! Reads data ahead of its use, so that the processor fetches the data of several addresses at once.
+//! Reads data ahead of its use, so that the processor fetches data of several addresses at once.
 //!
 //! Each function returns a value that depends on the data, because the compiler omits reads whose
 //! result is not used. The values have no other use, so no clause is about them.

@@ -33,7 +33,7 @@ impl Prefetch {
     }
 
     /// Is called before a line is served. `lines` starts with this line. Unless data for this line
-    /// was read, reads the data for it and for the lines after it, up to one that is not an address.
+    /// was read, reads the data for it and the lines after it, up to one that is not an address.
     pub fn before_line(&mut self, options: &Options, modules: &Modules, lines: &[u8]) {
         if self.lines > 0 {
             self.lines -= 1;

@@ -58,7 +58,8 @@ pub use bytes.declared.fault.Cause.{Cause, TheVariants.{OriginDepth, Reference}}
 pub use bytes.declared.fault.{LoadFault.LoadFault, Section.{Section, TheVariants.DebugAbbrev}}
 pub use bytes.declared.fault.Section.TheVariants.{DebugInfo, DebugLineStr, DebugStr}
 pub use bytes.declared.{format.Format.Format, tables.TableKind.TheVariants.StrOffsets}
-pub use entries.Names.{EntryNames, Member, first_on, members_of, name_on, names_of, of_member, references_limit}
+pub use entries.Names.{EntryNames, Member, first_on, members_of, name_on, names_of, of_member}
+pub use entries.Names.{references_limit}
 pub use entries.{Names.{target_of, text_in, text_of}, Order.{AreInOrder, AreNested, AreNumbered}}
 pub use entries.{Order.HasDataOf, Private.EntryOffsets.{AreStored, all_offsets, scope_count}}
 pub use entries.Private.{EntryOffsets.stored_unit_of, Members.{AreFirst, Finds, FindsFirst}}

@@ -15,8 +15,8 @@ use Rattle.dwarf_units.specs.Entries.{declaration_of, depth_limit, entry_at}
 use Rattle.dwarf_units.specs.{NodeShapes.null_shape, Private.Heads.used_entry_at}
 use Rattle.dwarf_units.specs.Private.NodeLayouts.{AreLayouts, HasSlotsOf, HasUsed, IsFixedSizeNode}
 use Rattle.dwarf_units.specs.Private.NodeLayouts.{IsLayoutAt, IsLayoutOf, IsLayoutOfCode}
-use Rattle.dwarf_units.specs.Private.{NodeLayouts.{code_count, code_limit, shape_of}, Runs.fixed_size}
-use Rattle.dwarf_units.specs.Private.Slots.{AreSlots, used_in}
+use Rattle.dwarf_units.specs.Private.NodeLayouts.{code_count, code_limit, shape_of}
+use Rattle.dwarf_units.specs.Private.{Runs.fixed_size, Slots.{AreSlots, used_in}}
 use Rattle.dwarf_units.specs.declared.node_layout.{NodeLayout.NodeLayout, NodeShape.NodeShape}
 use Rattle.dwarf_units.specs.declared.value_slot.ValueSlot.{ValueSlot}
 use Rattle.std.proofs.Common.{option_and_then}

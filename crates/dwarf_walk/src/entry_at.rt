@@ -73,8 +73,7 @@ impl<'a> EntryReader<'a> {
             self.old.tables.section header.now.abbreviations ≡ Ok table
             → ReturnsAndStores result self.new.found (used_by_name_at header.now.format table
             (take header.now.«end» self.old.info.now) offset) }
-        ensures tables { self.new.tables ≡ self.old.tables }
-        ensures number { self.new.number ≡ self.old.number }
+        ensures table { (self.new.tables ≡ self.old.tables) × (self.new.number ≡ self.old.number) }
         ensures info { self.new.info.now ≡ self.old.info.now }
         ensures long { self.new.long ≡ self.old.long }
         ensures len { OnOk result ((table : List Declaration) → declarations_of declarations_limit

@@ -25,6 +25,6 @@ invariant_of-self-2 c =
     let there = rw c.if-not-has_entry.false at c.has_entry.ensures c.in-Some.ensures.within in
     let at = c.in_ok-next.ensures.member there.0 there.2 in
     with-parts c.self-2.invariant same are.reader_is (cache-more c.args.self.now.sections _
-    c.self-2.inside.cache c.put.new.self c.in-Some.place (unpacked_names c.in_ok-names.names) are.cache_is
-    c.in_ok-put.ensures.ok
+    c.self-2.inside.cache c.put.new.self c.in-Some.place (unpacked_names c.in_ok-names.names)
+    are.cache_is c.in_ok-put.ensures.ok
     (rw there.1 ((rw c.in_ok-next.ensures.same at c.in_ok-names.ensures.names) there.0 at)))

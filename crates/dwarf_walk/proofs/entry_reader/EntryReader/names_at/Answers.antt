@@ -4,8 +4,8 @@ use Rattle.dwarf_walk.proofs.entry_reader.EntryReader.names_at.Goals as goal
 
 pub returns-in-Some-clause-names_at : goal.returns-in-Some-clause-names_at
 returns-in-Some-clause-names_at c s table reader is =
-    reader.long c.args.offset (long_entry c.args.unit.now.header c.in-Some.entry) c.in-Some.ensures.some
-    table is
+    reader.long c.args.offset (long_entry c.args.unit.now.header c.in-Some.entry)
+    c.in-Some.ensures.some table is
 
 pub returns-in_err-cache_unit-clause-reader : goal.returns-in_err-cache_unit-clause-reader
 returns-in_err-cache_unit-clause-reader c s reader =
