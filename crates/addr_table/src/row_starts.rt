@@ -25,6 +25,8 @@ pub(crate) struct RowStarts<'a> {
     index: usize,
     /// The rest of that run, from the next row on.
     rest: Run,
+    /// The start of the next row. It is stored, because it is looked up at each start of a scope.
+    next: Start,
     /// The number of starts that were taken.
     taken: usize,
 }
@@ -32,7 +34,7 @@ pub(crate) struct RowStarts<'a> {
 impl<'a> Model for RowStarts<'a> {
     ghost use Rattle.std.specs.Prelude.{map};
     ghost use Rattle.addr_table.specs.Private.RowOrder.{row_start};
-    ghost use Rattle.addr_table.specs.Private.RowRuns.{IsNextRow, RowCursor, rows_in};
+    ghost use Rattle.addr_table.specs.Private.RowRuns.{IsNextRow, IsStartOf, RowCursor, rows_in};
 
     ghost Value = { RowCursor };
 
@@ -41,7 +43,8 @@ impl<'a> Model for RowStarts<'a> {
       taken = r.taken;
     } };
 
-    ghost invariant = { λ r. IsNextRow r.rows.now r.runs.items r.index r.rest r.taken };
+    ghost invariant = { λ r. IsNextRow r.rows.now r.runs.items r.index r.rest r.taken
+        × IsStartOf r.rows.now r.rest r.next };
 }
 
 /// Returns the start of a row. The row ends where the next row starts.
@@ -80,6 +83,7 @@ impl<'a> RowStarts<'a> {
             runs,
             index: 0,
             rest,
+            next: start_of(rows, rest.first as usize),
             taken: 0,
         }
     }
@@ -105,7 +109,7 @@ impl<'a> RowStarts<'a> {
         if self.index >= self.runs.len() {
             return None;
         }
-        Some(start_of(self.rows, self.rest.first as usize))
+        Some(self.next)
     }
 
     /// Takes the next start.
@@ -117,10 +121,12 @@ impl<'a> RowStarts<'a> {
         let later = rest_of(self.rows, self.rest);
         self.taken += 1;
         if let Some(rest) = later {
+            self.next = start_of(self.rows, rest.first as usize);
             self.rest = rest;
             return;
         }
         self.index += 1;
         self.rest = run_at(&self.runs, self.index);
+        self.next = start_of(self.rows, self.rest.first as usize);
     }
 }

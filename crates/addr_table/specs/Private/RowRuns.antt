@@ -116,3 +116,8 @@ pub record IsNextRow (rows : List Row) (runs : List Run) (index : ℕ) (rest : R
   pub some : index < length runs → drop taken (rows_in rows runs)
       ≡ rows_of_run rows rest ++ rows_in rows (drop (index + 1) runs)
   pub none : length runs ≤ index → length (rows_in rows runs) ≤ taken
+
+-- the start of the first row of a run
+pub record IsStartOf (rows : List Row) (run : Run) (start : Start) : Type 0 where
+  pub start_is : start ≡ row_start rows run.first
+  pub few : run.first < 2 ^ 32
