@@ -10,29 +10,54 @@ struct Segment {
     uint32_t row, scope;
 };
 
-// The active scopes: those with an open range. Their sets are 64-ary bitmap trees.
+// The active scopes: those with an open range. Most ranges are nested, as the scopes are. As long
+// as they are, the scopes are in a chain. Otherwise, they are in sets: 64-ary bitmap trees.
 class ActiveScopes {
     Bits subprograms{scope_count}, inlined{scope_count};
-    std::vector<uint32_t> open_ranges; // of each scope
+    std::vector<uint32_t> open_ranges; // of each scope in the sets
+    std::vector<uint32_t> chain;       // a subprogram, and scopes each inlined in the one before
+    size_t in_sets = 0;                // the number of open ranges in the sets
 
     Bits &set_of(uint32_t scope) { return scopes[scope].inlined ? inlined : subprograms; }
+
+    bool continues_chain(uint32_t scope) const {
+        if (in_sets) return false;
+        if (chain.empty()) return !scopes[scope].inlined;
+        return scopes[scope].inlined && scope > chain.back() && scope < scopes[chain.back()].end;
+    }
+
+    void put(uint32_t scope) {
+        in_sets++;
+        if (!open_ranges[scope]++) set_of(scope).insert(scope);
+    }
+
+    void put_chain() {
+        for (uint32_t scope : chain) put(scope);
+        chain.clear();
+    }
 
 public:
     ActiveScopes() : open_ranges(scope_count) {}
 
     void open(uint32_t scope) {
         calls++;
-        if (!open_ranges[scope]++) set_of(scope).insert(scope);
+        if (continues_chain(scope)) return chain.push_back(scope);
+        put_chain();
+        put(scope);
     }
 
     void close(uint32_t scope) {
         calls++;
+        if (!chain.empty() && chain.back() == scope) return chain.pop_back();
+        put_chain();
+        in_sets--;
         if (!--open_ranges[scope]) set_of(scope).remove(scope);
     }
 
-    // Returns the innermost scope of the chain: starts at the first subprogram and repeatedly goes
-    // to the first inlined subroutine below.
+    // Returns the innermost scope: the last one of the chain. In the sets, it starts at the first
+    // subprogram and repeatedly goes to the first inlined subroutine below.
     uint32_t innermost() const {
+        if (!in_sets) return chain.empty() ? nothing : chain.back();
         calls++;
         uint64_t found = subprograms.first(0);
         if (found == Bits::none) return nothing;
@@ -47,7 +72,8 @@ public:
 static std::vector<Segment> segments;
 
 // Appends the segments of all addresses. The row changes only where a row starts or ends, and the
-// innermost scope only where a range of a scope below its own end does.
+// innermost scope only where a range of a scope below its own end does. Ranges are closed before
+// others are opened.
 template <class Number> static void sweep(const Endpoints<Number> &endpoints) {
     Sequences running;
     ActiveScopes active;
@@ -63,13 +89,13 @@ template <class Number> static void sweep(const Endpoints<Number> &endpoints) {
         if (running.move_to(at)) row = running.row();
         uint32_t limit = scope == nothing ? scope_count : scopes[scope].end;
         bool has_changed = false;
-        for (; start != last_start && endpoints.address(*start) == at; start++) {
-            active.open(endpoints.scope(*start));
-            has_changed |= endpoints.scope(*start) < limit;
-        }
         for (; end != last_end && endpoints.address(*end) == at; end++) {
             active.close(endpoints.scope(*end));
             has_changed |= endpoints.scope(*end) < limit;
+        }
+        for (; start != last_start && endpoints.address(*start) == at; start++) {
+            active.open(endpoints.scope(*start));
+            has_changed |= endpoints.scope(*start) < limit;
         }
         if (has_changed) scope = active.innermost();
         before = at;

@@ -1,4 +1,5 @@
 pub mod Active
+pub mod ActiveChain
 pub mod ActiveRanges
 pub mod Bits
 pub mod Buckets

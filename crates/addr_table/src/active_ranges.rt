@@ -1,7 +1,7 @@
 //! The ranges that contain the current address of a sweep.
 
 ghost use Rattle.std.specs.Prelude.{◌≡◌, ℕ, List, ◌+◌, ◌-◌, ◌^◌, ◌<◌, length, slice_index};
-ghost use Rattle.std.specs.Prelude.{slice_set, replicate, IfOk, IfSome, OnOk, OnErr};
+ghost use Rattle.std.specs.Prelude.{slice_set, replicate, IfOk, IfSome, OnOk, OnErr, false};
 ghost use Rattle.addr_table.specs.Private.Active.{one_more};
 ghost use Rattle.addr_table.specs.Private.ActiveRanges.{counts_with};
 ghost use Rattle.addr_table.specs.Private.Bits.{is_filled, IsFirstIn};
@@ -52,6 +52,8 @@ impl ActiveRanges {
     }
 
     /// Adds a range with this key.
+    // Inlined: most rows need no call on the set.
+    #[inline(always)]
     pub(crate) fn insert(&mut self, key: usize) -> Result<(), AllocError>
         requires key { key < length self.old.counts }
         requires fits { slice_index self.old.counts key < 2 ^ 32 - 1 }
@@ -67,6 +69,28 @@ impl ActiveRanges {
         }
         self.has_rows = self.has_rows || key < self.rows;
         self.set.insert(key)
+    }
+
+    /// Adds the first range with this key, and counts no call.
+    pub(crate) fn put(&mut self, key: usize)
+        requires key { key < length self.old.counts }
+        requires none { is_filled self.old.counts key ≡ false }
+        ensures counts { self.new.counts ≡ slice_set self.old.counts key
+            (slice_index self.old.counts key + 1) }
+        ensures calls { self.new.calls ≡ self.old.calls }
+    {
+        if key < self.rows {
+            self.has_rows = true;
+        }
+        self.set.put(key);
+    }
+
+    /// Counts a call that needs no call on the set.
+    pub(crate) fn count_call(&mut self)
+        ensures counts { self.new.counts ≡ self.old.counts }
+        ensures calls { self.new.calls ≡ one_more self.old.calls }
+    {
+        self.calls = self.calls.saturating_add(1);
     }
 
     /// Returns the number of calls that were made on this set.
@@ -111,6 +135,13 @@ impl ActiveRanges {
         }
         self.has_rows = self.has_rows && (first.is_some() || from > 0 || to < self.rows);
         lower_of(first, self.row, from, to)
+    }
+
+    /// Returns the first key in `from..to` that has a range, and counts no call.
+    pub(crate) fn find(&self, from: usize, to: usize) -> Option<usize>
+        ensures { IsFirstIn (is_filled self.now.counts) from to result }
+    {
+        lower_of(self.set.find(from, to), self.row, from, to)
     }
 }
 

@@ -2,6 +2,7 @@
 #![tactic(auto)]
 
 mod active;
+mod active_chain;
 mod active_ranges;
 mod bits;
 mod buckets;
@@ -9,6 +10,7 @@ mod cross_checks;
 mod decode;
 mod end_heap;
 mod frames;
+mod innermost;
 pub mod laws;
 mod low_starts;
 mod module;
@@ -27,6 +29,7 @@ mod row_runs;
 mod row_starts;
 mod run_groups;
 mod scan;
+mod scope_chain;
 mod scopes;
 mod segment;
 mod segments;

@@ -3,16 +3,15 @@ use Rattle.std.proofs.Common.{◌≡◌, ℕ, ◌+◌, ◌-◌, ◌<◌, ◌≤�
 use Rattle.std.proofs.Common.{true, false, ap, sym, ◌∙◌, subst, inl, inr, refl, arith}
 use Rattle.std.specs.Prelude.{◌==◌}
 use Rattle.std.specs.List.Sorted.{IsPermutation}
-use Rattle.std.proofs.lemmas.Bool.{cases_eq, cases_lt, false≢true}
+use Rattle.std.proofs.lemmas.Bool.{cases_eq, cases_lt}
 use Rattle.std.proofs.lemmas.Bool.Decides.{nat_tests}
 use Rattle.std.proofs.lemmas.List.{get_or-set_same, get_or-set_other}
 use Rattle.std.proofs.Math.ListN.{get_or-eq_default}
 use Rattle.std.proofs.lemmas.List.Sums.{sum_by-cons, count_by-le-length}
 use Rattle.std.proofs.lemmas.List.Sorted.{sum_by-IsPermutation, length_permutation}
 use Rattle.addr_table.specs.declared.open_ends.End.{End}
-use Rattle.addr_table.specs.declared.watched_scopes.WatchedScopes.{WatchedScopes}
 use Rattle.addr_table.specs.Private.Active.{ActiveSet}
-use Rattle.addr_table.specs.Private.Sweep.{AreActive, AreUnwatched, is_watched, keyed}
+use Rattle.addr_table.specs.Private.Sweep.{AreActive, keyed}
 use Rattle.addr_table.proofs.Endpoints.OpenCounts.{one_of}
 use Rattle.addr_table.proofs.Endpoints.SumLaws.{one-if}
 
@@ -115,7 +114,7 @@ active-closed e ends ends' old new h perm counts k =
           omega arith
     ]
 
--- ---- bounds, and unwatched keys
+-- ---- bounds
 
 -- a count is at most the number of open ends
 pub count-few : (k : ℕ) (ends : List End) (active : ActiveSet) → AreActive ends active
@@ -124,13 +123,3 @@ count-few k ends active h =
     let is = h k in
     let most : keyed k ends ≤ length ends = count_by-le-length (λ (e : End). e.key == k) ends in
     omega arith
-
--- a change of an unwatched key does not change the counts of watched keys
-pub unwatched-more : (w : WatchedScopes) (first old new : ActiveSet) (key n : ℕ)
-    → AreUnwatched w first old → is_watched w key ≡ false
-    → new.counts ≡ set old.counts key n → AreUnwatched w first new
-unwatched-more w first old new key n before not_watched counts k watched =
-    let other : k ≡ key → ⊥ = λ e.
-    false≢true (sym not_watched ∙ ap (is_watched w) (sym e) ∙ watched) in
-    ap (λ (cs : List ℕ). get_or cs k 0) counts ∙ get_or-set_other old.counts key k n 0 other
-    ∙ before k watched

@@ -1,6 +1,6 @@
 -- The search for the parent of a scope.
 use Rattle.std.proofs.Common.{◌≡◌, ◌∙◌, ℕ, zero, suc, ◌+◌, ◌<◌, ◌≤◌, List, [], ◌∷◌, ◌++◌}
-use Rattle.std.proofs.Common.{length, get_or, Bool, true, false, cond, ◌&&◌, ◌⊎◌, refl, ap}
+use Rattle.std.proofs.Common.{length, get_or, Bool, true, false, cond, ◌&&◌, refl, ap}
 use Rattle.std.proofs.Common.{subst, arith, append-nil, zero-add}
 use Rattle.std.specs.Prelude.{nat_lt, nat_le, filter}
 use Rattle.std.proofs.lemmas.Bool.Decides.{nat_tests}

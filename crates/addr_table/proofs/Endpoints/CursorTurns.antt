@@ -1,9 +1,8 @@
 -- One start of a cursor is taken.
 use Rattle.std.proofs.Common.{◌≡◌, ℕ, ◌+◌, ◌<◌, ◌≤◌, ◌∷◌, List, length, take, get_or, set}
-use Rattle.std.proofs.Common.{sym, subst, ap, ◌∙◌, drop, ◌-◌, refl, arith, Bool, true, false, ◌||◌}
+use Rattle.std.proofs.Common.{sym, subst, ap, ◌∙◌, drop, ◌-◌, arith}
 use Rattle.std.specs.List.{All}
 use Rattle.std.specs.List.Sorted.{IsPermutation}
-use Rattle.std.proofs.lemmas.Bool.{false≢true}
 use Rattle.std.proofs.lemmas.List.{get_or-drop, length-drop}
 use Rattle.std.proofs.lemmas.List.Elements.{All-more}
 use Rattle.addr_table.specs.declared.open_ends.End.{End}
@@ -61,8 +60,3 @@ open-taken end x s n n' starts ends ends' old new t h late perm within counts ca
       );
       few = h.few;
     })
-
--- neither an earlier range nor this one is watched
-pub neither : (earlier this : Bool) → (earlier || this) ≡ false → (earlier ≡ false) × (this ≡ false)
-neither true this h = absurd (false≢true (sym h))
-neither false this h = (refl, h)

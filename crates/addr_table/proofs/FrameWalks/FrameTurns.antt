@@ -1,5 +1,5 @@
 -- The remaining frames of a walk over a chain.
-use Rattle.std.proofs.Common.{◌≡◌, ◌≤◌, ◌∙◌, ℕ, ◌+◌, ◌<◌, List, [], ◌∷◌, length, map}
+use Rattle.std.proofs.Common.{◌≡◌, ◌≤◌, ◌∙◌, ℕ, ◌<◌, List, [], ◌∷◌, length, map}
 use Rattle.std.proofs.Common.{take, drop, reverse, get_or, Bool, false, refl, sym, ap, arith}
 use Rattle.std.specs.Prelude.{Option, Some, None, option_map, option_and_then, is_some, slice_get}
 use Rattle.std.proofs.lemmas.Option.{slice_get-get_or}

@@ -1,7 +1,8 @@
 -- The innermost scope stays the same until a range of a watched scope starts or ends.
-use Rattle.std.proofs.Common.{[], ◌≡◌, ◌∙◌, ℕ, ◌+◌, ◌<◌, ◌≤◌, List, length}
-use Rattle.std.proofs.Common.{get_or, Bool, true, false, ◌&&◌, ◌||◌, refl, ap, sym, subst, arith}
+use Rattle.std.proofs.Common.{◌≡◌, ◌≢◌, ◌∙◌, ℕ, ◌+◌, ◌<◌, ◌≤◌, List, length}
+use Rattle.std.proofs.Common.{get_or, Bool, true, false, ◌&&◌, ◌||◌, refl, ap, sym, arith}
 use Rattle.std.specs.Prelude.{Option, Some, None, IfSome, nat_le, nat_lt}
+use Rattle.std.proofs.lemmas.Bool.{false≢true}
 use Rattle.std.proofs.lemmas.Bool.Decides.{nat_tests}
 use Rattle.std.proofs.lemmas.List.{get_or_default}
 use Rattle.dwarf_entries.specs.Scopes.{Scope}
@@ -10,9 +11,9 @@ use Rattle.addr_table.specs.declared.watched_scopes.WatchedScopes.{WatchedScopes
 use Rattle.addr_table.specs.Places.{scope_at}
 use Rattle.addr_table.specs.Private.Bits.{is_filled}
 use Rattle.addr_table.specs.Private.Active.{ActiveSet}
-use Rattle.addr_table.specs.Private.Sweep.{IsActiveBelow, IsActiveAt, IsLimit, IsInnermost}
-use Rattle.addr_table.specs.Private.Sweep.{IsWatching, is_watched, AreUnwatched, AreActive}
-use Rattle.addr_table.proofs.Chains.ChainWalks.{no_scope, no-walk, end-within}
+use Rattle.addr_table.specs.Private.Sweep.{IsActiveAt, IsLimit, IsInnermost}
+use Rattle.addr_table.specs.Private.Sweep.{IsWatching, is_watched, AreUnwatched}
+use Rattle.addr_table.proofs.Chains.ChainWalks.{no_scope, end-within}
 
 -- ---- the innermost scope and its limit
 
@@ -32,15 +33,6 @@ innermost-at rows scopes counts (Some n) e numbered within found at =
       subprograms = λ k lt. at.subprograms k (omega (arith, lt, fits));
       inlined = λ k lt. at.inlined k (omega (arith, lt, fits));
     })
-
--- without active ranges there is no scope
-pub none-innermost : (rows : ℕ) (scopes : List Scope) (active : ActiveSet)
-    → AreNumbered 0 (length scopes) scopes → AreActive [] active
-    → IsInnermost rows scopes active.counts None
-none-innermost rows scopes active numbered none limit e is at =
-    (no-walk rows (length scopes) e 0 0 scopes active.counts refl numbered
-    (subst (λ l. IsActiveBelow rows scopes l e active.counts) is at)
-    (λ k low high. ap (λ n. nat_lt 0 n) (none k)) (omega arith)).0
 
 one-limit : (scopes : List Scope) (scope : Option ℕ) (a b : ℕ) → IsLimit scopes scope a
     → IsLimit scopes scope b → a ≡ b
@@ -90,3 +82,14 @@ same-innermost rows scopes active active' scope w watching unwatched found limit
 
     same : (k : ℕ) → is_watched w k ≡ true → is_filled active.counts k ≡ is_filled active'.counts k
     same k watched = ap (λ n. nat_lt 0 n) (sym (unwatched k watched))
+
+-- a change of an unwatched key
+pub innermost-kept : (rows : ℕ) (scopes : List Scope) (active active' : ActiveSet)
+    (scope : Option ℕ) (w : WatchedScopes) (key : ℕ)
+    → IsWatching rows scopes scope w → is_watched w key ≡ false
+    → ((k : ℕ) → k ≢ key → get_or active'.counts k 0 ≡ get_or active.counts k 0)
+    → IsInnermost rows scopes active.counts scope → IsInnermost rows scopes active'.counts scope
+innermost-kept rows scopes active active' scope w key watching unwatched same found =
+    same-innermost rows scopes active active' scope w watching
+    (λ k watched. same k (λ e. false≢true (sym unwatched ∙ ap (is_watched w) (sym e) ∙ watched)))
+    found

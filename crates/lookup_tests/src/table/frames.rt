@@ -98,6 +98,18 @@ fn the_first_inlined_subroutine_and_not_the_narrowest(rt: HostRuntime) {
     answers(&rt, &module, 0x1004, &frames);
 }
 
+/// Checks the innermost scopes of addresses that no row covers.
+fn are_innermost(rt: &impl Abort, module: &Module, expected: &[(u64, Option<usize>)]) {
+    for (link, scope) in expected {
+        let place = numbers(find(module, *link));
+        are_equal(
+            rt,
+            (*link, place),
+            (*link, scope.map(|scope| (None, Some(scope)))),
+        );
+    }
+}
+
 #[test]
 fn scopes_that_start_inside_and_after_the_innermost_scope(rt: HostRuntime) {
     let mut entries = Vec::new(rt.alloc());
@@ -111,19 +123,46 @@ fn scopes_that_start_inside_and_after_the_innermost_scope(rt: HostRuntime) {
     put(&rt, &mut entries, &[0]);
     let module = module(&rt, one_unit(&rt, &entries, &line(), &[]));
     let innermost = [
-        (0x1020, 2),
-        (0x1024, 0),
-        (0x1028, 1),
-        (0x102c, 1),
-        (0x1030, 0),
-        (0x103c, 0),
-        (0x1040, 2),
+        (0x1020, Some(2)),
+        (0x1024, Some(0)),
+        (0x1028, Some(1)),
+        (0x102c, Some(1)),
+        (0x1030, Some(0)),
+        (0x103c, Some(0)),
+        (0x1040, Some(2)),
+        (0x1044, None),
     ];
-    for (link, scope) in innermost {
-        let place = numbers(find(&module, link));
-        are_equal(&rt, (link, place), (link, Some((None, Some(scope)))));
-    }
-    are_equal(&rt, find(&module, 0x1044), None);
+    are_innermost(&rt, &module, &innermost);
+}
+
+#[test]
+fn scopes_that_end_after_their_parents(rt: HostRuntime) {
+    let mut entries = Vec::new(rt.alloc());
+    // scopes 0 and 1: 0x1020 to 0x1030, and 0x1028 to 0x1038
+    put_entry(&rt, &mut entries, 2, b'm', 0x1020, 16);
+    put_entry(&rt, &mut entries, 5, b'i', 0x1028, 16);
+    put(&rt, &mut entries, &[0]);
+    // scopes 2, 3 and 4: 0x1040 to 0x1060, and inside it 0x1044 to 0x1050 and 0x1048 to 0x1058
+    put_entry(&rt, &mut entries, 2, b'n', 0x1040, 32);
+    put_entry(&rt, &mut entries, 5, b'j', 0x1044, 12);
+    put_entry(&rt, &mut entries, 5, b'k', 0x1048, 16);
+    put(&rt, &mut entries, &[0]);
+    let module = module(&rt, one_unit(&rt, &entries, &line(), &[]));
+    let innermost = [
+        (0x1020, Some(0)),
+        (0x1028, Some(1)),
+        // no subprogram contains the address
+        (0x1030, None),
+        (0x1038, None),
+        (0x1040, Some(2)),
+        (0x1044, Some(3)),
+        // the first of two siblings
+        (0x1048, Some(3)),
+        (0x1050, Some(4)),
+        (0x1058, Some(2)),
+        (0x1060, None),
+    ];
+    are_innermost(&rt, &module, &innermost);
 }
 
 #[test]

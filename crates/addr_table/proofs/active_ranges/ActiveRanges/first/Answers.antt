@@ -5,14 +5,8 @@ use Rattle.std.proofs.lemmas.Bool.{cases_eq}
 use Rattle.std.proofs.lemmas.List.{get_or-set_other}
 use Rattle.addr_table.specs.Private.ActiveRanges.{counts_with}
 use Rattle.addr_table.specs.Private.Bits.{is_filled}
-use Rattle.addr_table.proofs.ActiveSet.FirstLaws.{first-same}
+use Rattle.addr_table.proofs.ActiveSet.FirstLaws.{first-same, row-within}
 use Rattle.addr_table.proofs.active_ranges.ActiveRanges.first.Goals as goal
-
--- the key outside the set is one of its keys
-within : (rows : ℕ) (row : Option ℕ) (counts : List ℕ)
-    → IfSome row (λ k. (k < rows) × (k < length counts)) → IfSome row (λ k. k < length counts)
-within rows None counts h = tt
-within rows (Some key) counts h = h.1
 
 -- it is not the key of a scope
 other : (rows : ℕ) (row : Option ℕ) (counts : List ℕ) (k : ℕ)
@@ -29,7 +23,7 @@ pub returns-then-not-self-clause-first : goal.returns-then-not-self-clause-first
 returns-then-not-self-clause-first c =
     let set = c.self.inside.set in
     rw (← c.self.view_is)
-    (c.lower_of.ensures set.counts (within _ _ _ c.self.invariant.row_is)
+    (c.lower_of.ensures set.counts (row-within _ _ _ c.self.invariant.row_is)
     (λ k low high. c.self.invariant.none (search rules) k (omega (arith, high, c.if-to-self.true))))
 
 pub returns-then-from-self-clause-first : goal.returns-then-from-self-clause-first
@@ -46,5 +40,5 @@ pub returns-clause-first : goal.returns-clause-first
 returns-clause-first c =
     let set = c.self.inside.set in
     rw (← c.self.view_is)
-    (c.lower_of-2.ensures set.counts (within _ _ _ c.self.invariant.row_is)
+    (c.lower_of-2.ensures set.counts (row-within _ _ _ c.self.invariant.row_is)
     c.first-first.ensures.first)
