@@ -17,9 +17,9 @@ use dwarf_entries::Scopes;
 use std::alloc::{AllocError, Global};
 use std::marker::Model;
 
-/// The active ranges of rows and scopes. The keys of `rows` rows come first, then those of
-/// subprograms, then those of inlined subroutines. Most ranges are nested, as the scopes are. As
-/// long as they are, the active scopes are in a chain outside the set, and its last scope is the
+/// The active ranges of rows and scopes. The first `rows` keys belong to rows, the next ones to
+/// subprograms, and the last ones to inlined subroutines. Most ranges are nested, as the scopes are.
+/// As long as they are, the active scopes are in a chain outside the set, and its last scope is the
 /// innermost one. No search is needed.
 #[derive(Drop)]
 pub(crate) struct ActiveChain<'a> {
@@ -103,7 +103,7 @@ impl<'a> ActiveChain<'a> {
             return Ok(());
         }
         let watched = WatchedScopes::new(self.rows, self.scopes, self.innermost);
-        self.is_found = self.has_scopes && self.is_found && !watched.has_key(key);
+        self.is_found = watched.stays_found(self.has_scopes, self.is_found, key);
         put_chain(&mut self.ranges, &mut self.chain);
         self.has_scopes = true;
         self.ranges.insert(key)
@@ -128,7 +128,7 @@ impl<'a> ActiveChain<'a> {
             return;
         }
         let watched = WatchedScopes::new(self.rows, self.scopes, self.innermost);
-        self.is_found = self.has_scopes && self.is_found && !watched.has_key(key);
+        self.is_found = watched.stays_found(self.has_scopes, self.is_found, key);
         put_chain(&mut self.ranges, &mut self.chain);
         self.has_scopes = true;
         self.ranges.remove(key);

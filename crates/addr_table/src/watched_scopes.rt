@@ -1,6 +1,6 @@
 //! The scopes that can change the innermost scope.
 
-ghost use Rattle.std.specs.Prelude.{◌≡◌, ◌<◌, length, IfSome};
+ghost use Rattle.std.specs.Prelude.{◌≡◌, ◌<◌, ◌&&◌, length, not, IfSome};
 ghost use Rattle.addr_table.specs.Private.Sweep.{IsLimit, IsWatching, is_watched};
 
 use crate::scopes::{count, end_at};
@@ -39,6 +39,14 @@ impl WatchedScopes {
         }
         let number = key - self.rows;
         number < self.limit || (number >= self.total && number - self.total < self.limit)
+    }
+
+    /// Returns whether the innermost scope is still known after the ranges of a key change. It is
+    /// `is_found` before, and the set has scopes.
+    pub(crate) fn stays_found(self, has_scopes: bool, is_found: bool, key: usize) -> bool
+        ensures { result ≡ (has_scopes && is_found && not (is_watched self key)) }
+    {
+        has_scopes && is_found && !self.has_key(key)
     }
 }
 

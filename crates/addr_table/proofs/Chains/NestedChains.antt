@@ -1,7 +1,7 @@
 -- Chains of nested scopes outside the active set.
 use Rattle.std.proofs.Common.{◌≡◌, ◌≢◌, ◌∙◌, ℕ, ◌+◌, ◌<◌, ◌≤◌, List, [], ◌∷◌, ◌++◌, length, set}
-use Rattle.std.proofs.Common.{get_or, Bool, true, false, not, ◌-◌, ◌||◌, refl, ap, sym, subst}
-use Rattle.std.proofs.Common.{arith}
+use Rattle.std.proofs.Common.{get_or, Bool, true, false, not, ◌-◌, ◌&&◌, ◌||◌, refl, ap, sym}
+use Rattle.std.proofs.Common.{arith, subst}
 use Rattle.std.specs.Prelude.{◌==◌, nat_lt, Option, Some, IfSome}
 use Rattle.std.specs.List.{AllByRecursion, list_any}
 use Rattle.std.proofs.lemmas.Bool.Decides.{nat_tests}
@@ -412,19 +412,22 @@ chained-row rows key scopes chain counts counts' has found innermost h lt same l
 -- a change of the count of a scope in the set that cannot change the innermost scope
 pub chained-found : (rows key : ℕ) (scopes : List Scope) (chain : List ChainScope)
     (counts all counts' : List ℕ) (has found : Bool) (innermost : Option ℕ) (w : WatchedScopes)
-    → IsChained rows scopes chain counts has found innermost → has ≡ true → found ≡ true
-    → IsWatching rows scopes innermost w → is_watched w key ≡ false
+    → IsChained rows scopes chain counts has found innermost
+    → IsWatching rows scopes innermost w → (has && found && not (is_watched w key)) ≡ true
     → all ≡ counts_with_keys (keys_of chain) counts
     → ((k : ℕ) → k ≢ key → get_or counts' k 0 ≡ get_or all k 0)
     → IsInnermost rows scopes counts' innermost
-chained-found rows key scopes chain counts all counts' has found innermost w h some f watching
-    unwatched all_is same =
+chained-found rows key scopes chain counts all counts' has found innermost w h watching stays
+    all_is same =
+    let is = all-true has found (is_watched w key) stays in
     let none : all ≡ counts =
-    all_is ∙ ap (λ cs. counts_with_keys (keys_of cs) counts) (h.apart some) in
+    all_is ∙ ap (λ cs. counts_with_keys (keys_of cs) counts) (h.apart is.0) in
     innermost-kept rows scopes (record { counts = counts; calls = 0 })
-    (record { counts = counts'; calls = 0 }) innermost w key watching unwatched
-    (λ k other. same k other ∙ ap (λ (cs : List ℕ). get_or cs k 0) none) (h.found f)
-
-pub not-true : (b : Bool) → not b ≡ true → b ≡ false
-not-true true is = absurd (false≢true is)
-not-true false is = refl
+    (record { counts = counts'; calls = 0 }) innermost w key watching is.2
+    (λ k other. same k other ∙ ap (λ (cs : List ℕ). get_or cs k 0) none) (h.found is.1)
+  where
+    all-true : (a b c : Bool) → (a && b && not c) ≡ true → (a ≡ true) × (b ≡ true) × (c ≡ false)
+    all-true true true false is = (refl, refl, refl)
+    all-true true true true is = absurd (false≢true is)
+    all-true true false c is = absurd (false≢true is)
+    all-true false b c is = absurd (false≢true is)

@@ -1,20 +1,14 @@
 use Rattle.std.proofs.Common.{◌≡◌, ◌≢◌, ◌∙◌, ℕ, ◌+◌, ◌-◌, ◌<◌, ◌^◌, List, length, get_or, set, ap}
-use Rattle.std.proofs.Common.{subst, sym, true, false, arith}
+use Rattle.std.proofs.Common.{subst, sym, arith}
 use Rattle.std.specs.Prelude.{Result, Ok, Err, OnOk, OnErr}
 use Rattle.std.proofs.lemmas.List.{get_or-set_other, length-set}
 use Rattle.addr_table.specs.declared.scope_chain.ChainScope.{ChainScope}
-use Rattle.addr_table.specs.Private.Sweep.{is_watched}
 use Rattle.addr_table.specs.Private.ActiveChain.{IsChained, counts_with_keys, keys_of}
 use Rattle.addr_table.proofs.ActiveSet.ChainCounts.{counts-last, counts-length, with_one}
 use Rattle.addr_table.proofs.Chains.NestedChains.{chained-found, chained-free, chained-more}
 use Rattle.addr_table.proofs.Chains.NestedChains.{chained-row, chained-set}
-use Rattle.addr_table.proofs.Chains.NestedChains.{not-true}
-use Rattle.std.proofs.lemmas.Bool.{false≢true}
 use Rattle.addr_table.proofs.Chains.NestedChains.{keys-last, row-count, row-set}
 use Rattle.addr_table.proofs.active_chain.ActiveChain.insert.Goals as goal
-use Rattle.addr_table.proofs.active_chain.ActiveChain.insert.Goals.{After-insert-2, else-self}
-use Rattle.addr_table.proofs.active_chain.ActiveChain.insert.Goals.{else-self-2, then-self}
-use Rattle.addr_table.proofs.active_chain.ActiveChain.insert.Goals.{then-self-2}
 
 -- an insertion does not change the number of counts
 length-kept : {X E : Type 0} (r : Result X E) (new old : List ℕ) (key v : ℕ)
@@ -101,22 +95,6 @@ invariant_of-self c =
     (others-kept c.insert.result _ _ c.args.key _ set.counts set.unchanged)
     (length-kept c.insert.result _ _ c.args.key _ set.counts set.unchanged)
 
--- the search is kept if there was one and the key is not watched
-kept : (c : After-insert-2) → c.if-self-2.self ≡ true
-    → (c.self.inside.has_scopes ≡ true) × (c.self.inside.is_found ≡ true)
-    × (is_watched c.new-watched.result c.args.key ≡ false)
-kept c is = elim c.if-self-2.branch [
-  | then-self-2 w ↦ elim c.if-self.branch [
-    | then-self v ↦ (
-      v.if-self.true,
-      sym v.value-is ∙ w.if-self-2.true,
-      sym w.has_key.ensures ∙ not-true w.has_key.result (sym w.self-is ∙ is),
-    )
-    | else-self v ↦ absurd (false≢true (sym v.if-self.false ∙ sym v.value-is ∙ w.if-self-2.true))
-  ]
-  | else-self-2 w ↦ absurd (false≢true (sym w.if-self-2.false ∙ sym w.self-is ∙ is))
-]
-
 pub invariant_of-self-3 : goal.invariant_of-self-3
 invariant_of-self-3 c =
     let set = c.insert-2.ensures in
@@ -124,7 +102,6 @@ invariant_of-self-3 c =
     (length-kept c.insert-2.result _ _ c.args.key _ set.counts set.unchanged
     ∙ ap length c.put_chain.ensures.counts
     ∙ counts-length (keys_of c.self.inside.chain.items) c.self.inside.ranges.counts)
-    (λ is. let all = kept (goal.at.invariant_of-self-3 c).After-insert-2 is in
-    chained-found _ c.args.key _ _ _ _ _ _ _ _ c.new-watched.result c.self.invariant all.0 all.1
-    c.new-watched.ensures all.2 c.put_chain.ensures.counts
+    (λ is. chained-found _ c.args.key _ _ _ _ _ _ _ _ c.new-watched.result c.self.invariant
+    c.new-watched.ensures (sym c.stays_found-self-inside.ensures ∙ is) c.put_chain.ensures.counts
     (others-kept c.insert-2.result _ _ c.args.key _ set.counts set.unchanged))

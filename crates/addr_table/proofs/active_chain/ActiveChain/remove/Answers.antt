@@ -1,21 +1,14 @@
 use Rattle.std.proofs.Common.{◌≡◌, ◌∙◌, ℕ, ◌-◌, ◌<◌, List, length, get_or, set, ap, subst, sym}
-use Rattle.std.proofs.Common.{true, false}
 use Rattle.std.proofs.Common.{arith}
 use Rattle.std.proofs.lemmas.List.{get_or-set_other, length-set}
 use Rattle.addr_table.specs.declared.scope_chain.ChainScope.{ChainScope}
-use Rattle.addr_table.specs.Private.Sweep.{is_watched}
 use Rattle.addr_table.specs.Private.ActiveChain.{AreFree, IsChained, counts_with_keys, keys_of}
 use Rattle.addr_table.proofs.ActiveSet.ChainCounts.{counts-last, counts-length, counts-undone}
 use Rattle.addr_table.proofs.ActiveSet.ChainCounts.{with_one}
 use Rattle.addr_table.proofs.Chains.NestedChains.{chained-found, chained-free, chained-less}
 use Rattle.addr_table.proofs.Chains.NestedChains.{chained-row, chained-set}
-use Rattle.addr_table.proofs.Chains.NestedChains.{not-true}
-use Rattle.std.proofs.lemmas.Bool.{false≢true}
 use Rattle.addr_table.proofs.Chains.NestedChains.{keys-last, row-count, row-set}
 use Rattle.addr_table.proofs.active_chain.ActiveChain.remove.Goals as goal
-use Rattle.addr_table.proofs.active_chain.ActiveChain.remove.Goals.{After-remove-2, else-self}
-use Rattle.addr_table.proofs.active_chain.ActiveChain.remove.Goals.{else-self-2, then-self}
-use Rattle.addr_table.proofs.active_chain.ActiveChain.remove.Goals.{then-self-2}
 
 pub remove-requires-clause-some : goal.remove-requires-clause-some
 remove-requires-clause-some c =
@@ -90,31 +83,14 @@ invariant_of-self c =
     ∙ get_or-set_other _ c.args.key k _ 0 other)
     (ap length c.remove.ensures.counts ∙ length-set _ _ _)
 
--- the search is kept if there was one and the key is not watched
-kept : (c : After-remove-2) → c.if-self-2.self ≡ true
-    → (c.self.inside.has_scopes ≡ true) × (c.self.inside.is_found ≡ true)
-    × (is_watched c.new-watched.result c.args.key ≡ false)
-kept c is = elim c.if-self-2.branch [
-  | then-self-2 w ↦ elim c.if-self.branch [
-    | then-self v ↦ (
-      v.if-self.true,
-      sym v.value-is ∙ w.if-self-2.true,
-      sym w.has_key.ensures ∙ not-true w.has_key.result (sym w.self-is ∙ is),
-    )
-    | else-self v ↦ absurd (false≢true (sym v.if-self.false ∙ sym v.value-is ∙ w.if-self-2.true))
-  ]
-  | else-self-2 w ↦ absurd (false≢true (sym w.if-self-2.false ∙ sym w.self-is ∙ is))
-]
-
 pub invariant_of-self-2 : goal.invariant_of-self-2
 invariant_of-self-2 c =
     chained-set _ _ _ _ _ _ _ _ _ _ c.self.invariant c.put_chain.ensures.chain
     (ap length c.remove-2.ensures.counts ∙ length-set _ _ _
     ∙ ap length c.put_chain.ensures.counts
     ∙ counts-length (keys_of c.pop_key.new.chain.items) c.self.inside.ranges.counts)
-    (λ is. let all = kept (goal.at.invariant_of-self-2 c).After-remove-2 is in
-    chained-found _ c.args.key _ _ _ _ _ _ _ _ c.new-watched.result c.self.invariant all.0 all.1
-    c.new-watched.ensures all.2
+    (λ is. chained-found _ c.args.key _ _ _ _ _ _ _ _ c.new-watched.result c.self.invariant
+    c.new-watched.ensures (sym c.stays_found-self-inside.ensures ∙ is)
     (c.put_chain.ensures.counts ∙ ap (λ chain. counts_with_keys (keys_of chain)
     c.self.inside.ranges.counts) (c.pop_key.ensures.kept c.if-pop_key.false).0)
     (λ k other. ap (λ (cs : List ℕ). get_or cs k 0) c.remove-2.ensures.counts
