@@ -6,6 +6,8 @@
 #include <cstdint>
 #include <vector>
 
+static const uint32_t nothing = ~0u; // no row or scope
+
 // A set of numbers below a bound, which finds the first member at or after a number.
 class Bits {
     std::vector<std::vector<uint64_t>> levels;

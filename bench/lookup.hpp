@@ -39,17 +39,4 @@ public:
         return first && at < segments[first - 1].to ? &segments[first - 1] : NULL;
     }
 };
-
-// The parent of each scope.
-static std::vector<uint32_t> parents;
-
-static void find_parents() {
-    parents.resize(scope_count);
-    uint32_t open = nothing;
-    for (uint32_t i = 0; i < scope_count; i++) {
-        while (open != nothing && scopes[open].end <= i) open = parents[open];
-        parents[i] = open;
-        open = i;
-    }
-}
 #endif

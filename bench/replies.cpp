@@ -86,7 +86,6 @@ int main(int argc, char **argv) {
     if (find_sections(bytes, size, found) || read_lines(found)) return 1;
     if (read_scopes(found) || join()) return 1;
     make_index();
-    find_parents();
     use_sections(found);
     serve(has_functions, has_addresses);
     return 0;

@@ -7,7 +7,6 @@ extern "C" {
 #include "object.h"
 }
 
-static const uint32_t nothing = ~0u;
 static uint64_t calls; // on the sets of active sequences and scopes
 
 // The sequences that run at the current address of a sweep. Each has one current row.

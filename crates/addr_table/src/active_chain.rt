@@ -18,9 +18,9 @@ use std::alloc::{AllocError, Global};
 use std::marker::Model;
 
 /// The active ranges of rows and scopes. The first `rows` keys belong to rows, the next ones to
-/// subprograms, and the last ones to inlined subroutines. Most ranges are nested, as the scopes are.
-/// As long as they are, the active scopes are in a chain outside the set, and its last scope is the
-/// innermost one. No search is needed.
+/// subprograms, and the last ones to inlined subroutines. Most ranges are nested, as the scopes
+/// are. As long as they are, the active scopes are in a chain outside the set, and its last scope
+/// is the innermost one. No search is needed.
 #[derive(Drop)]
 pub(crate) struct ActiveChain<'a> {
     rows: usize,

@@ -1,19 +1,16 @@
-//! The starts of the address ranges of rows and scopes.
+//! The starts of the address ranges of scopes.
 
 ghost use Rattle.std.specs.Prelude.{◌≡◌, ◌∷◌, [], ◌+◌, ◌^◌, ◌<◌, length, map, IfOk, OnOk};
 ghost use Rattle.dwarf_entries.specs.Scopes.{Scope as ScopeSeen, own_of};
 ghost use Rattle.dwarf_entries.specs.Order.{AreInOrder, HasDataOf};
-ghost use Rattle.addr_table.specs.Private.Sweep.{AddsStarts, AreStarts, reaches_in, scope_reaches};
-ghost use Rattle.addr_table.specs.Private.Sweep.{reaches_of};
-ghost use Rattle.addr_table.specs.Private.RowRuns.{AreRowStarts};
-ghost use Rattle.addr_table.specs.Private.Merged.{starts_in, taken_of};
+ghost use Rattle.addr_table.specs.Private.{Parents.AreParents, Walks.parent_codes};
+ghost use Rattle.addr_table.specs.Private.Sweep.{AddsStarts, reaches_in, scope_reaches};
 
-use crate::row_starts::RowStarts;
+use crate::optional_index::OptionalIndex;
+use crate::parents::add_parent;
 use crate::scopes::{count, scope_at};
-use crate::start_cursor::StartCursor;
 use crate::start_list::StartList;
 use dwarf_entries::{Range, Scope, ScopeKind, Scopes};
-use dwarf_lines::Row;
 use std::alloc::{AllocError, Global};
 
 /// The start of a range, its end (exclusive), and the key of the row or scope that has the range.
@@ -73,39 +70,30 @@ impl StartList {
         }
         Ok(())
     }
-
-    /// Adds the starts of the ranges of all scopes. Their keys follow the keys of `rows` rows.
-    fn add_scopes(&mut self, rows: usize, scopes: &Scopes) -> Result<(), AllocError>
-        requires order { AreInOrder scopes.now.scopes }
-        requires few { rows + length scopes.now.scopes + length scopes.now.scopes < 2 ^ 32 }
-        ensures { OnOk result
-            (AddsStarts (scope_reaches rows (length scopes.now.scopes) scopes.now.scopes)
-            self.old self.new) }
-    {
-        let total = count(scopes);
-        for number in 0..total {
-            self.add_scope(rows, total, scopes, scope_at(scopes, number))?;
-        }
-        Ok(())
-    }
 }
 
-/// Returns a cursor over the starts of all ranges of rows and scopes, given those of the rows.
-pub(crate) fn cursor<'a>(
+/// Returns the starts of the ranges of all scopes, and the nearest enclosing scope of each scope.
+/// The keys of scopes follow the keys of `rows` rows. One pass finds both, because the scopes of a
+/// large object do not fit into the caches of a processor.
+pub(crate) fn starts_and_parents(
     alloc: Global,
-    rows: &[Row],
-    of_rows: RowStarts<'a>,
+    rows: usize,
     scopes: &Scopes,
-) -> Result<StartCursor<'a>, AllocError>
+) -> Result<(StartList, Vec<OptionalIndex>), AllocError>
     requires order { AreInOrder scopes.now.scopes }
-    requires few { length rows.now + length scopes.now.scopes + length scopes.now.scopes < 2 ^ 32 }
-    requires rows { AreRowStarts rows.now of_rows }
-    ensures starts { IfOk result
-        (λ r. AreStarts (reaches_of rows.now scopes.now.scopes) (starts_in r)) }
-    ensures first { IfOk result (λ r. taken_of r ≡ 0) }
+    requires few { rows + length scopes.now.scopes + length scopes.now.scopes < 2 ^ 32 }
+    ensures starts { IfOk result (λ r. AddsStarts
+        (scope_reaches rows (length scopes.now.scopes) scopes.now.scopes) [] r.0) }
+    ensures parents { IfOk result
+        (λ r. AreParents scopes.now.scopes (parent_codes r.1.items)) }
+    ensures all { IfOk result (λ r. length r.1.items ≡ length scopes.now.scopes) }
 {
-    let mut of_scopes = StartList::new(alloc, count(scopes))?;
-    of_scopes.add_scopes(rows.len(), scopes)?;
-    let sorted = of_scopes.sorted(alloc)?;
-    Ok(StartCursor::new(of_rows, sorted))
+    let total = count(scopes);
+    let mut starts = StartList::new(alloc, total)?;
+    let mut parents = Vec::with_capacity(alloc, total)?;
+    for number in 0..total {
+        starts.add_scope(rows, total, scopes, scope_at(scopes, number))?;
+        add_parent(scopes, &mut parents)?;
+    }
+    Ok((starts, parents))
 }

@@ -7,7 +7,7 @@ use Rattle.addr_table.proofs.Scanning.ScanLaws.{returned-number}
 use Rattle.addr_table.proofs.Endpoints.StartTurns.{adding-same, adding-more, adding-end}
 use Rattle.addr_table.proofs.Endpoints.StartTurns.{scope-begins}
 use Rattle.addr_table.proofs.Endpoints.StartTurns.{scopes-end}
-use Rattle.addr_table.proofs.start_list.StartList.add_scopes.Goals as goal
+use Rattle.addr_table.proofs.starts.starts_and_parents.Goals as goal
 
 pub add_scope-requires : goal.add_scope-requires
 add_scope-requires c =
@@ -31,15 +31,19 @@ loop-number-preserved c =
     let T : ℕ → Type 0 =
     λ t. AddsStarts (reaches_in c.args.rows t
     (get_or c.args.scopes.now.scopes c.loop-number.number no_scope))
-    c.loop-number.self c.add_scope.new.self in
-    adding-more _ _ _ _ _ _ (adding-same _ _ _ _ _ (scope-begins _ _ _ _ no_scope lt)
-    c.loop-number.invariant)
-    (subst T c.count-total.ensures.count adds)
+    c.loop-number.starts c.add_scope.new.self in
+    record {
+      starts = adding-more _ _ _ _ _ _ (adding-same _ _ _ _ _
+          (scope-begins _ _ _ _ no_scope lt) c.loop-number.invariant.starts)
+          (subst T c.count-total.ensures.count adds);
+      parents = c.in_ok-add_parent.ensures.parents;
+      len = omega (arith, c.in_ok-add_parent.ensures.len, c.loop-number.invariant.len);
+    }
 
-pub returns : goal.returns
-returns c =
+pub returns-clause-starts : goal.returns-clause-starts
+returns-clause-starts c =
     let past : length c.args.scopes.now.scopes ≤ c.loop-number.number =
     omega (arith, c.loop-number-test.false, c.count-total.ensures.count) in
     adding-end _ _ _ _ (scopes-end c.args.rows (length c.args.scopes.now.scopes)
     c.loop-number.number c.args.scopes.now.scopes past)
-    c.loop-number.invariant
+    c.loop-number.invariant.starts
