@@ -98,23 +98,6 @@ rest-valid section place first at so_far is =
     (lists-alone section first [] at xs end (rw (append-nil first) listed))) in
     (rw others whole, (end, rw others refl))
 
--- the next attribute of a valid list has another name than those before it
-pub next-apart : (section : List ℕ) (place : ℕ) (first : List AttributeSpecification) (at : ℕ)
-    (x : AttributeSpecification) (next : ℕ)
-    → SoFar (length section) (attribute_at section) place first at → IsListAt section place
-    → attribute_at section [] at ≡ Ok (Item x next) → list_any (named x.name) first ≡ false
-next-apart section place first at x next so_far is read =
-    let (xs, end, listed, whole) = others-listed section place first at so_far is in
-    by_list xs end listed
-  where
-    by_list : (xs : List AttributeSpecification) (end : ℕ)
-        → Lists (attribute_at section) first at xs end → list_any (named x.name) first ≡ false
-    by_list [] end listed = let ends = end-again section first [] at end listed in cc
-    by_list (y ∷ ys) end listed =
-        let again = attribute-again section first [] at y listed.0 listed.1 refl in
-        rw (same-item x y next listed.0 (sym read ∙ again)).0
-        (found section first at (Item y listed.0) listed.1).1.1
-
 -- the list at an offset, by its first attribute
 pub record StartsAt (section : List ℕ) (place : ℕ) (first : Option AttributeSpecification)
     (rest : ℕ) : Type 0 where

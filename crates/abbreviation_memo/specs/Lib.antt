@@ -1,3 +1,2 @@
 pub mod Lists
-pub mod Declarations
 pub mod Private

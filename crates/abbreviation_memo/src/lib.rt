@@ -3,14 +3,12 @@
 //! the bytes of the section and the declarations that are read.
 #![tactic(auto)]
 
-mod abbreviation_table;
 mod list_end;
 mod list_start;
 mod memoize;
 mod memoized_lists;
 mod name_sets;
 
-pub use abbreviation_table::{AbbreviationDeclaration, AbbreviationTable};
-pub use list_end::{UNSHARED, first_attributes};
+pub use list_end::{ListEnd, UNSHARED, read_specifications};
 pub use list_start::ListStart;
 pub use memoized_lists::MemoizedLists;

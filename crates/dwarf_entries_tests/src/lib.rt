@@ -46,6 +46,8 @@ mod shared;
 #[cfg(test)]
 mod strings;
 #[cfg(test)]
+mod tables;
+#[cfg(test)]
 mod tombstones;
 #[cfg(test)]
 mod truncated;

@@ -1,6 +1,4 @@
 -- The names from elsewhere that the proofs of this crate cite.
-pub use Rattle.abbreviation_memo.specs.Declarations.{AbbreviationDeclaration, full_declaration}
-pub use Rattle.abbreviation_memo.specs.Declarations.{full_declarations}
 pub use Rattle.abbreviation_memo.specs.Lists.{IsListAt, StartsWith, list_at, rest_attributes}
 pub use Rattle.dwarf_bytes.proofs.{Items.Turns.{None-from-no-Some, SoFar}, Numbers.Advance.MovesOn}
 pub use Rattle.dwarf_bytes.proofs.Numbers.Advance.{after-bind}
@@ -23,7 +21,8 @@ pub use Rattle.dwarf_units.specs.Private.FixedSizes.{attribute_in, attributes_in
 pub use Rattle.dwarf_units.specs.Private.FixedSizes.{layout_len, number_in, used_position}
 pub use Rattle.dwarf_units.specs.Private.{Links.IsLink, Names.{named_attribute, slot_of, used_name}}
 pub use Rattle.dwarf_units.specs.Private.{NodeLayouts.shape_at, Runs.{Run, Stretch}}
-pub use Rattle.dwarf_units.specs.Private.ListRuns.{AreStored, IsStored}
+pub use Rattle.dwarf_units.specs.Private.Declarations.{AbbreviationDeclaration, IsStored}
+pub use Rattle.dwarf_units.specs.Private.Declarations.{full_declaration, full_declarations}
 pub use Rattle.dwarf_units.specs.Private.Runs.{all_at, run_at, run_before, runs_at}
 pub use Rattle.dwarf_units.specs.Private.Runs.{runs_of, stretch_at, then_read}
 pub use Rattle.dwarf_units.specs.Private.StoredAttributes.{stored_attributes, stored_attributes_at}
@@ -36,7 +35,6 @@ pub use Rattle.dwarf_units.specs.declared.attribute_run.LastAttribute.TheVariant
 pub use Rattle.dwarf_units.specs.declared.attribute_run.LastAttribute.TheVariants.{Unchecked}
 pub use Rattle.dwarf_units.specs.declared.attributes.Attribute.{Attribute}
 pub use Rattle.dwarf_units.specs.declared.attributes.AttributeValue.{AttributeValue}
-pub use Rattle.dwarf_units.specs.declared.list_runs.ListRuns.{ListRuns}
 pub use Rattle.dwarf_units.specs.declared.unit_headers.UnitHeader.{UnitHeader}
 pub use Rattle.dwarf_units.specs.declared.used_name.UsedName.{UsedName}
 pub use Rattle.dwarf_units.specs.declared.used_position.UsedPosition.{UsedPosition}

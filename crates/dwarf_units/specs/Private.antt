@@ -6,7 +6,7 @@ pub mod Rising
 pub mod Tables
 pub mod FixedSizes
 pub mod Runs
-pub mod ListRuns
+pub mod Declarations
 pub mod NodeLayouts
 pub mod Names
 pub mod Used

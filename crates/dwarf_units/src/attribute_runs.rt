@@ -6,6 +6,7 @@ ghost use Rattle.dwarf_units.specs.Private.Runs.{all_at, fixed_size, runs_of};
 ghost use Rattle.dwarf_units.specs.{Private.StoredAttributes.Fills, Private.Used.used_after};
 
 use crate::attribute_run::{AttributeRun, Stretch, push_position};
+use crate::attributes::is_used;
 use crate::fixed_sizes::end_of;
 use crate::used_attributes::UsedAttributes;
 use crate::used_position::UsedPosition;
@@ -42,7 +43,7 @@ impl AttributeRuns {
     {
         let mut runs = Vec::new(alloc);
         let mut len = 0u16;
-        let mut used = Vec::new(alloc);
+        let mut used = Vec::with_capacity(alloc, used_count(declared))?;
         for specification in declared {
             if let Some(end) = end_of(format, len, specification) {
                 push_position(&mut used, UsedPosition::of(len, specification))?;
@@ -91,4 +92,9 @@ impl AttributeRuns {
         }
         self.rest.read(keep, format, cursor, found)
     }
+}
+
+/// Returns the number of used attributes, for which memory is allocated at once.
+fn used_count(declared: &[AttributeSpecification]) -> usize {
+    declared.iter().filter(|s| is_used(s.name)).count()
 }

@@ -7,11 +7,10 @@ ghost use Rattle.dwarf_units.specs.Private.Heads.{head_in, used_entry_at, Return
 ghost use Rattle.dwarf_units.specs.Private.StoredAttributes.{Fills};
 ghost use Rattle.dwarf_units.specs.Private.Used.{used_attributes_at};
 
+use crate::abbreviation_table::AbbreviationDeclaration;
 use crate::linked_lists::LinkedLists;
-use crate::list_runs::ListRuns;
 use crate::unit_table::UnitTable;
 use crate::used_attributes::UsedAttributes;
-use abbreviation_memo::AbbreviationDeclaration;
 use dwarf_bytes::{Cause, Cursor, Format};
 use std::marker::Model;
 
@@ -23,13 +22,12 @@ pub(crate) const DEPTH_LIMIT: u32 = 256;
 pub struct EntryHead<'a> {
     format: Format,
     declaration: &'a AbbreviationDeclaration,
-    list: &'a ListRuns,
     linked: &'a LinkedLists<'a>,
 }
 
 impl<'a> Model for EntryHead<'a> {
-    ghost use Rattle.abbreviation_memo.specs.Declarations.{full_declaration};
-    ghost use Rattle.dwarf_units.specs.{Private.Heads.Head, Private.ListRuns.IsStored};
+    ghost use Rattle.dwarf_units.specs.Private.Declarations.{IsStored, full_declaration};
+    ghost use Rattle.dwarf_units.specs.Private.Heads.{Head};
 
     ghost Value = { Head };
 
@@ -38,8 +36,7 @@ impl<'a> Model for EntryHead<'a> {
       declaration = full_declaration h.linked.now h.declaration.now;
     } };
 
-    ghost invariant = { λ h. IsStored h.linked.now h.format h.declaration.now.attributes
-        h.list.now };
+    ghost invariant = { λ h. IsStored h.linked.now h.format h.declaration.now };
 }
 
 impl<'a> UnitTable<'a> {
@@ -48,11 +45,11 @@ impl<'a> UnitTable<'a> {
         ensures { result
             ≡ option_map (head_in self.now) (declaration_of self.now.declarations code) }
     {
-        let (declaration, list) = self.table.find(code)?;
+        let cached = self.table;
+        let table = &cached.table;
         Some(EntryHead {
-            format: self.table.format(),
-            declaration,
-            list,
+            format: table.format,
+            declaration: table.find(code)?,
             linked: self.linked,
         })
     }
@@ -130,8 +127,9 @@ impl<'a> EntryHead<'a> {
         // The contract of `place` is needed: the offset is within the bytes or at their end.
         let _ = cursor.place();
         found.clear();
-        self.list.runs.read(keep, self.format, cursor, found)?;
+        let declaration = self.declaration;
+        declaration.runs.read(keep, self.format, cursor, found)?;
         self.linked
-            .read(keep, self.format, self.list.rest, cursor, found)
+            .read(keep, self.format, declaration.rest, cursor, found)
     }
 }

@@ -1,6 +1,7 @@
 //! Units of `.debug_info`, their abbreviation tables and the attributes of entries (DWARF 5, 7.5).
 #![tactic(auto)]
 
+mod abbreviation_table;
 mod attribute_run;
 mod attribute_runs;
 mod attributes;
@@ -11,7 +12,6 @@ mod fixed_size_values;
 mod fixed_sizes;
 pub mod laws;
 mod linked_lists;
-mod list_runs;
 mod node_layout;
 mod table_store;
 mod tables;

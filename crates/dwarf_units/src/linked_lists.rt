@@ -1,21 +1,18 @@
 //! The attribute lists that declarations share, with links that skip attributes of no bytes.
 
-ghost use Rattle.std.specs.Prelude.{◌≡◌, ◌+◌, IfOk, IfSome, IsOk, length};
-ghost use Rattle.dwarf_bytes.specs.Refusals.{Decodes, in_section};
-ghost use Rattle.dwarf_forms.specs.Tables.{declarations_of};
-ghost use Rattle.abbreviation_memo.specs.Lists.{IsListAt, list_at, rest_attributes};
-ghost use Rattle.abbreviation_memo.specs.Declarations.{HaveLists, full_declarations};
+ghost use Rattle.std.specs.Prelude.{◌≡◌, IfOk, IfSome, IsOk, Ok};
+ghost use Rattle.dwarf_forms.specs.Tables.{attributes_at};
+ghost use Rattle.abbreviation_memo.specs.Lists.{IsListAt, StartsWith, list_at, rest_attributes};
 ghost use Rattle.dwarf_units.specs.Private.Links.{AreLinks, IsLink, is_empty_unused};
 ghost use Rattle.dwarf_units.specs.Private.StoredAttributes.{Fills, stored_attributes_at};
 ghost use Rattle.dwarf_units.specs.Private.Used.{used_after};
-ghost use Rattle.dwarf_bytes.specs.declared.fault.Section.TheVariants as sections;
 
 use crate::attribute_run::read_one;
 use crate::attributes::is_used;
 use crate::fixed_sizes::fixed_len;
 use crate::used_attributes::UsedAttributes;
-use abbreviation_memo::{AbbreviationTable, ListStart, MemoizedLists};
-use dwarf_bytes::{Cause, Cursor, Format, LoadFault};
+use abbreviation_memo::{ListEnd, ListStart, MemoizedLists, read_specifications};
+use dwarf_bytes::{Cause, Cursor, Format};
 use dwarf_forms::AttributeSpecification;
 use std::alloc::{AllocError, Global};
 use std::collections::BTreeMap;
@@ -64,25 +61,23 @@ impl<'a> LinkedLists<'a> {
         self.lists.section()
     }
 
-    /// Parses the table at an offset, as `AbbreviationTable::read` does. Links its memoized lists.
-    pub(crate) fn table(
+    /// Reads the list of attributes at an offset, as `read_specifications` of the memo does. Links
+    /// the lists that it memoizes.
+    pub(crate) fn read_specifications(
         &mut self,
-        offset: u64,
-        left: &mut u64,
-    ) -> Result<AbbreviationTable, LoadFault>
-        ensures decodes { Decodes (full_declarations self.old) result
-            (in_section sections.DebugAbbrev (declarations_of left.old self.old offset)) }
-        ensures counted { IfOk result (λ table. left.new + length table ≡ left.old) }
-        ensures lists { IfOk result (HaveLists self.old) }
+        first: &mut Vec<AttributeSpecification>,
+        place: usize,
+    ) -> Result<ListEnd, Cause>
+        ensures reads { IfOk result (λ list.
+            attributes_at self.old place ≡ Ok (list_at self.old place, list.after)) }
+        ensures starts { IfOk result (λ list.
+            StartsWith self.old place first.new.items list.rest) }
         ensures section { self.new ≡ self.old }
     {
-        let table = AbbreviationTable::read(self.alloc, &mut self.lists, offset, left)?;
-        // The lists are valid, so only an allocation can fail.
-        if link_all(self.alloc, &self.lists, self.linked, &mut self.links).is_err() {
-            return Err(AllocError.into());
-        }
+        let list = read_specifications(self.alloc, &mut self.lists, first, place)?;
+        link_all(self.alloc, &self.lists, self.linked, &mut self.links)?;
         self.linked = self.lists.places().len();
-        Ok(table)
+        Ok(list)
     }
 
     /// Reads the attributes of an entry that the list at offset `rest` declares, if there is one.

@@ -1,21 +1,18 @@
 //! Nodes of a fixed size: null entries, and entries with only such attributes (DWARF 5, 7.5).
 
 ghost use Rattle.std.specs.Prelude.{◌≡◌, ℕ, List, IfOk};
-ghost use Rattle.abbreviation_memo.specs.Declarations.{full_declaration, full_declarations};
-ghost use Rattle.dwarf_units.specs.Private.ListRuns.{AreStored, IsStored};
+ghost use Rattle.dwarf_units.specs.Private.Declarations.{IsStored, full_declaration};
 ghost use Rattle.dwarf_units.specs.Private.NodeLayouts.{AreLayouts, IsLayoutOf, IsLayoutOfCode};
 ghost use Rattle.dwarf_units.specs.Private.NodeLayouts.{code_count};
 
-use crate::cached_table::declaration_and_list;
-use crate::list_runs::ListRuns;
+use crate::abbreviation_table::{AbbreviationDeclaration, AbbreviationTable};
 use crate::used_name::ENTRY_SLOTS;
 use crate::value_slot::{ValueSlot, slots_of};
-use abbreviation_memo::{AbbreviationDeclaration, AbbreviationTable};
 use dwarf_bytes::Format;
 use std::alloc::{AllocError, Global};
 
 /// The greatest abbreviation code that is encoded in one byte.
-const CODE_LIMIT: usize = 127;
+const CODE_LIMIT: u64 = 127;
 
 /// What the nodes with a one-byte code have in common, if their size is fixed.
 #[derive(Clone, Copy)]
@@ -39,58 +36,45 @@ pub(crate) struct NodeLayout {
 
 impl NodeLayout {
     /// Returns the layout of the entries of a declaration, if their size is fixed.
-    fn of(
-        format: Format,
-        declaration: &AbbreviationDeclaration,
-        list: &ListRuns,
-    ) -> Option<NodeLayout>
-        ensures { (section : List ℕ) → IsStored section format declaration.now.attributes list.now
+    fn of(format: Format, declaration: &AbbreviationDeclaration) -> Option<NodeLayout>
+        ensures { (section : List ℕ) → IsStored section format declaration.now
             → IsLayoutOf format (full_declaration section declaration.now) result }
     {
-        if list.rest.is_some() {
+        if declaration.rest.is_some() {
             return None;
         }
-        let len = list.runs.fixed_size()?;
+        let len = declaration.runs.fixed_size()?;
         let shape = NodeShape {
             is_null: false,
             tag: u16::try_from(declaration.head.tag).ok()?,
             children: declaration.head.children,
             len,
         };
-        let slots = slots_of(format, list.runs.last_positions());
+        let slots = slots_of(format, declaration.runs.last_positions());
         Some(NodeLayout { shape, slots })
     }
 }
 
 /// Computes the layouts of the nodes with the codes from 0 up to the number of declarations, at
-/// most 127. `lists` is parallel to the declarations.
+/// most 127.
 pub(crate) fn layouts(
     alloc: Global,
-    format: Format,
-    table: &AbbreviationTable,
-    lists: &[ListRuns],
+    table: &AbbreviationTable<'_>,
 ) -> Result<Vec<Option<NodeLayout>>, AllocError>
-    ensures { IfOk result (λ layouts. (section : List ℕ)
-        → AreStored section format table.now lists.now → AreLayouts format
-        (full_declarations section table.now) (code_count table.now) layouts.items) }
+    ensures { IfOk result (λ layouts. AreLayouts table.now.format table.now.declarations
+        (code_count table.now.declarations) layouts.items) }
 {
-    let count = table.declarations().len().min(CODE_LIMIT) + 1;
-    let mut layouts = Vec::with_capacity(alloc, count)?;
+    let count = table.len().min(CODE_LIMIT) + 1;
+    let mut layouts = Vec::with_capacity(alloc, count as usize)?;
     for code in 0..count {
-        layouts.push(layout_of_code(format, table, lists, code as u64))?;
+        layouts.push(layout_of_code(table, code))?;
     }
     Ok(layouts)
 }
 
 /// Returns the layout of the nodes with a code, if their size is fixed.
-fn layout_of_code(
-    format: Format,
-    table: &AbbreviationTable,
-    lists: &[ListRuns],
-    code: u64,
-) -> Option<NodeLayout>
-    ensures { (section : List ℕ) → AreStored section format table.now lists.now
-        → IsLayoutOfCode format (full_declarations section table.now) code result }
+fn layout_of_code(table: &AbbreviationTable<'_>, code: u64) -> Option<NodeLayout>
+    ensures { IsLayoutOfCode table.now.format table.now.declarations code result }
 {
     if code == 0 {
         let shape = NodeShape {
@@ -101,6 +85,5 @@ fn layout_of_code(
         };
         return Some(NodeLayout { shape, slots: None });
     }
-    let (declaration, list) = declaration_and_list(table, lists, code)?;
-    NodeLayout::of(format, declaration, list)
+    NodeLayout::of(table.format, table.find(code)?)
 }

@@ -71,7 +71,7 @@ impl<'a> Tables<'a> {
         Ok(tables)
     }
 
-    /// Parses the table of a unit unless it is cached. Always subtracts its size from `left`.
+    /// Parses the table of a unit unless it is cached. Subtracts its declarations from `left`.
     #[tactic(auto, using(crate::proofs::IndexLaws::stays_parsed))]
     fn validate_unit(
         &mut self,
@@ -112,7 +112,7 @@ impl<'a> Tables<'a> {
         ensures limit { IsWithinLimit self.now }
     {
         let number = self.store.find(unit)?;
-        let len = self.store.table(number).len();
+        let len = self.store.table(number).table.len();
         if len > left {
             return None;
         }

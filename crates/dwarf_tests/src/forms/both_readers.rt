@@ -1,7 +1,9 @@
 //! A comparison of the reader of a single table and the one that memoizes attribute lists.
 
 use crate::checks::{are_equal, expect};
-use abbreviation_memo::{AbbreviationDeclaration, AbbreviationTable, ListStart, MemoizedLists};
+use abbreviation_memo::{ListStart, MemoizedLists, read_specifications};
+use dwarf_bytes::{Cause, Cursor};
+use dwarf_forms::steps::{CodeIndex, Head};
 use dwarf_forms::{Abbrevs, AttributeSpecification, Decl};
 use dwarf_samples::inlined;
 use std::process::Abort;
@@ -43,14 +45,14 @@ fn add_first(
     Some(start.rest)
 }
 
-/// Returns the attributes of a declaration, in order.
+/// Returns the attributes of the list at an offset, in order.
 pub fn attributes_of(
     rt: &(impl Abort + AllocGlobal),
     section: &[u8],
-    declaration: &AbbreviationDeclaration,
+    place: usize,
 ) -> Vec<AttributeSpecification> {
     let mut attributes = Vec::new(rt.alloc());
-    let mut next = Some(declaration.attributes);
+    let mut next = Some(place);
     for _ in 0..section.len() {
         if let Some(place) = next {
             next = add_first(rt, section, place, &mut attributes);
@@ -59,16 +61,44 @@ pub fn attributes_of(
     attributes
 }
 
+/// Reads the table at an offset, of at most `budget` declarations. Returns the head of each
+/// declaration and the offset of its attributes.
+pub fn table_at(
+    rt: &(impl Abort + AllocGlobal),
+    lists: &mut MemoizedLists<'_>,
+    offset: usize,
+    budget: u64,
+) -> Result<Vec<(Head, usize)>, Cause> {
+    let mut cursor = Cursor::new(lists.section());
+    cursor.seek(offset)?;
+    let mut codes = CodeIndex::new(rt.alloc());
+    let mut first = Vec::new(rt.alloc());
+    let mut declarations = Vec::new(rt.alloc());
+    for _ in 0..budget.saturating_add(1) {
+        let Some(head) = Head::next(&codes, budget, &mut cursor)? else {
+            break;
+        };
+        let place = cursor.place();
+        let list = read_specifications(rt.alloc(), lists, &mut first, place)?;
+        cursor.seek(list.after)?;
+        let attributes = attributes_of(rt, lists.section(), place);
+        are_equal(rt, attributes.get(..first.len()), Some(first.as_slice()));
+        codes.push(head.code)?;
+        declarations.push((head, place))?;
+    }
+    Ok(declarations)
+}
+
 /// Checks that both readers return the same declaration.
 fn is_same(
     rt: &(impl Abort + AllocGlobal),
     decl: &Decl,
     section: &[u8],
-    shared: &AbbreviationDeclaration,
+    (head, place): &(Head, usize),
 ) {
-    let head = (shared.head.code, shared.head.tag, shared.head.children);
-    are_equal(rt, (decl.code(), decl.tag(), decl.children()), head);
-    let attributes = attributes_of(rt, section, shared);
+    let parts = (head.code, head.tag, head.children);
+    are_equal(rt, (decl.code(), decl.tag(), decl.children()), parts);
+    let attributes = attributes_of(rt, section, *place);
     are_equal(rt, decl.attributes(), attributes.as_slice());
 }
 
@@ -77,30 +107,30 @@ fn are_same(
     rt: &(impl Abort + AllocGlobal),
     alone: &Abbrevs,
     section: &[u8],
-    shared: &AbbreviationTable,
+    shared: &[(Head, usize)],
 ) {
-    are_equal(rt, alone.decls().len(), shared.declarations().len());
-    for (decl, other) in alone.decls().iter().zip(shared.declarations()) {
+    are_equal(rt, alone.decls().len(), shared.len());
+    for (decl, other) in alone.decls().iter().zip(shared) {
         is_same(rt, decl, section, other);
     }
 }
 
-/// Reads the table at an offset with both readers, and checks that they agree.
-pub fn agree_at(rt: &(impl Abort + AllocGlobal), section: &[u8], offset: u64) {
-    let (mut left, mut shared_left) = (3, 3);
+/// Reads the table at an offset with both readers, and checks that both refuse it or that they
+/// return the same declarations.
+pub fn agree_at(rt: &(impl Abort + AllocGlobal), section: &[u8], offset: usize) {
     let mut lists = lists_of(rt, section);
-    let alone = Abbrevs::read(rt.alloc(), section, offset, &mut left);
-    let shared = AbbreviationTable::read(rt.alloc(), &mut lists, offset, &mut shared_left);
-    are_equal(rt, left, shared_left);
-    match (alone, shared) {
-        (Ok(alone), Ok(shared)) => are_same(rt, &alone, section, &shared),
-        (alone, shared) => are_equal(rt, alone.err(), shared.err()),
+    let mut left = 3;
+    let alone = Abbrevs::read(rt.alloc(), section, offset as u64, &mut left);
+    let shared = table_at(rt, &mut lists, offset, 3);
+    are_equal(rt, alone.is_ok(), shared.is_ok());
+    if let (Ok(alone), Ok(shared)) = (alone, shared) {
+        are_same(rt, &alone, section, &shared);
     }
 }
 
 /// Reads a table, valid or not, at each offset of a section, and checks that both readers agree.
 fn agree(rt: &(impl Abort + AllocGlobal), section: &[u8]) {
-    for offset in 0..section.len() as u64 + 2 {
+    for offset in 0..section.len() + 2 {
         agree_at(rt, section, offset);
     }
 }

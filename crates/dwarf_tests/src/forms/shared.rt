@@ -1,9 +1,9 @@
 //! Tables that overlap one list of attributes.
 
 use crate::checks::{are_equal, expect, put};
-use crate::forms::both_readers::{add, agree_at, attributes_of, lists_of};
-use abbreviation_memo::{AbbreviationTable, MemoizedLists, UNSHARED, first_attributes};
-use dwarf_bytes::{Cause, Cursor};
+use crate::forms::both_readers::{add, agree_at, attributes_of, lists_of, table_at};
+use abbreviation_memo::{ListEnd, MemoizedLists, UNSHARED, read_specifications};
+use dwarf_bytes::Cause;
 use dwarf_forms::AttributeSpecification;
 use std::process::Abort;
 use std::test::*;
@@ -44,16 +44,15 @@ fn attributes_from(rt: &(impl Abort + AllocGlobal), first: u64) -> Vec<Attribute
 fn first_of(
     rt: &(impl Abort + AllocGlobal),
     lists: &mut MemoizedLists<'_>,
-    offset: u64,
+    offset: usize,
 ) -> Vec<AttributeSpecification> {
-    let mut left = 1;
     let table = expect(
         rt,
-        AbbreviationTable::read(rt.alloc(), lists, offset, &mut left).ok(),
+        table_at(rt, lists, offset, 1).ok(),
         "the table is refused",
     );
-    let declaration = expect(rt, table.declarations().first(), "no declaration");
-    attributes_of(rt, lists.section(), declaration)
+    let (_, place) = expect(rt, table.first(), "no declaration");
+    attributes_of(rt, lists.section(), *place)
 }
 
 /// Checks that the table at an offset has a declaration with the attributes from a name on. Also
@@ -61,7 +60,7 @@ fn first_of(
 fn is_shared(
     rt: &(impl Abort + AllocGlobal),
     lists: &mut MemoizedLists<'_>,
-    offset: u64,
+    offset: usize,
     first: u64,
     memoized: usize,
 ) {
@@ -75,7 +74,7 @@ fn is_shared(
 fn is_alone(
     rt: &(impl Abort + AllocGlobal),
     section: &[u8],
-    offset: u64,
+    offset: usize,
     first: u64,
     memoized: usize,
 ) {
@@ -106,7 +105,8 @@ fn tables_within_one_list_alone(rt: HostRuntime) {
     is_alone(&rt, &section, 110, 0xa5, 0);
 }
 
-/// Checks the offset after the first attributes of the list at an offset, and their number.
+/// Reads the list at an offset. Checks the offset after its first attributes, their number, and
+/// the end of the list.
 fn has_first(
     rt: &(impl Abort + AllocGlobal),
     section: &[u8],
@@ -114,11 +114,10 @@ fn has_first(
     rest: Option<usize>,
     len: usize,
 ) {
+    let mut lists = lists_of(rt, section);
     let mut first = Vec::new(rt.alloc());
-    let mut cursor = Cursor::new(section);
-    expect(rt, cursor.seek(place).ok(), "no such offset");
-    let found = first_attributes(rt.alloc(), &mut first, &mut cursor);
-    are_equal(rt, found.ok(), Some(rest));
+    let found = read_specifications(rt.alloc(), &mut lists, &mut first, place);
+    are_equal(rt, found.ok(), Some(ListEnd { rest, after: 305 }));
     are_equal(rt, first.len(), len);
 }
 
@@ -136,10 +135,10 @@ fn first_attributes_of_lists(rt: HostRuntime) {
 #[test]
 fn out_of_memory_is_the_only_fault_of_a_valid_list(rt: HostRuntime) {
     let section = [0x03, 0x08, 0x11, 0x01, 0, 0];
+    let mut lists = lists_of(&rt, &section);
     let mut first = Vec::new(rt.alloc());
-    let mut cursor = Cursor::new(&section);
-    match first_attributes(rt.alloc(), &mut first, &mut cursor) {
-        Ok(rest) => are_equal(&rt, (rest, first.len(), cursor.place()), (None, 2, 6)),
+    match read_specifications(rt.alloc(), &mut lists, &mut first, 0) {
+        Ok(list) => are_equal(&rt, (list.rest, first.len(), list.after), (None, 2, 6)),
         Err(cause) => are_equal(&rt, cause, Cause::Memory),
     }
 }

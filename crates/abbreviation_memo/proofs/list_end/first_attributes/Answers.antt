@@ -1,10 +1,9 @@
-use Rattle.abbreviation_memo.proofs.ListLaws.{list-read, next-apart, rest-valid, start-valid}
+use Rattle.abbreviation_memo.proofs.ListLaws.{list-read, rest-valid}
 use Rattle.dwarf_bytes.proofs.Items.Turns.{None-from-no-Some}
 use Rattle.dwarf_forms.proofs.{Loops.{all-read, one-more}, Moves.attribute_at-advances}
 use Rattle.dwarf_forms.proofs.{Moves.attributes-ok, SuffixLists.{attribute-again, end-again}}
 use Rattle.dwarf_forms.proofs.SuffixLists.{list-continues, named}
 use Rattle.std.proofs.Common.{[], append-nil, arith, false, length-append, sym, ◌∙◌, ◌∷◌, ◌≡◌}
-use Rattle.std.proofs.lemmas.Result.{err_from_is_err_and}
 use Rattle.std.specs.List.{list_any}
 use Rattle.abbreviation_memo.proofs.list_end.first_attributes.Goals as goal
 
@@ -64,21 +63,3 @@ returns-clause-valid c = λ valid.
       full =
           omega (arith, inv.few, c.loop-alloc-test.false, c.len.ensures, c.loop-alloc.first.ok.0);
     }
-
-pub returns-in_err-attribute-clause-memory : goal.returns-in_err-attribute-clause-memory
-returns-in_err-attribute-clause-memory c =
-    let p = err_from_is_err_and c.from_residual.result c.from_residual.ensures.1 in
-    let inv = c.loop-alloc.invariant in
-    rw p.1 (λ valid. start-valid c.args.cursor.now.bytes c.loop-alloc.cursor.place
-    c.in_err-attribute.field-0.0 (rest-valid c.args.cursor.now.bytes c.args.cursor.now.place
-    c.loop-alloc.first.items c.loop-alloc.cursor.place inv.read.read valid).1
-    (rw inv.read.bytes_are at c.in_err-attribute.ensures))
-
-pub returns-then-has_name-clause-memory : goal.returns-then-has_name-clause-memory
-returns-then-has_name-clause-memory c = λ valid.
-    let inv = c.loop-alloc.invariant in
-    let read = rw (c.in-Some.is, inv.read.bytes_are) at c.in_ok-attribute.ensures in
-    let apart = next-apart c.args.cursor.now.bytes c.args.cursor.now.place c.loop-alloc.first.items
-    c.loop-alloc.cursor.place c.in-Some.attribute c.first_attribute.new.cursor.place inv.read.read
-    valid read.0 in
-    absurd (cc (c.deref.ensures.value, c.has_name.ensures, c.if-has_name.true, apart))

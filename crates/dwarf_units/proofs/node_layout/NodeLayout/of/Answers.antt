@@ -4,7 +4,7 @@ use Rattle.dwarf_units.proofs.node_layout.NodeLayout.of.Goals as goal
 
 pub returns : goal.returns
 returns c section is =
-    let none : c.args.list.now.rest ≡ None =
+    let none : c.args.declaration.now.rest ≡ None =
     grind (arith, c.is_some.ensures, c.if-is_some.false) in
     let starts = rw none at is.starts in
     let whole = whole-list section c.args.declaration.now.attributes is.first starts in record {
