@@ -65,10 +65,10 @@ impl<'a> CachedTable<'a> {
     /// Returns the shape of the nodes with a one-byte code, if there is one.
     // Inlined: called for each entry.
     #[inline(always)]
-    pub(crate) fn shape(&self, code: u8) -> Option<NodeShape>
-        ensures { result ≡ shape_at self.now code }
+    pub(crate) fn shape(&self, code: u8) -> Option<&NodeShape>
+        ensures { option_copied result ≡ shape_at self.now code }
     {
-        Some(self.layout(code)?.shape)
+        Some(&self.layout(code)?.shape)
     }
 
     /// Returns the layout of the nodes with a one-byte code, if there is one.

@@ -57,6 +57,8 @@ impl<'a> UnitTable<'a> {
     /// Reads the code of the entry at the cursor and returns its head, or `None` for a null entry.
     /// `rooted` is whether the root of the unit is before it. Fails if the code is not declared,
     /// if the entry is a second root, or if `depth` exceeds the limit.
+    // Inlined: called for each entry of a variable size.
+    #[inline(always)]
     pub fn head(
         &self,
         depth: u32,

@@ -1,6 +1,6 @@
 //! The abbreviation table of one unit (DWARF 5, 7.5.3).
 
-ghost use Rattle.std.specs.Prelude.{◌≡◌, ◌<◌, ◌≤◌, IfSome, Ok, length};
+ghost use Rattle.std.specs.Prelude.{◌≡◌, ◌<◌, ◌≤◌, IfSome, Ok, length, option_map};
 ghost use Rattle.dwarf_units.specs.{Entries.depth_limit, Private.NodeLayouts.IsFixedSizeNode};
 ghost use Rattle.dwarf_units.specs.Private.{Heads.used_entry_at, NodeLayouts.fixed_size_node_at};
 
@@ -48,17 +48,20 @@ impl<'a> UnitTable<'a> {
         depth: u32,
         bytes: &[u8],
         place: usize,
-    ) -> Option<(NodeShape, usize)>
-        ensures found { result ≡ fixed_size_node_at self.now depth bytes.now place }
-        ensures node { IfSome result (IsFixedSizeNode self.now depth bytes.now place) }
+    ) -> Option<(&'a NodeShape, usize)>
+        ensures found { option_map (λ node. (node.0.now, node.1)) result
+            ≡ fixed_size_node_at self.now depth bytes.now place }
+        ensures node { IfSome result (λ node. IsFixedSizeNode self.now depth bytes.now place
+            (node.0.now, node.1)) }
         ensures depth { IfSome result (λ _. (0 < depth) × (depth ≤ depth_limit)) }
     {
         if depth == 0 || depth > DEPTH_LIMIT {
             return None;
         }
         let code = *bytes.get(place)?;
-        let shape = self.table.shape(code)?;
-        let after = place + 1 + usize::from(shape.len);
+        let table = self.table;
+        let shape = table.shape(code)?;
+        let after = place + 1 + u32::from(shape.len) as usize;
         if after > bytes.len() {
             return None;
         }

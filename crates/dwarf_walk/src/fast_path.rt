@@ -4,13 +4,13 @@
 ghost use Rattle.std.specs.Prelude.{◌≡◌, ◌≤◌, ◌<◌, length, min, true, false, OnOk, is_some};
 ghost use Rattle.std.specs.Prelude.{if◌then◌else◌};
 ghost use Rattle.dwarf_units.specs.{Entries.{Node, depth_limit}, NodeShapes.HasShape};
-ghost use Rattle.dwarf_walk.specs.Private.Readers.{AddsNode, Takes, state_of, after_scope};
+ghost use Rattle.dwarf_walk.specs.Private.Readers.{AddsNode, Steps, Takes, state_of, after_scope};
 
 use crate::descendants::WalkedScope;
 use crate::entry_bitmap::EntryBitmap;
 use crate::packed::narrow;
 use crate::scope_kind::kind_of;
-use crate::walk::Walk;
+use crate::walk::{Depths, Walk};
 use dwarf_bytes::Cause;
 use dwarf_units::{NodeShape, UnitTable, UsedAttributes};
 use std::alloc::AllocError;
@@ -23,21 +23,50 @@ impl Walk {
     pub(crate) fn read_node(
         &mut self,
         table: &UnitTable<'_>,
+        depths: &mut Depths,
         bitmap: &mut EntryBitmap,
         unit: &[u8],
         place: usize,
         found: &mut UsedAttributes,
     ) -> Result<usize, Cause>
         requires within { place < length unit.now }
-        requires rooted { 0 < self.old.depth → is_some self.old.root ≡ true }
+        requires rooted { 0 < depths.old.next → is_some self.old.root ≡ true }
         ensures { Takes table.now.format table.now.declarations unit.now place
-            (state_of self.old) (state_of self.new) bitmap.old bitmap.new result }
+            (state_of self.old depths.old) (state_of self.new depths.new) bitmap.old bitmap.new
+            result }
     {
-        if let Some((shape, after)) = table.fixed_size_node(self.depth, unit, place) {
-            self.add_node(bitmap, place, shape)?;
+        if let Some((shape, after)) = table.fixed_size_node(depths.next, unit, place) {
+            self.add_node(depths, bitmap, place, shape)?;
             return Ok(after);
         }
-        self.step(table, bitmap, unit, place, found)
+        if self.root.is_none() {
+            let (after, next) = self.root_step(table, *depths, bitmap, unit, place, found)?;
+            *depths = next;
+            return Ok(after);
+        }
+        self.step(table, depths, bitmap, unit, place, found)
+    }
+
+    /// Makes a step before there is a root. Also returns the depths after it.
+    // Not inlined: it is rare, and its code would slow down the caller. It takes no reference to
+    // the depths, so that they need not be in memory.
+    #[cold]
+    #[inline(never)]
+    fn root_step(
+        &mut self,
+        table: &UnitTable<'_>,
+        mut depths: Depths,
+        bitmap: &mut EntryBitmap,
+        unit: &[u8],
+        place: usize,
+        found: &mut UsedAttributes,
+    ) -> Result<(usize, Depths), Cause>
+        requires { place < length unit.now }
+        ensures { Steps table.now.format table.now.declarations unit.now place
+            (state_of self.old depths) self.new bitmap.old bitmap.new result }
+    {
+        let after = self.step(table, &mut depths, bitmap, unit, place, found)?;
+        Ok((after, depths))
     }
 
     /// Adds a node of a fixed size at an offset. It is below the root. Sets the bit of an entry in
@@ -47,19 +76,20 @@ impl Walk {
     #[inline(always)]
     fn add_node(
         &mut self,
+        depths: &mut Depths,
         bitmap: &mut EntryBitmap,
         place: usize,
-        shape: NodeShape,
+        shape: &NodeShape,
     ) -> Result<(), AllocError>
         requires rooted { is_some self.old.root ≡ true }
-        requires depth { (0 < self.old.depth) × (self.old.depth ≤ depth_limit) }
-        ensures { OnOk result ((node : Node) → HasShape shape node → AddsNode place node
-            (state_of self.old) (state_of self.new) bitmap.old bitmap.new) }
+        requires depth { (0 < depths.old.next) × (depths.old.next ≤ depth_limit) }
+        ensures { OnOk result ((node : Node) → HasShape shape.now node → AddsNode place node
+            (state_of self.old depths.old) (state_of self.new depths.new) bitmap.old bitmap.new) }
     {
-        let depth = self.depth + u32::from(shape.children) - u32::from(shape.is_null);
+        let next = depths.next + u32::from(shape.children) - u32::from(shape.is_null);
         bitmap.add_offset(place, !shape.is_null)?;
-        self.add_scope(place, u64::from(shape.tag), shape.is_null)?;
-        self.depth = depth;
+        self.add_scope(depths, place, u64::from(shape.tag), shape.is_null)?;
+        depths.next = next;
         Ok(())
     }
 
@@ -69,35 +99,37 @@ impl Walk {
     #[inline(always)]
     pub(crate) fn add_scope(
         &mut self,
+        depths: &mut Depths,
         offset: usize,
         tag: u64,
         is_null: bool,
     ) -> Result<(), AllocError>
-        requires { self.old.depth ≤ depth_limit }
-        ensures entry { OnOk result (is_null ≡ false
-            → state_of self.new ≡ after_scope (state_of self.old) offset tag) }
+        requires { depths.old.next ≤ depth_limit }
+        ensures entry { OnOk result (is_null ≡ false → state_of self.new depths.new
+            ≡ after_scope (state_of self.old depths.old) offset tag) }
         ensures null { OnOk result (is_null ≡ true → tag ≡ 0
-            → state_of self.new ≡ state_of self.old) }
+            → state_of self.new depths.new ≡ state_of self.old depths.old) }
     {
+        let Depths { next, least } = *depths;
         if kind_of(tag).is_none() {
-            self.least = least_after(self.least, self.depth, is_null);
+            depths.least = least_after(least, next, is_null);
             return Ok(());
         }
         self.scopes.push(WalkedScope {
             offset: narrow(offset)?,
-            depth: self.depth as u16,
-            least: self.least.min(self.depth) as u16,
+            depth: next as u16,
+            least: least.min(next) as u16,
         })?;
-        self.least = self.depth + 1;
+        depths.least = next + 1;
         Ok(())
     }
 }
 
 /// Returns the least depth after a node that is no scope. A null entry does not change it.
-// Inlined: compiled to a conditional move.
+// Without a branch, because the order of null entries is hard to predict.
 #[inline(always)]
 fn least_after(least: u32, depth: u32, is_null: bool) -> u32
     ensures { result ≡ (if is_null then least else min least depth) }
 {
-    if is_null { least } else { least.min(depth) }
+    least.min(depth.max(u32::from(is_null) * u32::MAX))
 }

@@ -1,6 +1,6 @@
 //! The walk over the entries of a unit (DWARF 5, 2.3, 7.5.2 and 7.5.3).
 
-ghost use Rattle.std.specs.Prelude.{◌≡◌, ◌<◌, ◌≤◌, ℕ, List, [], length, None, Ok, IsSome, IfOk};
+ghost use Rattle.std.specs.Prelude.{◌≡◌, ◌<◌, ◌≤◌, ℕ, List, length, Ok, IsSome, IfOk};
 ghost use Rattle.std.specs.{Prelude.{OnOk, not, take}, List.filter_map};
 ghost use Rattle.dwarf_bytes.specs.Refusals.{Decodes, in_section};
 ghost use Rattle.dwarf_units.specs.Entries.{Die, LocatedNode, depth_limit, die_of, node_at_depth};
@@ -24,14 +24,18 @@ pub(crate) struct NodeHead {
     pub(crate) children: bool,
 }
 
-/// The state of the walk: the data stored for the entries so far, and the depth of the next entry.
-/// `least` is the least depth of the entries since the last scope. It starts at the depth of the
-/// children of that scope, and is 0 before the first scope.
+/// The data stored for the entries so far.
 #[derive(Drop)]
 pub(crate) struct Walk {
-    pub(crate) depth: u32,
     pub(crate) root: Option<RootEntry>,
     pub(crate) scopes: Vec<WalkedScope>,
+}
+
+/// The depth of the next entry, and the least depth of the entries since the last scope, which
+/// starts at the depth of the children of that scope and is 0 before the first scope.
+#[derive(Clone, Copy)]
+pub(crate) struct Depths {
+    pub(crate) next: u32,
     pub(crate) least: u32,
 }
 
@@ -53,8 +57,8 @@ pub fn entries(
     ensures bitmap { OnOk result ((dies : List Die) → entries_of info.now header
         table.now.declarations ≡ Ok dies → AddsOffsets bitmap.old bitmap.new (offsets_of dies)) }
 {
-    let walk = walk_unit(alloc, info, header, table, bitmap)?;
-    if walk.depth > 0 {
+    let (walk, depths) = walk_unit(alloc, info, header, table, bitmap)?;
+    if depths.next > 0 {
         let at = header.start as u64;
         return Err(LoadFault::at_item(Section::DebugInfo, Cause::TreeOpen, at));
     }
@@ -67,26 +71,14 @@ pub fn entries(
 }
 
 impl Walk {
-    fn new(alloc: Global) -> Walk
-        ensures { state_of result
-            ≡ record { depth = 0; root = None; scopes = []; least = 0 } }
-    {
-        Walk {
-            depth: 0,
-            root: None,
-            scopes: Vec::new(alloc),
-            least: 0,
-        }
-    }
-
-    /// Reads the entry or null entry at an offset of a unit with a cursor and returns the offset
+    /// Reads the entry or null entry at an offset of a unit with a cursor, and returns the offset
     /// after it. Sets the bit of an entry in `bitmap`. `found` is a buffer for its used attributes.
-    // Not inlined: it is rare, and its code would slow down the caller.
-    #[cold]
-    #[inline(never)]
+    // Inlined: once the root is stored, no attributes are.
+    #[inline(always)]
     pub(crate) fn step(
         &mut self,
         table: &UnitTable<'_>,
+        depths: &mut Depths,
         bitmap: &mut EntryBitmap,
         unit: &[u8],
         place: usize,
@@ -94,61 +86,76 @@ impl Walk {
     ) -> Result<usize, Cause>
         requires { place < length unit.now }
         ensures { Takes table.now.format table.now.declarations unit.now place
-            (state_of self.old) (state_of self.new) bitmap.old bitmap.new result }
+            (state_of self.old depths.old) (state_of self.new depths.new) bitmap.old bitmap.new
+            result }
     {
         let mut cursor = Cursor::new(unit);
         cursor.seek(place)?;
         let rooted = self.root.is_some();
-        let Some(head) = node(table, self.depth, rooted, &mut cursor, found)? else {
-            self.depth = self.depth.saturating_sub(1);
+        let Some(head) = node(table, depths.next, rooted, &mut cursor, found)? else {
+            depths.next = depths.next.saturating_sub(1);
             return Ok(cursor.place());
         };
         bitmap.add_offset(place, true)?;
-        self.keep(place, head.tag, found)?;
-        self.depth += u32::from(head.children);
+        self.keep(depths, place, head.tag, found)?;
+        depths.next += u32::from(head.children);
         Ok(cursor.place())
     }
 
     /// Stores the data of the entry at an offset, given its used attributes.
-    fn keep(&mut self, offset: usize, tag: u64, found: &UsedAttributes) -> Result<(), AllocError>
-        requires { self.old.depth ≤ depth_limit }
-        ensures { OnOk result (IsAfterEntry (state_of self.old) (state_of self.new) offset tag
-            found.now) }
+    // Inlined: called for each entry of a variable size.
+    #[inline(always)]
+    fn keep(
+        &mut self,
+        depths: &mut Depths,
+        offset: usize,
+        tag: u64,
+        found: &UsedAttributes,
+    ) -> Result<(), AllocError>
+        requires { depths.old.next ≤ depth_limit }
+        ensures { OnOk result (IsAfterEntry (state_of self.old depths.old)
+            (state_of self.new depths.new) offset tag found.now) }
     {
         if self.root.is_none() {
             self.root = Some(RootEntry::of(offset, found));
         }
-        self.add_scope(offset, tag, false)
+        self.add_scope(depths, offset, tag, false)
     }
 }
 
 /// Walks the entries of a unit and sets the bit of each in `bitmap`. A fault is reported at the
 /// offset of the entry or null entry that causes it.
+// Not inlined: its loop needs all registers.
+#[inline(never)]
 fn walk_unit(
     alloc: Global,
     info: &[u8],
     header: UnitHeader,
     table: &UnitTable<'_>,
     bitmap: &mut EntryBitmap,
-) -> Result<Walk, LoadFault>
+) -> Result<(Walk, Depths), LoadFault>
     requires { table.now.format ≡ header.format }
-    ensures decodes { Decodes (λ walk. state_of walk) result (in_section sections.DebugInfo
+    ensures decodes { Decodes (λ walk. state_of walk.0 walk.1) result (in_section sections.DebugInfo
         (walk_of info.now header table.now.declarations)) }
     ensures bitmap { OnOk result ((all : List LocatedNode × ℕ) → nodes_of info.now header
         table.now.declarations ≡ Ok all
         → AddsOffsets bitmap.old bitmap.new (offsets_of (filter_map die_of all.0))) }
 {
     let unit = unit_bytes(info, &header);
-    let mut walk = Walk::new(alloc);
+    let mut walk = Walk {
+        root: None,
+        scopes: Vec::new(alloc),
+    };
+    let mut depths = Depths { next: 0, least: 0 };
     let mut found = UsedAttributes::none();
     let mut place = header.first;
     while place < unit.len() {
-        place = match walk.read_node(table, bitmap, unit, place, &mut found) {
+        place = match walk.read_node(table, &mut depths, bitmap, unit, place, &mut found) {
             Ok(after) => after,
             Err(cause) => return Err(LoadFault::at_item(Section::DebugInfo, cause, place as u64)),
         };
     }
-    Ok(walk)
+    Ok((walk, depths))
 }
 
 /// Returns the section up to the end of a unit.
@@ -164,6 +171,7 @@ pub(crate) fn unit_bytes<'a>(info: &'a [u8], header: &UnitHeader) -> &'a [u8]
 
 /// Reads the entry at the cursor, or returns `None` for a null entry. `rooted` is whether the root
 /// of the unit is before it. If it is not, the used attributes are stored in `found`.
+#[inline(always)]
 fn node(
     table: &UnitTable<'_>,
     depth: u32,

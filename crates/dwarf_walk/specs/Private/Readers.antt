@@ -9,7 +9,7 @@ use Rattle.dwarf_units.specs.{declared.unit_headers.UnitHeader.UnitHeader, Entri
 use Rattle.dwarf_units.specs.Entries.{Null, LocatedNode, Die, die_of, depth_after, node_at_depth}
 use Rattle.dwarf_units.specs.{Entries.node_at, Private.StoredAttributes.stored_attributes}
 use Rattle.dwarf_units.specs.Used.{Used, used_among}
-use Rattle.dwarf_walk.specs.{declared.walk.NodeHead.NodeHead, declared.walk.Walk.Walk}
+use Rattle.dwarf_walk.specs.declared.walk.{Depths.Depths, NodeHead.NodeHead, Walk.Walk}
 use Rattle.dwarf_walk.specs.declared.descendants.WalkedScope.{WalkedScope}
 use Rattle.dwarf_walk.specs.declared.unit_entries.RootEntry.{RootEntry}
 use Rattle.dwarf_walk.specs.declared.entry_bitmap.EntryBitmap.{EntryBitmap}
@@ -62,12 +62,12 @@ abbrev pub state_after : List LocatedNode → WalkState
 state_after before = state_after_entries (depth_after before) (filter_map die_of before)
 
 -- The state of the program.
-abbrev pub state_of : Walk → WalkState
-state_of w = record {
-  depth = w.depth;
+abbrev pub state_of : Walk → Depths → WalkState
+state_of w depths = record {
+  depth = depths.next;
   root = w.root;
   scopes = w.scopes.items;
-  least = w.least;
+  least = depths.least;
 }
 
 -- The state after one more entry.
@@ -124,6 +124,14 @@ Takes format table unit at old new bitmap marked (Ok after) = (node : Node)
     × AddsNode at node old new bitmap marked
 Takes format table unit at old new bitmap marked (Err cause) =
     Fails cause (node_at_depth format table old.depth (is_some old.root) unit at)
+
+-- The same for a call that also returns the depths after the node.
+abbrev pub Steps : Format → List Declaration → List ℕ → ℕ → WalkState → Walk → EntryBitmap
+    → EntryBitmap → Result (ℕ × Depths) Cause → Type 0
+Steps format table unit at old walk bitmap marked (Ok next) =
+    Takes format table unit at old (state_of walk next.1) bitmap marked (Ok next.0)
+Steps format table unit at old walk bitmap marked (Err cause) =
+    Takes format table unit at old old bitmap marked (Err cause)
 
 -- All nodes of a unit.
 abbrev pub nodes_of : List ℕ → UnitHeader → List Declaration → Result (List LocatedNode × ℕ) At

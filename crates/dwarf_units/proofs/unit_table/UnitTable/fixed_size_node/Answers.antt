@@ -9,7 +9,7 @@ returns-clause-node c =
     sym (got c.args.bytes.now c.args.place c.get.result c.get.ensures.lookup.0
     c.get.ensures.lookup.1) ∙ ap (λ r. option_copied r) c.in_ok-code.was in
     rw c.from.ensures (shape-there c.args.self.now c.args.depth code c.args.bytes.now c.args.place
-    c.in_ok-shape.shape (ap (λ (t : Table). shape_at t code) (sym c.self.view_is)
+    c.in_ok-shape.shape.now (ap (λ (t : Table). shape_at t code) (sym c.self.view_is)
     ∙ sym c.in_ok-shape.ensures) byte (omega (arith, c.if-depth-eq0.false))
     (omega (arith, c.if-depth-gt-DEPTH_LIMIT.false))
     (omega (arith, c.if-after-bytes.false, c.from.ensures)))

@@ -18,8 +18,9 @@ returns c =
         ← c.place-2.ensures.place,
       ) at read.1,
       (
-        entry-added (state_of c.args.self.now) (state_of c.keep.new.self) c.args.place _ head.tag
-            head.children read.0 kept (ap (λ n. c.keep.new.self.depth + n) c.from.ensures),
+        entry-added (state_of c.args.self.now c.args.depths.now)
+            (state_of c.keep.new.self c.keep.new.depths) c.args.place _ head.tag
+            head.children read.0 kept (ap (λ n. c.keep.new.depths.next + n) c.from.ensures),
         c.in_ok-add_offset.ensures,
       ),
     )
