@@ -1,15 +1,15 @@
 //! A cached abbreviation table (DWARF 5, 7.5.3).
 
-ghost use Rattle.std.specs.Prelude.{◌≡◌, ◌+◌, ◌↔◌, length, IfOk, IsTrue, option_copied};
+ghost use Rattle.std.specs.Prelude.{◌≡◌, ◌+◌, ◌↔◌, length, IfOk, IsTrue};
 ghost use Rattle.dwarf_bytes.specs.Refusals.{Decodes, in_section};
 ghost use Rattle.dwarf_forms.specs.Tables.{declarations_of};
 ghost use Rattle.dwarf_units.specs.Private.AbbreviationTables.{table_key, table_size};
-ghost use Rattle.dwarf_units.specs.Private.{NodeLayouts.{IsLayoutAt, shape_at}, Tables.IsAt};
+ghost use Rattle.dwarf_units.specs.Private.{NodeLayouts.{AreLayouts, code_count}, Tables.IsAt};
 ghost use Rattle.dwarf_bytes.specs.declared.fault.Section.TheVariants as sections;
 
 use crate::abbreviation_table::AbbreviationTable;
 use crate::linked_lists::LinkedLists;
-use crate::node_layout::{NodeLayout, NodeShape, layouts};
+use crate::node_layout::{NodeLayout, layouts};
 use crate::unit_headers::UnitHeader;
 use dwarf_bytes::{Format, LoadFault};
 use std::alloc::Global;
@@ -62,22 +62,12 @@ impl<'a> CachedTable<'a> {
         table_key(self.table.format, self.table.offset)
     }
 
-    /// Returns the shape of the nodes with a one-byte code, if there is one.
-    // Inlined: called for each entry.
-    #[inline(always)]
-    pub(crate) fn shape(&self, code: u8) -> Option<&NodeShape>
-        ensures { option_copied result ≡ shape_at self.now code }
+    /// Returns the layouts of the nodes by their codes.
+    pub(crate) fn layouts(&self) -> &[Option<NodeLayout>]
+        ensures { AreLayouts self.now.format self.now.declarations
+            (code_count self.now.declarations) result.now }
     {
-        Some(&self.layout(code)?.shape)
-    }
-
-    /// Returns the layout of the nodes with a one-byte code, if there is one.
-    // Inlined: called for each entry.
-    #[inline(always)]
-    pub(crate) fn layout(&self, code: u8) -> Option<&NodeLayout>
-        ensures { IsLayoutAt self.now code (option_copied result) }
-    {
-        self.layouts.get(usize::from(code))?.as_ref()
+        self.layouts.as_slice()
     }
 
     /// Returns the size of the table.

@@ -1,14 +1,16 @@
 //! The abbreviation table of one unit (DWARF 5, 7.5.3).
 
-ghost use Rattle.std.specs.Prelude.{◌≡◌, ◌<◌, ◌≤◌, IfSome, Ok, length, option_map};
+ghost use Rattle.std.specs.Prelude.{◌≡◌, ◌<◌, ◌≤◌, IfSome, Ok, length, option_copied};
+ghost use Rattle.std.specs.Prelude.{option_map};
 ghost use Rattle.dwarf_units.specs.{Entries.depth_limit, Private.NodeLayouts.IsFixedSizeNode};
 ghost use Rattle.dwarf_units.specs.Private.{Heads.used_entry_at, NodeLayouts.fixed_size_node_at};
+ghost use Rattle.dwarf_units.specs.Private.NodeLayouts.{IsLayoutAt, shape_at};
 
 use crate::cached_table::CachedTable;
 use crate::entry_head::DEPTH_LIMIT;
 use crate::fixed_size_values::{FixedSizeEntry, FixedSizeValues};
 use crate::linked_lists::LinkedLists;
-use crate::node_layout::NodeShape;
+use crate::node_layout::{NodeLayout, NodeShape};
 use dwarf_bytes::Cursor;
 use std::marker::Model;
 
@@ -17,17 +19,21 @@ use std::marker::Model;
 pub struct UnitTable<'a> {
     pub(crate) table: &'a CachedTable<'a>,
     pub(crate) linked: &'a LinkedLists<'a>,
+    layouts: &'a [Option<NodeLayout>],
 }
 
 impl<'a> Model for UnitTable<'a> {
     ghost use Rattle.std.specs.Prelude.{◌≡◌};
     ghost use Rattle.dwarf_units.specs.Private.AbbreviationTables.{Table};
+    ghost use Rattle.dwarf_units.specs.Private.NodeLayouts.{AreLayouts, code_count};
 
     ghost Value = { Table };
 
     ghost view = { λ t. t.table.now };
 
-    ghost invariant = { λ t. t.table.now.section ≡ t.linked.now };
+    ghost invariant = { λ t. (t.table.now.section ≡ t.linked.now)
+        × AreLayouts t.table.now.format t.table.now.declarations
+        (code_count t.table.now.declarations) t.layouts.now };
 }
 
 impl<'a> UnitTable<'a> {
@@ -35,7 +41,37 @@ impl<'a> UnitTable<'a> {
         requires { table.now.section ≡ linked.now }
         ensures { result ≡ table.now }
     {
-        UnitTable { table, linked }
+        UnitTable {
+            table,
+            linked,
+            layouts: table.layouts(),
+        }
+    }
+
+    /// Returns the same table. While no address of it is taken, its fields can be in registers.
+    #[inline(always)]
+    pub fn copy(&self) -> UnitTable<'a>
+        ensures { result ≡ self.now }
+    {
+        UnitTable { ..*self }
+    }
+
+    /// Returns the layout of the nodes with a one-byte code, if there is one.
+    // Inlined: called for each entry.
+    #[inline(always)]
+    fn layout(&self, code: u8) -> Option<&'a NodeLayout>
+        ensures { IsLayoutAt self.now code (option_copied result) }
+    {
+        self.layouts.get(usize::from(code))?.as_ref()
+    }
+
+    /// Returns the shape of the nodes with a one-byte code, if there is one.
+    // Inlined: called for each entry.
+    #[inline(always)]
+    fn shape(&self, code: u8) -> Option<&'a NodeShape>
+        ensures { option_copied result ≡ shape_at self.now code }
+    {
+        Some(&self.layout(code)?.shape)
     }
 
     /// Returns the shape of the node at an offset and the offset after the node, if the node has a
@@ -59,8 +95,7 @@ impl<'a> UnitTable<'a> {
             return None;
         }
         let code = *bytes.get(place)?;
-        let table = self.table;
-        let shape = table.shape(code)?;
+        let shape = self.shape(code)?;
         let after = place + 1 + u32::from(shape.len) as usize;
         if after > bytes.len() {
             return None;
@@ -77,7 +112,7 @@ impl<'a> UnitTable<'a> {
         ensures within { IfSome result (λ _. place ≤ length bytes.now) }
     {
         let code = *bytes.get(place)?;
-        let layout = self.table.layout(code)?;
+        let layout = self.layout(code)?;
         let slots = layout.slots.as_ref()?;
         let mut cursor = Cursor::new(bytes);
         cursor.seek(place + 1).ok()?;

@@ -1,7 +1,7 @@
 -- The loop of the walk over a unit.
 use Rattle.std.proofs.Common.{◌≡◌, ℕ, ◌<◌, ◌≤◌, ◌⊎◌, List, [], ◌∷◌, ◌++◌, false, length, take, refl}
 use Rattle.std.proofs.Common.{ap, sym, ◌∙◌, arith, length-take, is_some, Result, Ok, Err, nat_le}
-use Rattle.std.proofs.Common.{cond, Some, None, count_by}
+use Rattle.std.proofs.Common.{cond, Some, None, count_by, suc, zero}
 use Rattle.std.proofs.{lemmas.Bool.{lt-leb, le-leb}, lemmas.Grind.common_steps}
 use Rattle.std.proofs.{lemmas.List.map-append, lemmas.List.Elements.filter_map-append}
 use Rattle.std.proofs.{lemmas.List.Folds.list_any-append, lemmas.List.Sums.sum_by-append}
@@ -18,7 +18,8 @@ use Rattle.dwarf_units.specs.Entries.{opens, closes, is_root, depth_after}
 use Rattle.dwarf_units.specs.declared.unit_headers.UnitHeader.{UnitHeader}
 use Rattle.dwarf_units.proofs.EntryAdvances.{node_at_depth-moves, node_at-advances}
 use Rattle.dwarf_walk.specs.{EntryBitmap.{AddsOffsets, offsets_of}, Private.Readers.WalkState}
-use Rattle.dwarf_walk.specs.Private.Readers.{state_after, nodes_of, Takes, walk_of, after_node}
+use Rattle.dwarf_walk.specs.Private.Readers.{state_after, nodes_of, Takes, TakesNodes, walk_of}
+use Rattle.dwarf_walk.specs.Private.Readers.{after_node}
 use Rattle.dwarf_walk.specs.{Private.Readers.places_of, Private.WalkedScopes.AreBounded}
 use Rattle.dwarf_walk.specs.{References.or_else, Stored.{root_entry, root_in}}
 use Rattle.dwarf_walk.specs.declared.entry_bitmap.EntryBitmap.{EntryBitmap}
@@ -121,6 +122,23 @@ module _ (info : List ℕ) (header : UnitHeader) (table : List Declaration) (old
           read = so-far-item header.end read_after advances header.first before at _ next
               so_far.read (next-is format_is same within so_far (Ok (taken.0, next)) taken.1);
         },
+      )
+
+  -- Nodes that are read in a loop of their own.
+  pub walk-items : {format : Format} {bytes : List ℕ} {marked after : EntryBitmap} {at next : ℕ}
+      {was is : WalkState} (count : ℕ) → format ≡ header.format → bytes ≡ unit
+      → WalkSoFar marked at was
+      → TakesNodes count format table bytes at was marked next is after
+      → (at ≤ next) × WalkSoFar after next is
+  unfolding TakesNodes
+  walk-items zero format_is same so_far (to, kept, stays) =
+      rw (to, kept, stays) (omega arith, so_far)
+  walk-items {format} {bytes} (suc count) format_is same so_far (last, w, b, before, taken) =
+      let here = walk-items count format_is same so_far before in
+      let moved = node_at_depth-moves format table w.depth (is_some w.root) bytes last
+      (taken.0, _) taken.1 in (
+        omega (arith, here.0, moved.0),
+        (walk-item format_is same (omega (arith, moved.0, moved.1)) here.1 taken).2,
       )
 
   -- The end of the loop: all nodes are read, and the bits of all entries are set.

@@ -1,10 +1,11 @@
 //! The fast path of the walk: a table gives the shape of null entries and of entries of a fixed
 //! size by their first byte. All others are read with a cursor.
 
-ghost use Rattle.std.specs.Prelude.{◌≡◌, ◌≤◌, ◌<◌, length, min, true, false, OnOk, is_some};
-ghost use Rattle.std.specs.Prelude.{if◌then◌else◌};
+ghost use Rattle.std.specs.Prelude.{◌≡◌, ◌≤◌, ◌<◌, ℕ, length, min, true, false, OnOk, is_some};
+ghost use Rattle.std.specs.Prelude.{IfOk, if◌then◌else◌};
 ghost use Rattle.dwarf_units.specs.{Entries.{Node, depth_limit}, NodeShapes.HasShape};
-ghost use Rattle.dwarf_walk.specs.Private.Readers.{AddsNode, Steps, Takes, state_of, after_scope};
+ghost use Rattle.dwarf_walk.specs.Private.Readers.{AddsNode, Steps, Takes, TakesNodes, state_of};
+ghost use Rattle.dwarf_walk.specs.Private.Readers.{after_scope};
 
 use crate::descendants::WalkedScope;
 use crate::entry_bitmap::EntryBitmap;
@@ -16,9 +17,34 @@ use dwarf_units::{NodeShape, UnitTable, UsedAttributes};
 use std::alloc::AllocError;
 
 impl Walk {
+    /// Reads the nodes from an offset of a unit on up to the first that has no fixed size or is not
+    /// below the root, and returns its offset. Sets the bits of the entries in `bitmap`.
+    // Inlined: the loop takes most of the time of a walk, and needs few registers.
+    #[inline(always)]
+    pub(crate) fn fixed_size_nodes(
+        &mut self,
+        table: &UnitTable<'_>,
+        depths: &mut Depths,
+        bitmap: &mut EntryBitmap,
+        unit: &[u8],
+        start: usize,
+    ) -> Result<usize, AllocError>
+        requires { 0 < depths.old.next → is_some self.old.root ≡ true }
+        ensures { IfOk result (λ after. (count : ℕ) × TakesNodes count table.now.format
+            table.now.declarations unit.now start (state_of self.old depths.old) bitmap.old after
+            (state_of self.new depths.new) bitmap.new) }
+    {
+        let mut place = start;
+        while let Some((shape, after)) = table.fixed_size_node(depths.next, unit, place) {
+            self.add_node(depths, bitmap, place, shape)?;
+            place = after;
+        }
+        Ok(place)
+    }
+
     /// Reads the entry or null entry at an offset of a unit and returns the offset after it. Sets
     /// the bit of an entry in `bitmap`. `found` is a buffer for its used attributes.
-    // Inlined: called for each entry.
+    // Inlined: called for each entry of a variable size.
     #[inline(always)]
     pub(crate) fn read_node(
         &mut self,
@@ -29,16 +55,11 @@ impl Walk {
         place: usize,
         found: &mut UsedAttributes,
     ) -> Result<usize, Cause>
-        requires within { place < length unit.now }
-        requires rooted { 0 < depths.old.next → is_some self.old.root ≡ true }
+        requires { place < length unit.now }
         ensures { Takes table.now.format table.now.declarations unit.now place
             (state_of self.old depths.old) (state_of self.new depths.new) bitmap.old bitmap.new
             result }
     {
-        if let Some((shape, after)) = table.fixed_size_node(depths.next, unit, place) {
-            self.add_node(depths, bitmap, place, shape)?;
-            return Ok(after);
-        }
         if self.root.is_none() {
             let (after, next) = self.root_step(table, *depths, bitmap, unit, place, found)?;
             *depths = next;

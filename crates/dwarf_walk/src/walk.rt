@@ -148,9 +148,14 @@ fn walk_unit(
     };
     let mut depths = Depths { next: 0, least: 0 };
     let mut found = UsedAttributes::none();
+    let table = table.copy();
     let mut place = header.first;
     while place < unit.len() {
-        place = match walk.read_node(table, &mut depths, bitmap, unit, place, &mut found) {
+        place = walk.fixed_size_nodes(&table, &mut depths, bitmap, unit, place)?;
+        if place >= unit.len() {
+            continue;
+        }
+        place = match walk.read_node(&table, &mut depths, bitmap, unit, place, &mut found) {
             Ok(after) => after,
             Err(cause) => return Err(LoadFault::at_item(Section::DebugInfo, cause, place as u64)),
         };

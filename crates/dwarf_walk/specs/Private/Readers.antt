@@ -1,5 +1,6 @@
 -- The effect of each step of the walk, for the contracts of its parts.
 use Rattle.std.specs.Prelude.{◌≡◌, ℕ, ◌+◌, ◌-◌, List, [], ◌∷◌, ◌++◌, Bool, Option, Some, None}
+use Rattle.std.specs.Prelude.{suc, zero}
 use Rattle.std.specs.{Prelude.{is_some, Result, Ok, Err, if◌then◌else◌, take}, List.filter_map}
 use Rattle.dwarf_bytes.specs.{declared.fault.Cause.Cause, declared.format.Format.Format, Bind.◌>>=◌}
 use Rattle.dwarf_bytes.specs.{Items.{At, items_from}, Position.Position, Refusals.Fails}
@@ -132,6 +133,16 @@ Steps format table unit at old walk bitmap marked (Ok next) =
     Takes format table unit at old (state_of walk next.1) bitmap marked (Ok next.0)
 Steps format table unit at old walk bitmap marked (Err cause) =
     Takes format table unit at old old bitmap marked (Err cause)
+
+-- A call reads and adds this number of nodes from an offset of a unit on, up to the offset `after`.
+unfoldable pub TakesNodes : ℕ → Format → List Declaration → List ℕ → ℕ → WalkState → EntryBitmap → ℕ
+    → WalkState → EntryBitmap → Type 0
+TakesNodes zero format table unit at old bitmap after new marked =
+    (after ≡ at) × (new ≡ old) × (marked ≡ bitmap)
+TakesNodes (suc count) format table unit at old bitmap after new marked = (last : ℕ)
+    × (w : WalkState) × (b : EntryBitmap)
+    × TakesNodes count format table unit at old bitmap last w b
+    × Takes format table unit last w new b marked (Ok after)
 
 -- All nodes of a unit.
 abbrev pub nodes_of : List ℕ → UnitHeader → List Declaration → Result (List LocatedNode × ℕ) At

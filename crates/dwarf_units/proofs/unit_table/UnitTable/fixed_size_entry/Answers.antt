@@ -8,7 +8,7 @@ returns-clause-entry c =
     let byte : slice_get c.args.bytes.now c.args.place ≡ Some code =
     sym (got c.args.bytes.now c.args.place c.get.result c.get.ensures.lookup.0
     c.get.ensures.lookup.1) ∙ ap (λ r. option_copied r) c.in_ok-code.was in
-    let slots = (rw (c.self.view_is, c.in_ok-layout.was) at c.layout.ensures).slots in
+    let slots = (rw c.in_ok-layout.was at c.layout.ensures).slots in
     let some = sym c.as_ref.ensures.value ∙ ap (λ r. option_copied r) c.in_ok-slots.was in
     grind (
       arith,

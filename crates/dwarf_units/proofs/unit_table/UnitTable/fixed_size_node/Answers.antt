@@ -1,5 +1,5 @@
-use Rattle.dwarf_units.proofs.{◌≡◌, ap, sym, ◌∙◌, arith, Some, slice_get, option_copied, got, Table}
-use Rattle.dwarf_units.proofs.{shape_at, shape-there}
+use Rattle.dwarf_units.proofs.{◌≡◌, ap, sym, ◌∙◌, arith, Some, slice_get, option_copied, got}
+use Rattle.dwarf_units.proofs.{shape-there}
 use Rattle.dwarf_units.proofs.unit_table.UnitTable.fixed_size_node.Goals as goal
 
 pub returns-clause-node : goal.returns-clause-node
@@ -9,7 +9,6 @@ returns-clause-node c =
     sym (got c.args.bytes.now c.args.place c.get.result c.get.ensures.lookup.0
     c.get.ensures.lookup.1) ∙ ap (λ r. option_copied r) c.in_ok-code.was in
     rw c.from.ensures (shape-there c.args.self.now c.args.depth code c.args.bytes.now c.args.place
-    c.in_ok-shape.shape.now (ap (λ (t : Table). shape_at t code) (sym c.self.view_is)
-    ∙ sym c.in_ok-shape.ensures) byte (omega (arith, c.if-depth-eq0.false))
+    c.in_ok-shape.shape.now (sym c.in_ok-shape.ensures) byte (omega (arith, c.if-depth-eq0.false))
     (omega (arith, c.if-depth-gt-DEPTH_LIMIT.false))
     (omega (arith, c.if-after-bytes.false, c.from.ensures)))
