@@ -9,17 +9,16 @@ use Common.{length-append, ne_eqb, option_and_then_some, refl, runs_at, runs_of}
 use Common.{same_Some, shape_at, slice_get, slice_get_within, stored_attributes}
 use Common.{stored_attributes_at, take, true, uleb_at, used_among, used_attributes_at, ◌++◌, ◌+◌}
 use Common.{◌<◌, ◌==◌, ◌>>=◌, ◌∙◌, ◌∷◌, ◌≡◌, ◌≤◌, ◌⊎◌}
-use Rattle.dwarf_units.proofs.{RunReads.runs-read, SlotLaws.slots-used}
-use Rattle.dwarf_units.proofs.StoredReads.{stored_all, used_all}
-use Rattle.dwarf_units.specs.Entries.{declaration_of, depth_limit, entry_at}
-use Rattle.dwarf_units.specs.{NodeShapes.null_shape, Private.Heads.used_entry_at}
+use Rattle.std.proofs.Common.{option_and_then}
+use Rattle.dwarf_units.proofs.{RunReads.runs-read, SlotLaws.slots-used, StoredReads.stored_all}
+use Rattle.dwarf_units.{proofs.StoredReads.used_all, specs.Entries.{declaration_of, depth_limit}}
+use Rattle.dwarf_units.specs.{Entries.entry_at, NodeShapes.null_shape, Private.Heads.used_entry_at}
 use Rattle.dwarf_units.specs.Private.NodeLayouts.{AreLayouts, HasSlotsOf, HasUsed, IsFixedSizeNode}
 use Rattle.dwarf_units.specs.Private.NodeLayouts.{IsLayoutAt, IsLayoutOf, IsLayoutOfCode}
 use Rattle.dwarf_units.specs.Private.NodeLayouts.{code_count, code_limit, shape_of}
 use Rattle.dwarf_units.specs.Private.{Runs.fixed_size, Slots.{AreSlots, used_in}}
 use Rattle.dwarf_units.specs.declared.node_layout.{NodeLayout.NodeLayout, NodeShape.NodeShape}
-use Rattle.dwarf_units.specs.declared.value_slot.ValueSlot.{ValueSlot}
-use Rattle.std.proofs.Common.{option_and_then}
+use Rattle.dwarf_units.specs.declared.value_slot.ValueSlots.{ValueSlots}
 
 -- ---- a node with a shape
 
@@ -107,11 +106,11 @@ block-there n bytes at le = grind (arith, le)
 
 -- The used attributes of a declaration without runs are at their positions.
 pub fixed-used : (format : Format) (own : List AttributeSpecification) (len : ℕ)
-    (slots : List ValueSlot) → fixed_size (runs_of format own) ≡ Some len
+    (slots : ValueSlots) → fixed_size (runs_of format own) ≡ Some len
     → AreSlots format (runs_of format own).rest.used slots
     → (bytes : List ℕ) (first : ℕ) → first + len ≤ length bytes
     → used_attributes_at true format own bytes first
-    ≡ Ok (used_in slots bytes first, first + len)
+    ≡ Ok (used_in slots (drop first bytes), first + len)
 fixed-used format own len slots is are bytes first le = rw
     (slots-used format (runs_of format own).rest.used slots bytes first are)
     (by_read (runs_of format own).runs (runs_of format own).rest
@@ -179,25 +178,25 @@ slots-of-code format table code d (Some l) found is =
 
 -- An entry whose layout has slots has their used attributes.
 pub layout-entry : (table : Table) (code : ℕ) (unit : List ℕ) (at : ℕ) (l : NodeLayout)
-    (slots : List ValueSlot) → code ≤ code_limit
+    (slots : ValueSlots) → code ≤ code_limit
     → HasSlotsOf table.format table.declarations code l → l.slots ≡ Some slots
     → slice_get unit at ≡ Some code → at + 1 + l.shape.len ≤ length unit
     → used_entry_at table unit at
-    ≡ Ok ((l.shape.tag, used_in slots unit (at + 1)), at + 1 + l.shape.len)
+    ≡ Ok ((l.shape.tag, used_in slots (drop (at + 1) unit)), at + 1 + l.shape.len)
 unfolding entry_at
 layout-entry table code unit at l slots small of some there fits = by_slots (rw some at of)
   where
     by_read : (r : Result (List Attribute × ℕ) Cause) (tag : ℕ) → tag ≡ l.shape.tag
         → (r >>= stored_all true >>= used_all)
-        ≡ Ok (used_in slots unit (at + 1), at + 1 + l.shape.len)
+        ≡ Ok (used_in slots (drop (at + 1) unit), at + 1 + l.shape.len)
         → (r >>= (λ a. Ok ((tag, a.0), a.1)) >>= tagged)
-        ≡ Ok ((l.shape.tag, used_in slots unit (at + 1)), at + 1 + l.shape.len)
+        ≡ Ok ((l.shape.tag, used_in slots (drop (at + 1) unit)), at + 1 + l.shape.len)
     by_read r tag same is = grind (arith, same, is)
 
     by_slots : ((d : Declaration) × (declaration_of table.declarations code ≡ Some d)
         × (d.tag ≡ l.shape.tag) × HasUsed table.format d l.shape.len slots)
         → used_entry_at table unit at
-        ≡ Ok ((l.shape.tag, used_in slots unit (at + 1)), at + 1 + l.shape.len)
+        ≡ Ok ((l.shape.tag, used_in slots (drop (at + 1) unit)), at + 1 + l.shape.len)
     by_slots (d, found, tag, used) = rw (one-byte unit at code there small, found)
         (by_read (attributes_at table.format d.attributes unit (at + 1)) d.tag tag
         (used unit (at + 1) fits))

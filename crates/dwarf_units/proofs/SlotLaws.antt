@@ -4,16 +4,16 @@ use Common.{Attribute, AttributeValue, Bool, Format, List, None, Option, Some, U
 use Common.{UsedPosition, ValueLayout, [], arith, attribute_in, attributes_in, block_at, content_at}
 use Common.{false, filter, find, fixed_at, get_or, is_used, length, map, name_of, named_attribute}
 use Common.{number_in, option_map, refl, slot_of, sym, true, used_among, used_name, value_named}
-use Common.{value_of, with_used, ℕ, ◌++◌, ◌<◌, ◌==◌, ◌∙◌, ◌∷◌, ◌≡◌}
-use Rattle.dwarf_bytes.specs.declared.form.Width.{Width}
-use Rattle.dwarf_units.specs.declared.value_slot.ValueSlot.{TheVariants.{At, Missing}, ValueSlot}
-use Rattle.dwarf_units.specs.Private.Slots.{AreSlots, slot_value, used_in, value_in, width_in}
+use Common.{value_of, with_used, ℕ, ◌+◌, ◌++◌, ◌<◌, ◌==◌, ◌∙◌, ◌∷◌, ◌≡◌, drop}
+use Rattle.dwarf_bytes.specs.{Forms.number_at, declared.form.Width.Width}
+use Rattle.dwarf_units.specs.Private.Slots.{AreSlots, slot_value, used_in, value_in, value_in_slot}
+use Rattle.dwarf_units.specs.{Private.Slots.width_in, declared.value_slot.ValueSlots.ValueSlots}
 use Rattle.dwarf_units.specs.declared.used_position.UsedValue.TheVariants as positions
+use Rattle.std.proofs.{Math.ListN.set, lemmas.{Bool.eqb-true, List.{drop-drop, get_or-set_other}}}
+use Rattle.std.{proofs.lemmas.List.{get_or-set_same, length-drop}, specs.List.list_all}
+use Rattle.std.specs.{Option.option_or, Prelude.{is_some, unwrap_or}}
 use Rattle.dwarf_units.specs.{Attributes.used_attributes, Private.Names.used_names}
 use Rattle.dwarf_units.specs.{Private.Slots.in_slots, Used.used_by}
-use Rattle.std.proofs.{Math.ListN.set, lemmas.Bool.eqb-true}
-use Rattle.std.proofs.lemmas.List.{get_or-set_other, get_or-set_same}
-use Rattle.std.specs.{List.list_all, Option.option_or, Prelude.is_some}
 
 -- ---- names, their codes and their slots
 
@@ -149,19 +149,26 @@ slot-small : (n : UsedName) → slot_of n < 13
 slot-small n = grind arith
 
 -- The slots of the positions have the used attributes at these positions.
-pub slots-used : (format : Format) (used : List UsedPosition) (slots : List ValueSlot)
+pub slots-used : (format : Format) (used : List UsedPosition) (slots : ValueSlots)
     (bytes : List ℕ) (first : ℕ) → AreSlots format used slots
-    → used_in slots bytes first ≡ used_among (attributes_in format bytes first used)
+    → used_in slots (drop first bytes) ≡ used_among (attributes_in format bytes first used)
 slots-used format used slots bytes first are = same-used _ _
-    (λ n. by-named (λ name. slot_value bytes first (get_or slots (slot_of name) Missing)) n
+    (λ n. by-named (λ name. value_in_slot slots (drop first bytes) (slot_of name)) n
     ∙ are.each (slot_of n) (slot-small n) bytes first ∙ sym (value-at format bytes first n used))
 
 -- ---- the value in a slot
 
 -- A value in a layout of a fixed width is the number of this width.
+pub width_number : (format : Format) (layout : ValueLayout) (width : Width) (n : ℕ)
+    (bytes : List ℕ) (first : ℕ) → width_in format layout ≡ Some width
+    → unwrap_or (number_at width bytes (first + n)) 0
+    ≡ number_in format bytes first (positions.At n layout)
+unfolding content_at block_at fixed_at
+width_number format layout width n bytes first is = grind (arith, is)
+
 pub width_value : (format : Format) (layout : ValueLayout) (width : Width) (form n : ℕ)
     (bytes : List ℕ) (first : ℕ) → width_in format layout ≡ Some width
-    → slot_value bytes first (At form width n)
-    ≡ Some (record { form = form; number = number_in format bytes first (positions.At n layout) })
-unfolding content_at block_at fixed_at
-width_value format layout width form n bytes first is = grind (arith, is)
+    → slot_value (drop first bytes) (record { form = form; width = width; offset = n })
+    ≡ record { form = form; number = number_in format bytes first (positions.At n layout) }
+width_value format layout width form n bytes first is = rw (← width_number format layout width n bytes first is, drop-drop n first bytes)
+    (grind (arith, length-drop first bytes))

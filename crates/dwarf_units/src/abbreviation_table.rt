@@ -1,12 +1,11 @@
 //! Abbreviation tables for units of a format (DWARF 5, 7.5.3).
 
-ghost use Rattle.std.specs.Prelude.{◌≡◌, ◌+◌, ◌≤◌, ◌⊎◌, None, Ok, Err, length, IfOk, IfNone};
-ghost use Rattle.std.specs.Prelude.{IfSome};
+ghost use Rattle.std.specs.Prelude.{Err, IfNone, IfOk, IfSome, None, Ok, length, ◌+◌, ◌≡◌, ◌≤◌};
+ghost use Rattle.std.specs.Prelude.{◌⊎◌};
 ghost use Rattle.dwarf_bytes.specs.Refusals.{Decodes, in_section, memory_fault};
 ghost use Rattle.dwarf_forms.specs.Tables.{declarations_of};
-ghost use Rattle.dwarf_units.specs.Entries.{declaration_of};
-ghost use Rattle.dwarf_units.specs.Private.AbbreviationTables.{table_size};
-ghost use Rattle.dwarf_units.specs.{Private.Declarations.IsDeclaration, Private.Tables.IsAt};
+ghost use Rattle.dwarf_units.specs.{Entries.declaration_of, Private.AbbreviationTables.table_size};
+ghost use Rattle.dwarf_units.specs.Private.{Declarations.IsDeclaration, Tables.IsAt};
 ghost use Rattle.dwarf_bytes.specs.declared.fault.Section.TheVariants as sections;
 
 use crate::attribute_runs::AttributeRuns;
@@ -42,8 +41,7 @@ pub(crate) struct AbbreviationTable<'a> {
 }
 
 impl<'a> Model for AbbreviationTable<'a> {
-    ghost use Rattle.std.specs.Prelude.{◌≡◌, ◌≤◌, ◌*◌, length, map};
-    ghost use Rattle.std.specs.List.{All};
+    ghost use Rattle.std.specs.{List.All, Prelude.{length, map, ◌*◌, ◌≡◌, ◌≤◌}};
     ghost use Rattle.abbreviation_memo.specs.declared.list_end.TheConstants.{UNSHARED};
     ghost use Rattle.dwarf_units.specs.Private.AbbreviationTables.{Table, unshared_count};
     ghost use Rattle.dwarf_units.specs.Private.Declarations.{IsStored, full_declarations};

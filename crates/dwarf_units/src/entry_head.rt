@@ -1,11 +1,10 @@
 //! Reading entries and null entries of a unit (DWARF 5, 2.3, 7.5.2 and 7.5.3).
 
-ghost use Rattle.std.specs.Prelude.{◌≡◌, ◌≤◌, IsSome, IfOk, option_map};
+ghost use Rattle.std.specs.Prelude.{IfOk, IsSome, option_map, ◌≡◌, ◌≤◌};
 ghost use Rattle.dwarf_bytes.specs.Refusals.{ReadsField};
-ghost use Rattle.dwarf_units.specs.{Entries.{declaration_of, depth_limit}, Private.Heads.head_at};
-ghost use Rattle.dwarf_units.specs.Private.Heads.{head_in, used_entry_at, ReturnsAndFills};
-ghost use Rattle.dwarf_units.specs.Private.StoredAttributes.{Fills};
-ghost use Rattle.dwarf_units.specs.Private.Used.{used_attributes_at};
+ghost use Rattle.dwarf_units.specs.Entries.{declaration_of, depth_limit};
+ghost use Rattle.dwarf_units.specs.Private.Heads.{ReturnsAndFills, head_at, head_in, used_entry_at};
+ghost use Rattle.dwarf_units.specs.Private.{StoredAttributes.Fills, Used.used_attributes_at};
 
 use crate::abbreviation_table::AbbreviationDeclaration;
 use crate::linked_lists::LinkedLists;

@@ -1,12 +1,11 @@
 //! Theorems about the entries of every unit.
 
-ghost use Rattle.std.specs.Prelude.{◌≡◌, ℕ, List, [], Some, Ok, map, slice_get, take};
-ghost use Rattle.std.specs.List.Sorted.{IsStrictlyIncreasing};
-ghost use Rattle.dwarf_bytes.specs.{declared.format.Format.Format, Items.items_from};
+ghost use Rattle.std.specs.{List.Sorted.IsStrictlyIncreasing, Prelude.{List, Ok, Some, [], map}};
+ghost use Rattle.std.specs.Prelude.{slice_get, take, ℕ, ◌≡◌};
+ghost use Rattle.dwarf_bytes.specs.{Items.items_from, declared.format.Format.Format};
 ghost use Rattle.dwarf_forms.specs.Declarations.{Declaration};
-ghost use Rattle.dwarf_units.specs.declared.unit_headers.UnitHeader.{UnitHeader};
-ghost use Rattle.dwarf_units.specs.Entries.{LocatedNode, Die, AreDepths, node_at, entry_at};
-ghost use Rattle.dwarf_units.specs.Entries.{entries_of};
+ghost use Rattle.dwarf_units.specs.Entries.{AreDepths, Die, LocatedNode, entries_of, entry_at};
+ghost use Rattle.dwarf_units.specs.{Entries.node_at, declared.unit_headers.UnitHeader.UnitHeader};
 
 /// The depth of each entry or null entry is the number of entries with children before it, less
 /// the number of null entries before it that are at a depth above 0.

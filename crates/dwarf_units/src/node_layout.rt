@@ -6,8 +6,7 @@ ghost use Rattle.dwarf_units.specs.Private.NodeLayouts.{AreLayouts, IsLayoutOf, 
 ghost use Rattle.dwarf_units.specs.Private.NodeLayouts.{code_count};
 
 use crate::abbreviation_table::{AbbreviationDeclaration, AbbreviationTable};
-use crate::used_name::ENTRY_SLOTS;
-use crate::value_slot::{ValueSlot, slots_of};
+use crate::value_slot::{ValueSlots, slots_of};
 use dwarf_bytes::Format;
 use std::alloc::{AllocError, Global};
 
@@ -18,9 +17,9 @@ const CODE_LIMIT: u64 = 127;
 #[derive(Clone, Copy)]
 pub struct NodeShape {
     /// The tag of the entries. It is 0 if the node is a null entry.
-    pub tag: u16,
+    pub tag: u32,
     /// The size of the attributes in bytes.
-    pub(crate) len: u16,
+    pub(crate) len: u32,
     pub is_null: bool,
     /// Whether the entries are followed by their children.
     pub children: bool,
@@ -31,7 +30,7 @@ pub struct NodeShape {
 #[derive(Clone, Copy)]
 pub(crate) struct NodeLayout {
     pub(crate) shape: NodeShape,
-    pub(crate) slots: Option<[ValueSlot; ENTRY_SLOTS]>,
+    pub(crate) slots: Option<ValueSlots>,
 }
 
 impl NodeLayout {
@@ -46,9 +45,9 @@ impl NodeLayout {
         let len = declaration.runs.fixed_size()?;
         let shape = NodeShape {
             is_null: false,
-            tag: u16::try_from(declaration.head.tag).ok()?,
+            tag: u32::try_from(declaration.head.tag).ok()?,
             children: declaration.head.children,
-            len,
+            len: u32::from(len),
         };
         let slots = slots_of(format, declaration.runs.last_positions());
         Some(NodeLayout { shape, slots })

@@ -1,17 +1,15 @@
 //! The abbreviation table of one unit (DWARF 5, 7.5.3).
 
-ghost use Rattle.std.specs.Prelude.{◌≡◌, ◌<◌, ◌≤◌, IfSome, Ok, length, option_copied};
-ghost use Rattle.std.specs.Prelude.{option_map};
-ghost use Rattle.dwarf_units.specs.{Entries.depth_limit, Private.NodeLayouts.IsFixedSizeNode};
-ghost use Rattle.dwarf_units.specs.Private.{Heads.used_entry_at, NodeLayouts.fixed_size_node_at};
-ghost use Rattle.dwarf_units.specs.Private.NodeLayouts.{IsLayoutAt, shape_at};
+ghost use Rattle.std.specs.Prelude.{IfSome, Ok, length, option_copied, option_map, ◌<◌, ◌≡◌, ◌≤◌};
+ghost use Rattle.dwarf_units.specs.{Entries.depth_limit, Private.Heads.used_entry_at};
+ghost use Rattle.dwarf_units.specs.Private.NodeLayouts.{IsFixedSizeNode, IsLayoutAt};
+ghost use Rattle.dwarf_units.specs.Private.NodeLayouts.{fixed_size_node_at};
 
 use crate::cached_table::CachedTable;
 use crate::entry_head::DEPTH_LIMIT;
-use crate::fixed_size_values::{FixedSizeEntry, FixedSizeValues};
 use crate::linked_lists::LinkedLists;
 use crate::node_layout::{NodeLayout, NodeShape};
-use dwarf_bytes::Cursor;
+use crate::value_slot::{FixedSizeEntry, FixedSizeValues, WINDOW};
 use std::marker::Model;
 
 /// A cached abbreviation table, together with the attribute lists that its declarations share.
@@ -65,15 +63,6 @@ impl<'a> UnitTable<'a> {
         self.layouts.get(usize::from(code))?.as_ref()
     }
 
-    /// Returns the shape of the nodes with a one-byte code, if there is one.
-    // Inlined: called for each entry.
-    #[inline(always)]
-    fn shape(&self, code: u8) -> Option<&'a NodeShape>
-        ensures { option_copied result ≡ shape_at self.now code }
-    {
-        Some(&self.layout(code)?.shape)
-    }
-
     /// Returns the shape of the node at an offset and the offset after the node, if the node has a
     /// fixed size, is below the root, and is not truncated.
     // Inlined: called for each entry.
@@ -95,15 +84,16 @@ impl<'a> UnitTable<'a> {
             return None;
         }
         let code = *bytes.get(place)?;
-        let shape = self.shape(code)?;
-        let after = place + 1 + u32::from(shape.len) as usize;
+        let shape = &self.layout(code)?.shape;
+        let after = place + 1 + u64::from(shape.len) as usize;
         if after > bytes.len() {
             return None;
         }
         Some((shape, after))
     }
 
-    /// Re-reads the entry at an offset, if its layout has slots. Its values are read on demand.
+    /// Re-reads the entry at an offset, if its layout has slots and `WINDOW` bytes follow its code.
+    /// Its values are read on demand.
     // Inlined: called for each scope and each reference.
     #[inline(always)]
     pub fn fixed_size_entry(&self, bytes: &'a [u8], place: usize) -> Option<FixedSizeEntry<'a>>
@@ -114,14 +104,19 @@ impl<'a> UnitTable<'a> {
         let code = *bytes.get(place)?;
         let layout = self.layout(code)?;
         let slots = layout.slots.as_ref()?;
-        let mut cursor = Cursor::new(bytes);
-        cursor.seek(place + 1).ok()?;
-        let first = cursor.fork();
-        cursor.block(u64::from(layout.shape.len)).ok()?;
+        let rest = &bytes[place + 1..];
+        if rest.len() < WINDOW {
+            return None;
+        }
+        let shape = &layout.shape;
+        let after = place + u64::from(shape.len) as usize + 1;
+        if bytes.len() < after {
+            return None;
+        }
         Some(FixedSizeEntry {
-            tag: u64::from(layout.shape.tag),
-            after: cursor.place(),
-            values: FixedSizeValues { first, slots },
+            tag: u64::from(shape.tag),
+            after,
+            values: FixedSizeValues { bytes: rest, slots },
         })
     }
 }

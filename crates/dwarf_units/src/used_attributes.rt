@@ -1,13 +1,21 @@
 //! The used attributes of an entry, by name (DWARF 5, 2.2).
 
 ghost use Rattle.std.specs.Prelude.{◌≡◌, ◌∷◌, []};
-ghost use Rattle.dwarf_units.specs.{Private.Names.named_attribute, Used.used_among};
-ghost use Rattle.dwarf_units.specs.Private.Used.{with_used};
+ghost use Rattle.dwarf_units.specs.{Private.Names.named_attribute, Used.{Used, used_among}};
+ghost use Rattle.dwarf_units.specs.{Private.Used.with_used, Used.value_named};
 
 use crate::attributes::AttributeValue;
-use crate::entry_values::EntryValues;
 use crate::used_name::{SLOTS, UsedName};
 use std::marker::Model;
+
+/// The values of the used attributes of an entry by name.
+pub trait EntryValues {
+    ghost used: { Self → Used };
+
+    /// Returns the value of an attribute, if the entry has it.
+    fn value(&self, name: UsedName) -> Option<AttributeValue>
+        ensures { result ≡ value_named name (used self.now) };
+}
 
 /// The values of the used attributes of an entry. The first of two values counts.
 #[derive(Drop)]

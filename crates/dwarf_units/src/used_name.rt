@@ -9,6 +9,8 @@ use dwarf_bytes::constants::*;
 pub(crate) const SLOTS: usize = 13;
 /// The number of slots whose names are not for roots alone. They are the first ones.
 pub(crate) const ENTRY_SLOTS: usize = 9;
+/// The slot of the call_file.
+pub(crate) const CALL_FILE_SLOT: usize = 7;
 
 /// The name of a used attribute.
 #[derive(Clone, Copy)]

@@ -43,6 +43,7 @@ impl UsedPosition {
     }
 
     /// Reads the value of the attribute in the entry whose first attribute is at the cursor.
+    #[tactic(auto, using(crate::proofs::SlotLaws::width_number))]
     pub(crate) fn read(&self, format: Format, first: &Cursor) -> AttributeValue
         ensures { named_attribute self.now.name result
             ≡ attribute_in format first.now.bytes first.now.place self.now }

@@ -7,15 +7,15 @@ use Rattle.dwarf_units.specs.NodeShapes.{HasShape, null_shape}
 use Rattle.dwarf_units.specs.Private.{AbbreviationTables.Table, Runs.{fixed_size, runs_of}}
 use Rattle.dwarf_units.specs.Private.{Slots.used_in, Used.used_attributes_at}
 use Rattle.dwarf_units.specs.declared.node_layout.{NodeLayout.NodeLayout, NodeShape.NodeShape}
-use Rattle.dwarf_units.specs.declared.value_slot.ValueSlot.{ValueSlot}
-use Rattle.std.specs.Prelude.{IfSome, List, None, Ok, Option, Some, false, if◌then◌else◌, length}
+use Rattle.dwarf_units.specs.declared.value_slot.ValueSlots.{ValueSlots}
+use Rattle.std.specs.Prelude.{IfSome, List, None, Ok, Option, Some, drop, false, if◌then◌else◌, length}
 use Rattle.std.specs.Prelude.{min, nat_lt, option_and_then, option_map, slice_get, true, ℕ, ◌+◌}
 use Rattle.std.specs.Prelude.{◌&&◌, ◌==◌, ◌^◌, ◌||◌, ◌≡◌, ◌≤◌}
 
 -- The shape of the entries of a declaration, if their size is fixed. A declaration with UNSHARED
 -- attributes or more may share some.
 abbrev pub shape_of : Format → Declaration → Option NodeShape
-shape_of format d = if nat_lt (length d.attributes) UNSHARED && nat_lt d.tag (2 ^ 16)
+shape_of format d = if nat_lt (length d.attributes) UNSHARED && nat_lt d.tag (2 ^ 32)
     then option_map (λ len. record {
       is_null = false;
       tag = d.tag;
@@ -38,10 +38,10 @@ abbrev pub code_count : {D : Type 0} → List D → ℕ
 code_count declarations = min (length declarations) code_limit + 1
 
 -- The slots have the used attributes of each entry of a declaration that is not truncated.
-abbrev pub HasUsed : Format → Declaration → ℕ → List ValueSlot → Type 0
+abbrev pub HasUsed : Format → Declaration → ℕ → ValueSlots → Type 0
 HasUsed format d len slots = (bytes : List ℕ) (first : ℕ) → first + len ≤ length bytes
     → used_attributes_at true format d.attributes bytes first
-    ≡ Ok (used_in slots bytes first, first + len)
+    ≡ Ok (used_in slots (drop first bytes), first + len)
 
 -- The layout has the shape of the entries of a declaration, and may have slots for them.
 pub record IsLayoutOf (format : Format) (d : Declaration) (layout : Option NodeLayout) : Type 0

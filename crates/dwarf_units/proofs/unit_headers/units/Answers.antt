@@ -1,6 +1,5 @@
-use Rattle.dwarf_units.proofs.{◌≡◌, arith, filter, is_read}
-use Rattle.dwarf_units.specs.Units.{units_of}
 use Rattle.std.proofs.{Common.rules, lemmas.List.Elements.filter_from_retain}
+use Rattle.dwarf_units.{proofs.{arith, filter, is_read, ◌≡◌}, specs.Units.units_of}
 use Rattle.dwarf_units.proofs.unit_headers.units.Goals as goal
 
 pub returns : goal.returns

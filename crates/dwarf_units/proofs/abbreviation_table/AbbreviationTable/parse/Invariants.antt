@@ -1,5 +1,4 @@
-use Rattle.dwarf_forms.proofs.Loops.{ItemsSoFar}
-use Rattle.dwarf_forms.specs.Tables.{declaration_at}
+use Rattle.dwarf_forms.{proofs.Loops.ItemsSoFar, specs.Tables.declaration_at}
 use Rattle.dwarf_units.proofs.{All, IsStored, full_declarations, length, map, unshared_count, ◌*◌}
 use Rattle.dwarf_units.proofs.{◌-◌, ◌≡◌, ◌≤◌}
 use Rattle.dwarf_units.proofs.abbreviation_table.AbbreviationTable.parse.Given as goal

@@ -1,5 +1,5 @@
-use Rattle.dwarf_units.proofs.{◌≡◌, ap, sym, ◌∙◌, arith, common_steps, Some, slice_get}
-use Rattle.dwarf_units.proofs.{option_copied, got, layout-entry}
+use Rattle.dwarf_units.proofs.{◌≡◌, ap, sym, ◌∙◌, arith, Some, slice_get}
+use Rattle.dwarf_units.proofs.{common_steps, option_copied, got, layout-entry}
 use Rattle.dwarf_units.proofs.unit_table.UnitTable.fixed_size_entry.Goals as goal
 
 pub returns-clause-entry : goal.returns-clause-entry
@@ -10,9 +10,7 @@ returns-clause-entry c =
     c.get.ensures.lookup.1) ∙ ap (λ r. option_copied r) c.in_ok-code.was in
     let slots = (rw c.in_ok-layout.was at c.layout.ensures).slots in
     let some = sym c.as_ref.ensures.value ∙ ap (λ r. option_copied r) c.in_ok-slots.was in
-    grind (
-      arith,
-      common_steps,
-      layout-entry c.args.self.now code c.args.bytes.now c.args.place
-          c.in_ok-layout.layout.now c.in_ok-slots.slots.now slots.0 slots.1 some byte,
-    )
+    let read = layout-entry c.args.self.now code c.args.bytes.now c.args.place
+    c.in_ok-layout.layout.now c.in_ok-slots.slots.now slots.0 slots.1 some byte
+    (omega (arith, c.if-bytes-after.false, c.from.ensures)) in
+    grind (arith, common_steps, read)

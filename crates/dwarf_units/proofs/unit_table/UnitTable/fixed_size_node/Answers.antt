@@ -8,7 +8,8 @@ returns-clause-node c =
     let byte : slice_get c.args.bytes.now c.args.place ≡ Some code =
     sym (got c.args.bytes.now c.args.place c.get.result c.get.ensures.lookup.0
     c.get.ensures.lookup.1) ∙ ap (λ r. option_copied r) c.in_ok-code.was in
+    let layout = rw c.in_ok-shape.was at c.layout.ensures in
     rw c.from.ensures (shape-there c.args.self.now c.args.depth code c.args.bytes.now c.args.place
-    c.in_ok-shape.shape.now (sym c.in_ok-shape.ensures) byte (omega (arith, c.if-depth-eq0.false))
+    c.in_ok-shape.field-0.now.shape (sym layout.shape) byte (omega (arith, c.if-depth-eq0.false))
     (omega (arith, c.if-depth-gt-DEPTH_LIMIT.false))
     (omega (arith, c.if-after-bytes.false, c.from.ensures)))
