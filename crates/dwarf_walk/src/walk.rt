@@ -176,6 +176,7 @@ pub(crate) fn unit_bytes<'a>(info: &'a [u8], header: &UnitHeader) -> &'a [u8]
 
 /// Reads the entry at the cursor, or returns `None` for a null entry. `rooted` is whether the root
 /// of the unit is before it. If it is not, the used attributes are stored in `found`.
+// Inlined: called for each entry of a variable size.
 #[inline(always)]
 fn node(
     table: &UnitTable<'_>,
