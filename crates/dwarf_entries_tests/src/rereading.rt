@@ -12,7 +12,8 @@ use std::test::*;
 type Value = (UsedName, Option<(u64, u64)>);
 
 /// Reads the subprogram of a unit, which is at offset 13, with attributes of these names and
-/// forms. Checks some values, the end of the entry, and whether its size is fixed.
+/// forms. Checks some values, the end of the entry, and whether its size is fixed, if 263 bytes
+/// follow the unit.
 fn is_read(
     rt: &(impl Abort + AllocGlobal),
     forms: &[u8],
@@ -22,7 +23,7 @@ fn is_read(
     fixed: bool,
 ) {
     let table = declarations(rt, (&[], &[]), (forms, &[]));
-    let info = one_scope(rt, (&[], &[]), (&[], bytes));
+    let mut info = one_scope(rt, (&[], &[]), (&[], bytes));
     let headers = expect(rt, units(rt.alloc(), &info).ok(), "the unit is refused");
     let Ok(mut tables) = Tables::validate(rt.alloc(), &table, &headers) else {
         panic!(rt; "the table is refused");
@@ -38,6 +39,7 @@ fn is_read(
         false,
     );
     let table = tables.table(number);
+    put(rt, &mut info, &[0; 263]);
     is_entry(rt, &table, &info, values, end);
     if fixed {
         is_fixed(rt, &table, &info, values, end);
@@ -62,7 +64,7 @@ fn is_entry(rt: &impl Abort, table: &UnitTable<'_>, info: &[u8], values: &[Value
 }
 
 /// Reads the values of the entry at offset 13 by their positions. Checks that it is not found if
-/// its last byte is missing, and that the null entry after it is not found.
+/// only 262 bytes follow its code, and that the null entry after it is not found.
 fn is_fixed(rt: &impl Abort, table: &UnitTable<'_>, info: &[u8], values: &[Value], end: usize) {
     let entry = expect(
         rt,
@@ -74,11 +76,7 @@ fn is_fixed(rt: &impl Abort, table: &UnitTable<'_>, info: &[u8], values: &[Value
     for (name, parts) in values {
         are_equal(rt, parts_of(entry.values.value(*name)), *parts);
     }
-    let part = expect(
-        rt,
-        info.get(..end.saturating_sub(1)),
-        "the unit ends before the entry",
-    );
+    let part = expect(rt, info.get(..276), "the unit ends too early");
     are_equal(rt, table.fixed_size_entry(part, 13).is_some(), false);
     are_equal(rt, table.fixed_size_entry(info, end).is_some(), false);
 }
