@@ -51,6 +51,8 @@ pub enum Form {
 
 impl Form {
     /// Returns the form with a number, or `None` if the form is not supported.
+    // Inlined into other crates: each attribute of a table asks for its form two or three times.
+    #[inline(always)]
     pub fn of(number: u64) -> Option<Form>
         ensures { result ≡ form_of number }
     {

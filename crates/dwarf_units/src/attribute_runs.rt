@@ -46,7 +46,9 @@ impl AttributeRuns {
         let mut used = Vec::with_capacity(alloc, used_count(declared))?;
         for specification in declared {
             if let Some(end) = end_of(format, len, specification) {
-                push_position(&mut used, UsedPosition::of(len, specification))?;
+                if let Some(position) = UsedPosition::of(len, specification) {
+                    push_position(&mut used, Some(position))?;
+                }
                 len = end;
                 continue;
             }

@@ -22,6 +22,8 @@ pub(crate) fn end_of(
 
 /// Returns the size in bytes of every value of an attribute, if it is fixed and if such a value is
 /// invalid only when bytes are missing.
+// Inlined: called for each attribute of a table.
+#[inline(always)]
 #[tactic(auto, unfolding(crate::specs::Private::FixedSizes::fixed_len))]
 pub(crate) fn fixed_len(format: Format, specification: &AttributeSpecification) -> Option<u16>
     ensures { result ≡ fixed_len format specification.now }
