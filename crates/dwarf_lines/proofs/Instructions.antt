@@ -3,3 +3,5 @@ pub mod InstructionReads
 pub mod OperandEncodings
 pub mod Operands
 pub mod ReadingLaws
+pub mod ShortOperands
+pub mod UsualReads

@@ -3,3 +3,4 @@ pub mod StepKinds
 pub mod StepRows
 pub mod Steps
 pub mod Turns
+pub mod UsualSteps

@@ -15,6 +15,9 @@ mod program_bounds;
 mod programs;
 mod registers;
 mod row;
+mod usual_operands;
+mod usual_registers;
+mod usual_rows;
 
 pub use dwarf_bytes::Text;
 pub use lines::LineTables;

@@ -9,6 +9,7 @@ use crate::instruction::decode;
 use crate::line_encoding::LineEncoding;
 use crate::registers::Registers;
 use crate::row::{Origin, Row};
+use crate::usual_rows::run_usual;
 use dwarf_bytes::{Cause, Cursor};
 
 /// Appends the rows of the instructions from offset `start` on.
@@ -30,9 +31,12 @@ pub fn add_rows(
     }
     let mut registers = Registers::at_start();
     while cursor.place() < bytes.len() {
-        let instruction = decode(header, &mut cursor)?;
-        if let Some(row) = registers.step(header, origin, instruction)? {
-            rows.push(row)?;
+        run_usual(header, origin, bytes, &mut cursor, &mut registers, rows)?;
+        if cursor.place() < bytes.len() {
+            let instruction = decode(header, &mut cursor)?;
+            if let Some(row) = registers.step(header, origin, instruction)? {
+                rows.push(row)?;
+            }
         }
     }
     if registers.has_row {

@@ -25,8 +25,8 @@ from-on : (base opcode : ℕ) → base ≤ opcode → nat_le base opcode ≡ tru
 from-on base opcode h = grind (arith, nat_tests)
 
 module _ (e : Encoding) (bytes : List ℕ) (at : ℕ) where
-  standard_is : (opcode place : ℕ) → u8_at bytes at ≡ Ok (opcode, place) → opcode < e.opcode_base
-      → opcode ≢ 0
+  pub standard_is : (opcode place : ℕ) → u8_at bytes at ≡ Ok (opcode, place)
+      → opcode < e.opcode_base → opcode ≢ 0
       → instruction_at e bytes at ≡ standard_at e opcode bytes place
   unfolding instruction_at
   standard_is opcode place byte known some =
@@ -80,7 +80,7 @@ module _ (e : Encoding) (bytes : List ℕ) (at : ℕ) where
         operands,
       ) refl
 
-  special_is : (adjusted next : ℕ) → u8_at bytes at ≡ Ok (adjusted + e.opcode_base, next)
+  pub special_is : (adjusted next : ℕ) → u8_at bytes at ≡ Ok (adjusted + e.opcode_base, next)
       → instruction_at e bytes at ≡ Ok (Special adjusted, next)
   unfolding instruction_at
   special_is adjusted next byte =

@@ -1,8 +1,8 @@
 -- The rows that a loop over the instructions has made, and those that it has yet to make.
-use Rattle.std.proofs.Common.{◌≡◌, ℕ, zero, suc, ◌-◌, ◌+◌, ◌*◌, ◌^◌, ◌≤◌, ◌<◌, List, [], ◌∷◌, ◌++◌}
+use Rattle.std.proofs.Common.{◌≡◌, ℕ, zero, suc, ◌-◌, ◌*◌, ◌^◌, ◌≤◌, ◌<◌, List, [], ◌∷◌, ◌++◌}
 use Rattle.std.proofs.Common.{length, Bool, true, false, Some, None, Result, Ok, Err, refl, sym, ap}
 use Rattle.std.proofs.Common.{◌∙◌, arith, append_assoc}
-use Rattle.std.specs.Prelude.{pos, unsigned_abs}
+use Rattle.std.specs.Prelude.{pos}
 use Rattle.std.proofs.lemmas.List.{append-nil}
 use Rattle.std.proofs.lemmas.Bool.{lt-ltb, le-ltb}
 use Rattle.dwarf_bytes.specs.Bind.{◌>>=◌}
@@ -17,15 +17,7 @@ use Rattle.dwarf_lines.specs.Instructions.{reading_from}
 use Rattle.dwarf_lines.specs.Matrix.{made, rows_from, ending, is_open, latest_first, matrix_after}
 use Rattle.dwarf_lines.specs.Matrix.{matrix_at, with_front}
 use Rattle.dwarf_lines.specs.Private.Registers.{AreRegisters, Reaches, line_reach}
-
--- The invariant of a loop over the instructions of the bytes: the current offset, the instructions
--- before it, and the remaining number of steps.
-pub record IsRunning (e : Encoding) (o : Origin) (bytes : List ℕ) (total : Result (List Row) Cause)
-    (before : List Instruction) (steps place : ℕ) (r : Registers) (rows : List Row) : Type 0 where
-  pub registers : AreRegisters e before r
-  pub enough : length bytes ≤ steps + place
-  pub outcome : with_front rows (matrix_after e o before (reading_from steps e bytes place)) ≡ total
-  pub line : unsigned_abs r.line ≤ 1 + (2 ^ 62 + 2 ^ 10) * place
+use Rattle.dwarf_lines.specs.Private.Runs.{IsRunning}
 
 regroup : (row rows : Result (List Row) Cause) (ended : Result ℕ Cause)
     → ((row >>= λ row. rows >>= λ rows. Ok (row ++ rows)) >>= λ rows. ended >>= λ _. Ok rows)
