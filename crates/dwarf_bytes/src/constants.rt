@@ -130,6 +130,10 @@ pub const DW_LNS_ADVANCE_LINE: u8 = 0x03;
 
 pub const DW_LNS_SET_FILE: u8 = 0x04;
 
+pub const DW_LNS_SET_COLUMN: u8 = 0x05;
+
+pub const DW_LNS_NEGATE_STMT: u8 = 0x06;
+
 pub const DW_LNS_CONST_ADD_PC: u8 = 0x08;
 
 pub const DW_LNS_FIXED_ADVANCE_PC: u8 = 0x09;

@@ -11,11 +11,13 @@ ghost use Rattle.dwarf_lines.specs.Private.Runs.{machine_of, AreUsual, ExecutesA
 ghost use Rattle.dwarf_lines.specs.Private.Runs.{AdvancesLine, AdvancesAddress};
 ghost use Rattle.dwarf_lines.specs.Private.Operands.{HasUsualOperands};
 
-use crate::line_encoding::{DW_LNS_SET_COLUMN, LineEncoding};
+use crate::line_encoding::LineEncoding;
 use crate::registers::Registers;
 use crate::row::{Origin, Row};
 use crate::usual_operands::{signed_at, unsigned_at};
-use dwarf_bytes::constants::{DW_LNS_ADVANCE_LINE, DW_LNS_ADVANCE_PC, DW_LNS_SET_FILE};
+use dwarf_bytes::constants::{
+    DW_LNS_ADVANCE_LINE, DW_LNS_ADVANCE_PC, DW_LNS_SET_COLUMN, DW_LNS_SET_FILE,
+};
 
 /// The registers of a sequence that is not dead code, if its next row can be built.
 #[derive(Clone, Copy)]
@@ -209,7 +211,7 @@ impl UsualRegisters {
     /// offset after it. Otherwise changes nothing.
     // Inlined: called for most instructions.
     #[inline(always)]
-    pub fn quiet(
+    pub fn step_with_operand(
         &mut self,
         header: &LineEncoding,
         origin: Origin,

@@ -4,12 +4,12 @@ ghost use Rattle.std.specs.Prelude.{◌≡◌, ◌≤◌, ◌<◌, length, IfOk}
 ghost use Rattle.dwarf_lines.specs.Instructions.{encoding};
 ghost use Rattle.dwarf_lines.specs.Private.Runs.{Runs};
 
-use crate::line_encoding::{DW_LNS_NEGATE_STMT, LineEncoding};
+use crate::line_encoding::LineEncoding;
 use crate::registers::Registers;
 use crate::row::{Origin, Row};
 use crate::usual_registers::UsualRegisters;
 use dwarf_bytes::Cursor;
-use dwarf_bytes::constants::DW_LNS_COPY;
+use dwarf_bytes::constants::{DW_LNS_COPY, DW_LNS_NEGATE_STMT};
 use std::alloc::AllocError;
 
 /// Executes the instructions at the cursor up to an unusual one, and appends their rows.
@@ -51,7 +51,7 @@ pub fn run_usual(
         } else if opcode == DW_LNS_NEGATE_STMT {
             at += 1;
         } else {
-            let Some(next) = usual.quiet(header, origin, bytes, at) else {
+            let Some(next) = usual.step_with_operand(header, origin, bytes, at) else {
                 break;
             };
             at = next;

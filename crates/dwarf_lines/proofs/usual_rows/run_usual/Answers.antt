@@ -58,7 +58,7 @@ loop-at-preserved-then-opcode-eq-DW_LNS_NEGATE_STMT c =
 
 pub loop-at-preserved : goal.loop-at-preserved
 loop-at-preserved c =
-    let quiet = c.in-Some-quiet.ensures in
+    let quiet = c.in-Some-step_with_operand.ensures in
     let moves = quiet.executes.moves in record {
       within = quiet.within;
       moved = let moved = c.loop-at.invariant.moved in omega (arith, moved, moves);

@@ -2,7 +2,7 @@ use Rattle.dwarf_lines.specs.Instructions.{encoding}
 use Rattle.dwarf_lines.specs.Private.Runs.{machine_of}
 use Rattle.dwarf_lines.proofs.Machine.UsualSteps.{column-step, lines-step, pc-step}
 use Rattle.dwarf_lines.proofs.Machine.UsualSteps.{files-step, where-some}
-use Rattle.dwarf_lines.proofs.usual_registers.UsualRegisters.quiet.Goals as goal
+use Rattle.dwarf_lines.proofs.usual_registers.UsualRegisters.step_with_operand.Goals as goal
 
 pub returns-in_ok-unsigned_at-in-5-clause-executes :
     goal.returns-in_ok-unsigned_at-in-5-clause-executes
