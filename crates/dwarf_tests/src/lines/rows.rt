@@ -43,6 +43,45 @@ fn a_file_is_set_and_a_line_is_advanced(rt: HostRuntime) {
 }
 
 #[test]
+fn operands_have_one_byte_or_more(rt: HostRuntime) {
+    // set_address 0x1000, advance_line 200, set_column 300, copy, negate_stmt, advance_line -200,
+    // advance_pc 300, special +4 +1, set_column 16,384, const_add_pc, advance_line 16,384,
+    // set_file 0, copy, set_basic_block, set_file 1, special +0 +0, fixed_advance_pc 5, end
+    let mut of_file_0 = row(0, 0x1141, 16_386);
+    of_file_0.file = 0;
+    have_rows(
+        &rt,
+        &[
+            0, 9, 2, 0, 0x10, 0, 0, 0, 0, 0, 0, 3, 0xc8, 1, 5, 0xac, 2, 1, 6, 3, 0xb8, 0x7e, 2,
+            0xac, 2, 0x4b, 5, 0x80, 0x80, 1, 8, 3, 0x80, 0x80, 1, 4, 0, 1, 7, 4, 1, 0x12, 9, 5, 0,
+            0, 1, 1,
+        ],
+        &[
+            row(0, 0x1000, 201),
+            row(0, 0x1130, 2),
+            of_file_0,
+            row(0, 0x1141, 16_386),
+            end(0, 0x1146),
+        ],
+    );
+}
+
+#[test]
+fn rows_after_valid_ones_are_refused(rt: HostRuntime) {
+    // copy, special +0 -5, end; copy, set_file 2, copy, end
+    have_fault(&rt, &[1, 0x0d, 0, 1, 1], Cause::LineRange);
+    have_fault(&rt, &[1, 4, 2, 1, 0, 1, 1], Cause::FileIndex);
+    // copy, set_address 2^64 - 2, special +4 +1, end
+    have_fault(
+        &rt,
+        &[
+            1, 0, 9, 2, 254, 255, 255, 255, 255, 255, 255, 255, 0x4b, 0, 1, 1,
+        ],
+        Cause::Overflow,
+    );
+}
+
+#[test]
 fn rows_of_one_and_two_sequences(rt: HostRuntime) {
     let rows = [row(0, 0x1000, 10), row(0, 0x1004, 11), end(0, 0x1010)];
     has_rows(&rt, &one_sequence(), &rows);
