@@ -1,6 +1,6 @@
 //! A run of attributes: attributes of a fixed size, and the attribute after them (DWARF 5, 7.5.3).
 
-ghost use Rattle.std.specs.{Prelude.{◌≡◌, ◌++◌, ◌∷◌, [], IfOk, OnOk}, Option.option_to_list};
+ghost use Rattle.std.specs.Prelude.{◌≡◌, ◌++◌, ◌∷◌, [], IfOk, OnOk};
 ghost use Rattle.dwarf_bytes.specs.Refusals.{ReadsPlace};
 ghost use Rattle.dwarf_units.specs.{Private.FixedSizes.attributes_in, Private.Runs.end_in};
 ghost use Rattle.dwarf_units.specs.Private.Runs.{last_at, run_at, run_before, stretch_at};
@@ -109,7 +109,9 @@ impl AttributeRun {
             let last = LastAttribute::Checked(*specification);
             return Ok(AttributeRun { stretch, last });
         };
-        push_position(&mut used, UsedPosition::of(len, specification))?;
+        if let Some(position) = UsedPosition::of(len, specification) {
+            push_position(&mut used, position)?;
+        }
         let stretch = Stretch { len, used };
         let last = LastAttribute::Unchecked(layout);
         Ok(AttributeRun { stretch, last })
@@ -215,16 +217,14 @@ pub(crate) fn read_one(
     Ok(())
 }
 
-/// Appends a position, if there is one.
+/// Appends a position. Allocates memory for no more than it needs.
 pub(crate) fn push_position(
     used: &mut Vec<UsedPosition>,
-    position: Option<UsedPosition>,
+    position: UsedPosition,
 ) -> Result<(), AllocError>
-    ensures { OnOk result (used.new.items ≡ used.old.items ++ option_to_list position) }
+    ensures { OnOk result (used.new.items ≡ used.old.items ++ position ∷ []) }
 {
-    if let Some(position) = position {
-        used.reserve_exact(1)?;
-        used.push(position)?;
-    }
+    used.reserve_exact(1)?;
+    used.push(position)?;
     Ok(())
 }

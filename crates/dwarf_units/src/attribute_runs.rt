@@ -47,7 +47,7 @@ impl AttributeRuns {
         for specification in declared {
             if let Some(end) = end_of(format, len, specification) {
                 if let Some(position) = UsedPosition::of(len, specification) {
-                    push_position(&mut used, Some(position))?;
+                    push_position(&mut used, position)?;
                 }
                 len = end;
                 continue;
