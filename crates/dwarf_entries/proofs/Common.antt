@@ -59,11 +59,11 @@ pub use bytes.declared.fault.{LoadFault.LoadFault, Section.{Section, TheVariants
 pub use bytes.declared.fault.Section.TheVariants.{DebugInfo, DebugLineStr, DebugStr}
 pub use bytes.declared.{format.Format.Format, tables.TableKind.TheVariants.StrOffsets}
 pub use entries.Names.{EntryNames, Member, first_on, members_of, name_on, names_of, of_member}
-pub use entries.Names.{references_limit}
+pub use entries.Names.{member_at, references_limit}
 pub use entries.{Names.{target_of, text_in, text_of}, Order.{AreInOrder, AreNested, AreNumbered}}
 pub use entries.{Order.HasDataOf, Private.EntryOffsets.{AreStored, all_offsets, scope_count}}
 pub use entries.Private.{EntryOffsets.stored_unit_of, Members.{AreFirst, Finds, FindsFirst}}
-pub use entries.Private.Members.{IsFirst, IsMember, IsPlaceOf, IsWithin, LeadsTo, member_in}
+pub use entries.Private.Members.{IsFirst, IsMember, IsPlaceOf, LeadsTo, member_in}
 pub use entries.Private.NameCache.{IsCacheOf, second_names, slot_at, slot_of, target_names}
 pub use entries.Private.PackedNames.{unpacked_names, unpacked_text}
 pub use entries.Private.ObjectUnits.{AreUnitsOf, ObjectUnits, units_of_object, units_or_none}

@@ -29,25 +29,26 @@ impl<'a> Units<'a> {
     }
 
     /// Returns the names of the target of a reference in a unit. A cached result is returned
-    /// without a look at the bitmap, because only offsets of entries are cached.
+    /// without a look at the bitmap or a search for the unit, because only offsets of entries are
+    /// cached.
     fn target_names(&mut self, unit: usize, reference: AttributeValue) -> Result<PackedNames, Cause>
         ensures names { (u : CompilationUnit) → slice_get self.old.units unit ≡ Some u
             → Gives unpacked_names result
             (target_names self.old.sections self.old.units u reference) }
         ensures same { self.new ≡ self.old }
     {
-        let Some(place) = self.target_place(unit, reference) else {
+        let Some(offset) = self.target_offset(unit, reference) else {
             return Err(Cause::Reference);
         };
-        if let Some(names) = self.cache.get(place) {
+        if let Some(names) = self.cache.get(offset) {
             return Ok(names);
         }
-        if !self.has_entry(place) {
+        let Some(place) = self.entry_place(unit, offset) else {
             return Err(Cause::Reference);
-        }
+        };
         let next = self.reread_entry(place)?;
         let names = self.chain_names(next, REFERENCES_LIMIT - 1)?;
-        self.cache.put(place, names)?;
+        self.cache.put(offset, names)?;
         Ok(names)
     }
 }

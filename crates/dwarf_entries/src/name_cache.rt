@@ -7,32 +7,27 @@ ghost use Rattle.dwarf_entries.specs.{Names.EntryNames, Private.PackedNames.unpa
 ghost use Rattle.dwarf_entries.specs.Private.NameCache.{cached_names_of, slot_at, slot_of};
 
 use crate::origin_chains::PackedNames;
-use crate::references::UnitPlace;
 use dwarf_walk::narrow;
 use std::alloc::{AllocError, Global};
 
 /// The maximum number of cached targets.
 const SLOTS: usize = 4096;
 
-/// The unit and the offset of a target, and its names.
+/// The offset of a target in `.debug_info`, and its names.
 #[derive(Clone, Copy)]
 pub(crate) struct CachedTarget {
-    unit: u32,
     offset: u32,
     names: PackedNames,
 }
 
 impl CachedTarget {
-    /// Packs a target and its names. A number of 2^32 or more is reported as an allocation failure.
-    fn of(place: UnitPlace, names: PackedNames) -> Result<CachedTarget, AllocError>
+    /// Packs a target and its names. An offset of 2^32 or more is reported as an allocation failure.
+    fn of(offset: usize, names: PackedNames) -> Result<CachedTarget, AllocError>
         ensures { IfOk result (λ packed. cached_names_of packed
-            ≡ record { place = place; names = unpacked_names names }) }
+            ≡ record { offset = offset; names = unpacked_names names }) }
     {
-        Ok(CachedTarget {
-            unit: narrow(place.unit)?,
-            offset: narrow(place.offset)?,
-            names,
-        })
+        let offset = narrow(offset)?;
+        Ok(CachedTarget { offset, names })
     }
 }
 
@@ -52,32 +47,32 @@ impl NameCache {
         }
     }
 
-    /// Returns the names of the target at a place, if they are cached.
-    pub(crate) fn get(&self, place: UnitPlace) -> Option<PackedNames>
-        ensures some { IfSome result (λ names. slot_at self.now (slot_of place)
-            ≡ Some (record { place = place; names = unpacked_names names })) }
-        ensures found { (names : EntryNames) → slot_at self.now (slot_of place)
-            ≡ Some (record { place = place; names = names })
+    /// Returns the names of the target at an offset, if they are cached.
+    pub(crate) fn get(&self, offset: usize) -> Option<PackedNames>
+        ensures some { IfSome result (λ names. slot_at self.now (slot_of offset)
+            ≡ Some (record { offset = offset; names = unpacked_names names })) }
+        ensures found { (names : EntryNames) → slot_at self.now (slot_of offset)
+            ≡ Some (record { offset = offset; names = names })
             → option_map unpacked_names result ≡ Some names }
     {
-        let packed = self.slots.get(place.offset % SLOTS)?.as_ref()?;
-        if packed.unit as usize == place.unit && packed.offset as usize == place.offset {
+        let packed = self.slots.get(offset % SLOTS)?.as_ref()?;
+        if packed.offset as usize == offset {
             return Some(packed.names);
         }
         None
     }
 
-    /// Caches the names of the target at a place.
-    pub(crate) fn put(&mut self, place: UnitPlace, names: PackedNames) -> Result<(), AllocError>
+    /// Caches the names of the target at an offset.
+    pub(crate) fn put(&mut self, offset: usize, names: PackedNames) -> Result<(), AllocError>
         ensures ok { OnOk result ((slot : ℕ) → slot_at self.new slot
-            ≡ if slot == slot_of place then Some (record {
-              place = place;
+            ≡ if slot == slot_of offset then Some (record {
+              offset = offset;
               names = unpacked_names names;
             }) else slot_at self.old slot) }
         ensures err { OnErr result ((slot : ℕ) → slot_at self.new slot ≡ slot_at self.old slot) }
     {
-        let packed = CachedTarget::of(place, names)?;
-        let slot = place.offset % SLOTS;
+        let packed = CachedTarget::of(offset, names)?;
+        let slot = offset % SLOTS;
         self.reach(slot)?;
         self.slots[slot] = Some(packed);
         Ok(())

@@ -1,10 +1,10 @@
 //! Resolution of references to entries (DWARF 5, 2.13 and 7.5.5).
 
-ghost use Rattle.std.specs.Prelude.{◌≡◌, ◌<◌, ◌≤◌, ◌⊎◌, Some, None, IfSome, MatchOption, length};
-ghost use Rattle.std.specs.{Prelude.{slice_get, if◌then◌else◌}, List.Sorted.IsNonDecreasingBy};
+ghost use Rattle.std.specs.Prelude.{◌≡◌, ◌<◌, ◌≤◌, ◌⊎◌, Some, MatchOption, length};
+ghost use Rattle.std.specs.{Prelude.slice_get, List.Sorted.IsNonDecreasingBy};
 ghost use Rattle.std.specs.List.Sorted.{IsPartitionPoint};
-ghost use Rattle.dwarf_entries.specs.{Units.CompilationUnit, Names.target_of};
-ghost use Rattle.dwarf_entries.specs.Private.Members.{Finds, LeadsTo, IsWithin, member_in};
+ghost use Rattle.dwarf_entries.specs.{Units.CompilationUnit, Names.{member_at, members_of}};
+ghost use Rattle.dwarf_entries.specs.{Names.target_of, Private.Members.{Finds, LeadsTo, member_in}};
 
 use crate::units::Units;
 use dwarf_bytes::constants::DW_FORM_REF_ADDR;
@@ -24,46 +24,48 @@ impl<'a> Units<'a> {
         ensures { (u : CompilationUnit) → slice_get self.now.units unit ≡ Some u
             → Finds self.now.units result (target_of self.now.units u reference) }
     {
-        let place = self.target_place(unit, reference)?;
-        if self.has_entry(place) {
-            return Some(place);
-        }
-        None
+        self.entry_place(unit, self.target_offset(unit, reference)?)
     }
 
-    /// Returns whether an entry is at a place within its unit.
-    pub(crate) fn has_entry(&self, place: UnitPlace) -> bool
-        ensures { IsWithin self.now.units place → Finds self.now.units
-            (if result then Some place else None)
-            (member_in self.now.units place.unit place.offset) }
-    {
-        self.bitmap.has_entry(place.offset)
-    }
-
-    /// Resolves a reference in a unit without a look at the bitmap of entries. A DW_FORM_ref_addr
-    /// is relative to the start of `.debug_info`, and all other forms are relative to the first
-    /// byte of the unit. Returns `None` if the target is not within its unit.
-    pub(crate) fn target_place(&self, unit: usize, reference: AttributeValue) -> Option<UnitPlace>
-        ensures leads { (u : CompilationUnit) → slice_get self.now.units unit ≡ Some u
+    /// Resolves a reference in a unit to an offset of the section. A DW_FORM_ref_addr is relative
+    /// to the start of `.debug_info`, and all other forms are relative to the first byte of the
+    /// unit. Returns `None` if their target is not within the unit.
+    // Inlined: called for each scope and each reference.
+    #[inline(always)]
+    pub(crate) fn target_offset(&self, unit: usize, reference: AttributeValue) -> Option<usize>
+        ensures { (u : CompilationUnit) → slice_get self.now.units unit ≡ Some u
             → LeadsTo self.now.units result (target_of self.now.units u reference) }
-        ensures within { IfSome result (IsWithin self.now.units) }
     {
-        let number = u128::from(reference.number);
         if reference.form == DW_FORM_REF_ADDR {
-            return self.place_in(ends_by(&self.units, reference.number), number);
+            return Some(reference.number as usize);
         }
-        let start = self.units.get(unit)?.header.start;
-        self.place_in(unit, start as u128 + number)
+        let header = &self.units.get(unit)?.header;
+        place_within(header, header.start as u128 + u128::from(reference.number))
     }
 
-    /// Returns an offset of the section as a place, if it is in the unit at an index.
-    fn place_in(&self, unit: usize, offset: u128) -> Option<UnitPlace>
-        ensures leads { LeadsTo self.now.units result (member_in self.now.units unit offset) }
-        ensures within { IfSome result (IsWithin self.now.units) }
+    /// Returns the place of the entry at an offset, if there is one. The unit at the index `guess`
+    /// is tried first.
+    pub(crate) fn entry_place(&self, guess: usize, offset: usize) -> Option<UnitPlace>
+        ensures { Finds self.now.units result (member_at (members_of self.now.units) offset) }
     {
-        let stored = self.units.get(unit)?;
-        let offset = place_within(&stored.header, offset)?;
+        if !self.bitmap.has_entry(offset) {
+            return None;
+        }
+        let unit = self.unit_of(guess, offset);
         Some(UnitPlace { unit, offset })
+    }
+
+    /// Returns the index of the unit that contains an offset. Tries the unit at `guess` first.
+    fn unit_of(&self, guess: usize, offset: usize) -> usize
+        ensures { member_in self.now.units result offset
+            ≡ member_at (members_of self.now.units) offset }
+    {
+        if let Some(stored) = self.units.get(guess) {
+            if place_within(&stored.header, offset as u128).is_some() {
+                return guess;
+            }
+        }
+        ends_by(&self.units, offset as u64)
     }
 }
 
@@ -79,7 +81,7 @@ fn place_within(header: &UnitHeader, offset: u128) -> Option<usize>
 }
 
 /// Returns the number of units that end at or before an offset.
-// Not inlined: few references are relative to the section.
+// Not inlined: few references lead to another unit.
 #[inline(never)]
 fn ends_by(units: &[UnitEntries], offset: u64) -> usize
     ensures within { result ≤ length units.now }

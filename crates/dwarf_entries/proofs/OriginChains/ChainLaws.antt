@@ -5,10 +5,10 @@ use Common.{AreFirst, AttributeValue, Cause, CompilationUnit, DW_AT_LINKAGE_NAME
 use Common.{EntryNames, Err, Finds, FindsFirst, FirstNames, IsCacheOf, IsFirst, IsMember, IsPlaceOf}
 use Common.{List, Member, NameCache, NamedEntry, None, Ok, Option, OriginDepth, Reference, Result}
 use Common.{Sections, Some, UnitAttribute, UnitEntry, UnitPlace, [], ap, append_assoc}
-use Common.{arith, attribute, chain_within, common_steps, first_on, if◌then◌else◌, member_in}
-use Common.{name_on, names_of, next_of, of_member, option_map, option_or, or_else, references_limit}
+use Common.{arith, attribute, chain_within, common_steps, first_on, if◌then◌else◌, member_at}
+use Common.{members_of, name_on, names_of, next_of, of_member, option_map, option_or, or_else, references_limit}
 use Common.{refl, same_Some, second_names, slice_get, slot_at, slot_of, suc, sym, target_names}
-use Common.{target_of, ℕ, ◌&&◌, ◌++◌, ◌+◌, ◌-◌, ◌==◌, ◌>>=◌, ◌∷◌, ◌≡◌}
+use Common.{target_of, ℕ, ◌++◌, ◌+◌, ◌-◌, ◌==◌, ◌>>=◌, ◌∷◌, ◌≡◌}
 
 -- ---- the first attribute with a name
 
@@ -109,12 +109,12 @@ module _ {units : List CompilationUnit} {remaining : ℕ} {m : Member} {left : �
 
 -- The cache remains valid after the names of one more entry are added.
 pub cache-more : (s : Sections) (units : List CompilationUnit) (old new : NameCache)
-    (place : UnitPlace) (names : EntryNames) → IsCacheOf s units old
-    → ((slot : ℕ) → slot_at new slot ≡ if slot == slot_of place then
-    Some (record { place = place; names = names }) else slot_at old slot)
-    → (member_in units place.unit place.offset >>= λ m. second_names s units m) ≡ Ok names
+    (offset : ℕ) (names : EntryNames) → IsCacheOf s units old
+    → ((slot : ℕ) → slot_at new slot ≡ if slot == slot_of offset then
+    Some (record { offset = offset; names = names }) else slot_at old slot)
+    → (member_at (members_of units) offset >>= λ m. second_names s units m) ≡ Ok names
     → IsCacheOf s units new
-cache-more s units old new place names knew put read slot packed is =
+cache-more s units old new offset names knew put read slot packed is =
     grind (arith, common_steps, same_Some)
 
 -- ---- the names of an entry that has no name of its own

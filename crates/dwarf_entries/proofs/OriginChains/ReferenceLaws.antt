@@ -5,7 +5,7 @@ use Common.{map, get_or, Bool, ◌==◌, refl, arith, Option, Some, None, Err, f
 use Common.{option_map, option_or, slice_get-get_or, slice_get_within, AttributeValue, Die}
 use Common.{RiseWithin, UnitEntries, Sections, CompilationUnit, Member, target_of}
 use Common.{AreStored, member_in, Reference, ok_or, cases_lt, IsNonDecreasingBy, IsPartitionPoint}
-use Common.{members_of, IsWithin, eq-eqb, option_to_list, ne_eqb, find-append, DW_FORM_REF_ADDR}
+use Common.{members_of, member_at, option_to_list, ne_eqb, find-append, DW_FORM_REF_ADDR}
 use Common.{get_or_from_slice_get}
 use Rattle.dwarf_entries.proofs.UnitPasses.PassLaws.{element}
 use Rattle.dwarf_entries.proofs.UnitPasses.UnitLaws.{AreUnitsIn, dies-rise, stored-at, stored-for}
@@ -94,9 +94,8 @@ module _ {s : Sections} {us : List CompilationUnit} (are : AreUnitsIn s us) wher
     pub anywhere : (n offset : ℕ) → (IsNonDecreasingBy (λ (k : UnitEntries). k.header.end) stored
         → IsPartitionPoint (λ (k : UnitEntries). k.header.end ≤ offset)
         (λ (k : UnitEntries). offset < k.header.end) stored n)
-        → (u : CompilationUnit) (reference : AttributeValue) → reference.form ≡ DW_FORM_REF_ADDR
-        → reference.number ≡ offset → member_in us n offset ≡ target_of us u reference
-    anywhere n offset search_is u reference form number =
+        → member_in us n offset ≡ member_at (members_of us) offset
+    anywhere n offset search_is =
         let parts = search_is ends-rise in
         let only = only-in us n offset (λ i v found differs.
         let k = stored-for stored us same i v found in
@@ -110,23 +109,22 @@ module _ {s : Sections} {us : List CompilationUnit} (are : AreUnitsIn s us) wher
               let end = get_or_from_slice_get stored n last.0 last.0 last.1 in
               inl (grind (arith, parts.1 n last.0, x.stored)))
         ])) in
-        let is = eq-eqb reference.form DW_FORM_REF_ADDR form in
-        rw (is, number, only) refl
+        rw only refl
 
-    pub outside : (n offset : ℕ) (k : UnitEntries) → slice_get stored n ≡ Some k
-        → (offset < k.header.start) ⊎ (k.header.end ≤ offset)
-        → member_in us n offset ≡ Err Reference
-    outside n offset k found out =
-        let at = stored-at stored us same n k found in
-        let none = none-outside at.unit.header.start at.unit.header.end at.unit.dies offset
-        (dies-rise (are.each_is n at.unit at.is)) in
-        grind (arith, at.stored, member-is us n offset at.unit at.is)
+  -- An offset within a unit.
+  pub in-bounds : (n offset : ℕ) (u : CompilationUnit) → slice_get us n ≡ Some u
+      → u.header.start ≤ offset → offset < u.header.end
+      → member_in us n offset ≡ member_at (members_of us) offset
+  in-bounds n offset u is low high =
+      grind (arith, in-own n offset u is low high, member-is us n offset u is)
 
-    pub within-stored : (n offset : ℕ) (k : UnitEntries) → slice_get stored n ≡ Some k
-        → k.header.start ≤ offset → offset < k.header.end
-        → IsWithin us (record { unit = n; offset = offset })
-    within-stored n offset k found low high =
-        let at = stored-at stored us same n k found in grind (arith, at.is, at.stored)
+  -- An offset outside the unit in which it is looked up.
+  pub outside : (n offset : ℕ) (u : CompilationUnit) → slice_get us n ≡ Some u
+      → (offset < u.header.start) ⊎ (u.header.end ≤ offset) → member_in us n offset ≡ Err Reference
+  outside n offset u is out =
+      let none = none-outside u.header.start u.header.end u.dies offset
+      (dies-rise (are.each_is n u is)) out in
+      grind (arith, member-is us n offset u is)
 
 pub within-unit : (us : List CompilationUnit) (n offset : ℕ) (u : CompilationUnit)
     (reference : AttributeValue) → (reference.form ≡ DW_FORM_REF_ADDR → ⊥)

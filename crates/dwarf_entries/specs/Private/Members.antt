@@ -1,5 +1,5 @@
 -- Entries with their units, as the program stores them, for the contracts of origin chains.
-use Rattle.std.specs.Prelude.{◌≡◌, ℕ, ◌<◌, ◌≤◌, List, Option, Some, None, Result, Ok, Err}
+use Rattle.std.specs.Prelude.{◌≡◌, ℕ, List, Option, Some, None, Result, Ok, Err}
 use Rattle.std.specs.Prelude.{slice_get, option_to_list}
 use Rattle.dwarf_bytes.specs.declared.constants.TheConstants.{DW_AT_LINKAGE_NAME, DW_AT_NAME}
 use Rattle.dwarf_bytes.specs.{declared.fault.Cause.Cause, Refusals.Fails}
@@ -29,18 +29,10 @@ pub record IsPlaceOf (units : List CompilationUnit) (place : UnitPlace) (m : Mem
   pub offset_is : m.die.offset ≡ place.offset
   pub index : ℕ
   pub there : slice_get m.unit.dies index ≡ Some m.die
-  pub found : member_in units place.unit place.offset ≡ Ok m
 
--- The place is within the bounds of its unit.
-pub record IsWithin (units : List CompilationUnit) (place : UnitPlace) : Type 0 where
-  pub of : CompilationUnit
-  pub of_is : slice_get units place.unit ≡ Some of
-  pub low : of.header.start ≤ place.offset
-  pub high : place.offset < of.header.«end»
-
--- The outcome is the entry at the place, if there is one.
-abbrev pub LeadsTo : List CompilationUnit → Option UnitPlace → Result Member Cause → Type 0
-LeadsTo units (Some place) outcome = outcome ≡ member_in units place.unit place.offset
+-- The outcome is the entry at the offset, if there is one.
+abbrev pub LeadsTo : List CompilationUnit → Option ℕ → Result Member Cause → Type 0
+LeadsTo units (Some offset) outcome = outcome ≡ member_at (members_of units) offset
 LeadsTo units None outcome = outcome ≡ Err causes.Reference
 
 -- The entry that is re-read is the stored form of the member. The call may also fail because
