@@ -4,12 +4,12 @@ use Rattle.dwarf_units.proofs.Common
 use Common.{Attribute, AttributeSpecification, Bool, Cause, Declaration, Entry, Err, Format, IfSome}
 use Common.{List, None, Null, Ok, Option, Result, Run, Some, Stretch, Table, Used, ℕ, []}
 use Common.{ap, arith, at-last, attributes_at, attributes_in, block_at, common_steps}
-use Common.{cond, drop, drop_more, false, get_or_from_slice_get, inl, inr, le-ltb, length}
+use Common.{cond, drop, drop_more, false, get_or_from_slice_get, got, inl, inr, le-ltb, length}
 use Common.{length-append, ne_eqb, option_and_then_some, refl, runs_at, runs_of}
 use Common.{same_Some, shape_at, slice_get, slice_get_within, stored_attributes}
 use Common.{stored_attributes_at, take, true, uleb_at, used_among, used_attributes_at, ◌++◌, ◌+◌}
 use Common.{◌<◌, ◌==◌, ◌>>=◌, ◌∙◌, ◌∷◌, ◌≡◌, ◌≤◌, ◌⊎◌}
-use Rattle.std.proofs.Common.{option_and_then}
+use Rattle.std.proofs.Common.{Bor, MatchOption, get_or, is_some, nat_lt, option_and_then, sym}
 use Rattle.dwarf_units.proofs.{RunReads.runs-read, SlotLaws.slots-used, StoredReads.stored_all}
 use Rattle.dwarf_units.{proofs.StoredReads.used_all, specs.Entries.{declaration_of, depth_limit}}
 use Rattle.dwarf_units.specs.{Entries.entry_at, NodeShapes.null_shape, Private.Heads.used_entry_at}
@@ -166,6 +166,19 @@ layout-there table count layouts code layout counted are at =
         (λ l. (code ≤ code_limit) × HasSlotsOf table.format table.declarations code l)
     by_layout None small is = is
     by_layout (Some l) small is = (small, is)
+
+-- The layout that a lookup finds, or none after the last code.
+pub layout-at : (table : Table) (count : ℕ) (layouts : List (Option NodeLayout)) (code : ℕ)
+    (found : Option (Bor (Option NodeLayout))) → count ≡ code_count table.declarations
+    → AreLayouts table.format table.declarations count layouts
+    → is_some found ≡ nat_lt code (length layouts)
+    → IfSome found (λ layout. layout.now ≡ get_or layouts code layout.now)
+    → MatchOption found (IsLayoutAt table code None) (λ layout. IsLayoutAt table code layout.now)
+layout-at table count layouts code None counted are within value =
+    record { shape = grind (arith, are.len, counted, within); slots = cc }
+layout-at table count layouts code (Some layout) counted are within value =
+    layout-there table count layouts code layout.now counted are
+    (sym (got layouts code (Some layout) within value))
 
 -- The layout of a declaration is that of its code.
 pub slots-of-code : (format : Format) (table : List Declaration) (code : ℕ) (d : Declaration)

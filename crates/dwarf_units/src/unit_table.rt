@@ -1,6 +1,7 @@
 //! The abbreviation table of one unit (DWARF 5, 7.5.3).
 
-ghost use Rattle.std.specs.Prelude.{IfSome, Ok, length, option_copied, option_map, ◌<◌, ◌≡◌, ◌≤◌};
+ghost use Rattle.std.specs.Prelude.{IfSome, MatchOption, None, Ok, length, option_map};
+ghost use Rattle.std.specs.Prelude.{◌<◌, ◌≡◌, ◌≤◌};
 ghost use Rattle.dwarf_units.specs.{Entries.depth_limit, Private.Heads.used_entry_at};
 ghost use Rattle.dwarf_units.specs.Private.NodeLayouts.{IsFixedSizeNode, IsLayoutAt};
 ghost use Rattle.dwarf_units.specs.Private.NodeLayouts.{fixed_size_node_at};
@@ -54,13 +55,14 @@ impl<'a> UnitTable<'a> {
         UnitTable { ..*self }
     }
 
-    /// Returns the layout of the nodes with a one-byte code, if there is one.
-    // Inlined: called for each entry.
+    /// Returns the layout of the nodes with a one-byte code, if the table has layouts up to it.
+    // Inlined: called for each entry. No `Option<&NodeLayout>`: a missing one costs a null pointer.
     #[inline(always)]
-    fn layout(&self, code: u8) -> Option<&'a NodeLayout>
-        ensures { IsLayoutAt self.now code (option_copied result) }
+    fn layout(&self, code: u8) -> Option<&'a Option<NodeLayout>>
+        ensures { MatchOption result (IsLayoutAt self.now code None)
+            (λ layout. IsLayoutAt self.now code layout.now) }
     {
-        self.layouts.get(usize::from(code))?.as_ref()
+        self.layouts.get(usize::from(code))
     }
 
     /// Returns the shape of the node at an offset and the offset after the node, if the node has a
@@ -84,7 +86,10 @@ impl<'a> UnitTable<'a> {
             return None;
         }
         let code = *bytes.get(place)?;
-        let shape = &self.layout(code)?.shape;
+        let Some(layout) = self.layout(code)? else {
+            return None;
+        };
+        let shape = &layout.shape;
         let after = place + 1 + u64::from(shape.len) as usize;
         if after > bytes.len() {
             return None;
@@ -102,7 +107,9 @@ impl<'a> UnitTable<'a> {
         ensures within { IfSome result (λ _. place ≤ length bytes.now) }
     {
         let code = *bytes.get(place)?;
-        let layout = self.layout(code)?;
+        let Some(layout) = self.layout(code)? else {
+            return None;
+        };
         let slots = layout.slots.as_ref()?;
         let rest = &bytes[place + 1..];
         if rest.len() < WINDOW {
