@@ -83,6 +83,8 @@ impl Stretch {
     }
 
     /// Adds the used attributes of an entry whose first attribute of the stretch is at the cursor.
+    // Inlined: called for each entry that is re-read.
+    #[inline(always)]
     #[tactic(auto, using(crate::proofs::StoredReads::read_steps))]
     fn add_used(&self, format: Format, first: &Cursor, found: &mut UsedAttributes)
         ensures { found.new ≡ with_used found.old

@@ -9,6 +9,7 @@ ghost use Rattle.dwarf_units.specs.{Attributes.reference_forms, Entries.{is_dire
 ghost use Rattle.dwarf_units.specs.Entries.{reading_value, attribute_at};
 ghost use Rattle.dwarf_forms.specs.Values.{value_of as form_value, value_at};
 
+use crate::used_name::UsedName;
 use dwarf_bytes::constants::*;
 use dwarf_bytes::{Cause, Content, Cursor, Form, Format};
 use dwarf_forms::{AttributeSpecification, Value, ValueFault, value};
@@ -32,22 +33,7 @@ pub struct Attribute {
 pub(crate) fn is_used(name: u64) -> bool
     ensures { result ≡ is_used name }
 {
-    matches!(
-        name,
-        DW_AT_NAME
-            | DW_AT_STMT_LIST
-            | DW_AT_LOW_PC
-            | DW_AT_HIGH_PC
-            | DW_AT_ABSTRACT_ORIGIN
-            | DW_AT_SPECIFICATION
-            | DW_AT_RANGES
-            | DW_AT_CALL_FILE
-            | DW_AT_CALL_LINE
-            | DW_AT_LINKAGE_NAME
-            | DW_AT_STR_OFFSETS_BASE
-            | DW_AT_ADDR_BASE
-            | DW_AT_RNGLISTS_BASE
-    )
+    UsedName::of(name).is_some()
 }
 
 /// Returns whether an attribute may have a form. Unused attributes may have any form.

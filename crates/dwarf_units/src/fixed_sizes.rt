@@ -3,7 +3,7 @@
 ghost use Rattle.std.specs.Prelude.{◌≡◌};
 ghost use Rattle.dwarf_bytes.specs.Forms.{byte_len};
 ghost use Rattle.dwarf_units.specs.Private.FixedSizes.{constant_len, end_of, fixed_len, layout_len};
-ghost use Rattle.dwarf_units.specs.Private.Runs.{is_signed, unchecked_layout, valid_layout};
+ghost use Rattle.dwarf_units.specs.Private.Runs.{unchecked_layout, valid_layout};
 
 use crate::attributes::{accepts, is_negative_count, is_used};
 use dwarf_bytes::{Content, Form, Format, ValueLayout, Width};
@@ -56,16 +56,10 @@ pub(crate) fn unchecked_layout(specification: &AttributeSpecification) -> Option
 fn valid_layout(name: u64, layout: ValueLayout) -> Option<ValueLayout>
     ensures { result ≡ valid_layout name layout }
 {
-    if is_used(name) && is_signed(layout) {
+    if is_used(name) && matches!(layout, ValueLayout::Signed) {
         return None;
     }
     Some(layout)
-}
-
-fn is_signed(layout: ValueLayout) -> bool
-    ensures { result ≡ is_signed layout }
-{
-    matches!(layout, ValueLayout::Signed)
 }
 
 /// Returns the size of an attribute whose value is in its declaration: 0, if it is valid.

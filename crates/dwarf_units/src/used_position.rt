@@ -43,6 +43,8 @@ impl UsedPosition {
     }
 
     /// Reads the value of the attribute in the entry whose first attribute is at the cursor.
+    // Inlined: called for each attribute of an entry that is re-read.
+    #[inline(always)]
     #[tactic(auto, using(crate::proofs::SlotLaws::width_number))]
     pub(crate) fn read(&self, format: Format, first: &Cursor) -> AttributeValue
         ensures { named_attribute self.now.name result
@@ -83,7 +85,8 @@ fn constant_number(specification: &AttributeSpecification) -> u64
     }
 }
 
-/// Skips a number of bytes and reads the value after them as a number.
+/// Skips `offset` bytes and reads the value after them as a number. ULEB128 is tested first.
+#[tactic(auto, unfolding(dwarf_bytes::specs::Contents::content_at))]
 fn read_after(
     offset: u16,
     format: Format,
@@ -94,6 +97,9 @@ fn read_after(
         cursor.old cursor.new }
 {
     cursor.block(u64::from(offset))?;
+    if let ValueLayout::Unsigned = layout {
+        return Ok(cursor.uleb()?);
+    }
     let content = Content::read(layout, format, cursor)?;
     Ok(number_of(content, cursor.place()))
 }

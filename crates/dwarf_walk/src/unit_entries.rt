@@ -1,9 +1,9 @@
 //! The data that is stored for the entries of a unit.
 
-ghost use Rattle.std.specs.Prelude.{◌≡◌, List, Some};
+ghost use Rattle.std.specs.Prelude.{◌≡◌, List};
 ghost use Rattle.dwarf_units.specs.{declared.attributes.Attribute.Attribute, Used.used_among};
 ghost use Rattle.dwarf_walk.specs.Stored.{named_entry, scope_entry, root_entry};
-ghost use Rattle.dwarf_walk.specs.{References.entry_reference, Private.Readers.die_with};
+ghost use Rattle.dwarf_walk.specs.{References.{entry_reference, or_else}, Private.Readers.die_with};
 
 use crate::scope_kind::ScopeKind;
 use dwarf_bytes::constants::DW_FORM_REF_SIG8;
@@ -71,10 +71,7 @@ impl NamedEntry {
     {
         NamedEntry {
             offset,
-            next: found
-                .value(UsedName::AbstractOrigin)
-                .or(found.value(UsedName::Specification))
-                .and_then(entry_reference),
+            next: next_reference(found),
             name: found.value(UsedName::Name),
             linkage_name: found.value(UsedName::LinkageName),
         }
@@ -118,12 +115,19 @@ impl RootEntry {
     }
 }
 
-/// Returns a reference unless it is a type signature (DW_FORM_ref_sig8), which is not followed.
-fn entry_reference(value: AttributeValue) -> Option<AttributeValue>
-    ensures { result ≡ entry_reference (Some value) }
+/// Returns the reference to the next entry, unless it is a type signature (DW_FORM_ref_sig8).
+// Inlined: called for each scope and each reference.
+#[inline(always)]
+fn next_reference<V: EntryValues>(found: &V) -> Option<AttributeValue>
+    ensures { result ≡ entry_reference (or_else (V.used found.now).abstract_origin
+        (V.used found.now).specification) }
 {
-    if value.form == DW_FORM_REF_SIG8 {
+    let reference = match found.value(UsedName::AbstractOrigin) {
+        Some(reference) => reference,
+        None => found.value(UsedName::Specification)?,
+    };
+    if reference.form == DW_FORM_REF_SIG8 {
         return None;
     }
-    Some(value)
+    Some(reference)
 }
