@@ -28,27 +28,9 @@ pub(crate) struct Operands {
 }
 
 /// Returns the operands of the kind of entry with a code, or `None` for the end of a list. Fails if
-/// the code is unknown. The most common kinds are tested first, because the order of kinds is hard
-/// to predict.
-#[inline(always)]
-fn operands_of(code: u8) -> Result<Option<Operands>, Cause>
-    ensures { result ≡ operands_of code }
-{
-    if code == DW_RLE_OFFSET_PAIR {
-        return Ok(Some(Operands {
-            first: Operand::Number,
-            second: Some(Operand::Number),
-        }));
-    }
-    if code == DW_RLE_END_OF_LIST {
-        return Ok(None);
-    }
-    any_operands_of(code)
-}
-
-/// Returns the operands of any kind of entry, as `operands_of` does.
+/// the code is unknown.
 #[inline(never)]
-fn any_operands_of(code: u8) -> Result<Option<Operands>, Cause>
+fn operands_of(code: u8) -> Result<Option<Operands>, Cause>
     ensures { result ≡ operands_of code }
 {
     let (first, second) = match code {
@@ -122,6 +104,7 @@ fn range_of(
 }
 
 /// Reads the operands of an entry at the cursor. `base` is the current base.
+#[inline(always)]
 #[tactic(auto, unfolding(crate::specs::Ranges::entry_at))]
 fn entry(
     operands: Operands,
@@ -143,7 +126,8 @@ fn entry(
 }
 
 /// Reads the entry at the cursor, or returns `None` at the end of the list. `count` is the number
-/// of entries before it, `budget` the maximum number of entries, and `base` the current base.
+/// of entries before it, `budget` the maximum number of entries, and `base` the current base. The
+/// most common kinds are tested first, because the order of kinds is hard to predict.
 pub(crate) fn next_entry(
     budget: u64,
     count: u64,
@@ -156,7 +140,18 @@ pub(crate) fn next_entry(
         (sections_of sections.now) bases.now count base) cursor.old cursor.new }
     ensures budget { IfOk result (λ next. IsSome next → count < budget) }
 {
-    let Some(operands) = operands_of(cursor.u8()?)? else {
+    let code = cursor.u8()?;
+    if code == DW_RLE_OFFSET_PAIR && count < budget {
+        let operands = Operands {
+            first: Operand::Number,
+            second: Some(Operand::Number),
+        };
+        return Ok(Some(entry(operands, base, sections, bases, cursor)?));
+    }
+    if code == DW_RLE_END_OF_LIST {
+        return Ok(None);
+    }
+    let Some(operands) = operands_of(code)? else {
         return Ok(None);
     };
     if count >= budget {
