@@ -29,9 +29,12 @@ pub(crate) fn text_of(
     ensures { result ≡ text_of (sections_of sections.now) (str_offsets_at bases.now unit) value }
 {
     let number = value.number;
+    // Tested first, because most names have this form.
+    if value.form == DW_FORM_STRP {
+        return text_in(Section::DebugStr, &strings.str, number);
+    }
     match value.form {
         DW_FORM_STRING => text_in(Section::DebugInfo, &strings.info, number),
-        DW_FORM_STRP => text_in(Section::DebugStr, &strings.str, number),
         DW_FORM_LINE_STRP => text_in(Section::DebugLineStr, &strings.line_str, number),
         _ => {
             let offset = item_at(

@@ -1,7 +1,7 @@
 //! The names of an entry, found through its references (DWARF 5, 2.13, 2.15 and 3.3.8).
 
-ghost use Rattle.std.specs.Prelude.{◌≡◌, ◌++◌, ◌∷◌, [], ℕ, List, Some, option_map, slice_get};
-ghost use Rattle.std.specs.Option.{option_or};
+ghost use Rattle.std.specs.Prelude.{◌≡◌, ◌++◌, ◌∷◌, [], ℕ, List, Some, is_some, slice_get};
+ghost use Rattle.std.specs.Prelude.{if◌then◌else◌};
 ghost use Rattle.dwarf_bytes.specs.Refusals.{Gives};
 ghost use Rattle.dwarf_entries.specs.{Units.CompilationUnit, Names.{Member, chain_within}};
 ghost use Rattle.dwarf_entries.specs.Names.{first_on, name_on, names_within};
@@ -27,23 +27,22 @@ pub(crate) struct UnitEntry {
     pub(crate) entry: NamedEntry,
 }
 
-/// The value of an attribute, with the index of the unit that contains it.
+/// The value of an attribute, if it was found, with the index of the unit that contains it.
 #[derive(Clone, Copy)]
 pub(crate) struct UnitAttribute {
     pub(crate) unit: usize,
-    pub(crate) value: AttributeValue,
+    pub(crate) value: Option<AttributeValue>,
 }
 
 /// The first name and the first linkage_name of an origin chain.
 #[derive(Clone, Copy)]
 pub(crate) struct FirstNames {
-    pub(crate) name: Option<UnitAttribute>,
-    pub(crate) linkage_name: Option<UnitAttribute>,
+    pub(crate) name: UnitAttribute,
+    pub(crate) linkage_name: UnitAttribute,
 }
 
 impl FirstNames {
     /// Returns the first names of the chain after one more entry is appended to it.
-    #[tactic(auto, using(crate::proofs::OriginChains::ChainLaws::first_more))]
     fn or(self, last: UnitEntry) -> FirstNames
         ensures { (us : List CompilationUnit) (path : List Member) (m : Member)
             → AreFirst us self path → IsMember us last.unit last.entry m
@@ -88,16 +87,16 @@ impl<'a> Units<'a> {
     /// Returns the string of an attribute, if there is one.
     // Inlined: called for each scope and each reference.
     #[inline(always)]
-    fn text(&self, found: Option<UnitAttribute>) -> Result<PackedText, Cause>
+    fn text(&self, found: UnitAttribute) -> Result<PackedText, Cause>
         ensures { (name : ℕ) (path : List Member)
             → IsFirst self.now.units found (first_on name path)
             → Gives unpacked_text result (name_on name self.now.sections path) }
     {
-        let Some(found) = found else {
+        let Some(value) = found.value else {
             return Ok(PackedText::none());
         };
         let (bases, unit) = (self.bases.as_slice(), found.unit);
-        let text = text_of(self.sections, &self.strings, bases, unit, found.value)?;
+        let text = text_of(self.sections, &self.strings, bases, unit, value)?;
         Ok(PackedText::of(text)?)
     }
 
@@ -110,11 +109,15 @@ impl<'a> Units<'a> {
             → FindsFirst self.old.units result (chain_within remaining self.old.units m) }
         ensures same { self.new ≡ self.old }
     {
-        let none = FirstNames {
-            name: None,
-            linkage_name: None,
+        let none = UnitAttribute {
+            unit: start.unit,
+            value: None,
         };
-        let mut firsts = none.or(start);
+        let mut firsts = FirstNames {
+            name: none,
+            linkage_name: none,
+        }
+        .or(start);
         let mut last = start;
         let mut left = remaining;
         while let Some(reference) = last.entry.next {
@@ -151,13 +154,12 @@ impl<'a> Units<'a> {
 }
 
 /// Returns the attribute that was found before, or else its value in this unit.
-fn first(
-    found: Option<UnitAttribute>,
-    unit: usize,
-    value: Option<AttributeValue>,
-) -> Option<UnitAttribute>
-    ensures { result ≡ option_or found (option_map
-        (λ value. record { unit = unit; value = value }) value) }
+fn first(found: UnitAttribute, unit: usize, value: Option<AttributeValue>) -> UnitAttribute
+    ensures { result ≡ (if is_some found.value then found
+        else record { unit = unit; value = value }) }
 {
-    found.or(value.map(|value| UnitAttribute { unit, value }))
+    if found.value.is_some() {
+        return found;
+    }
+    UnitAttribute { unit, value }
 }

@@ -5,8 +5,8 @@ use Common.{AreFirst, AttributeValue, Cause, CompilationUnit, DW_AT_LINKAGE_NAME
 use Common.{EntryNames, Err, Finds, FindsFirst, FirstNames, IsCacheOf, IsFirst, IsMember, IsPlaceOf}
 use Common.{List, Member, NameCache, NamedEntry, None, Ok, Option, OriginDepth, Reference, Result}
 use Common.{Sections, Some, UnitAttribute, UnitEntry, UnitPlace, [], ap, append_assoc}
-use Common.{arith, attribute, chain_within, common_steps, first_on, if◌then◌else◌, member_at}
-use Common.{members_of, name_on, names_of, next_of, of_member, option_map, option_or, or_else, references_limit}
+use Common.{arith, attribute, chain_within, common_steps, first_on, if◌then◌else◌, is_some}
+use Common.{member_at, members_of, name_on, names_of, next_of, of_member, or_else, references_limit}
 use Common.{refl, same_Some, second_names, slice_get, slot_at, slot_of, suc, sym, target_names}
 use Common.{target_of, ℕ, ◌++◌, ◌+◌, ◌-◌, ◌==◌, ◌>>=◌, ◌∷◌, ◌≡◌}
 
@@ -18,13 +18,13 @@ first_on-push name [] m = grind arith
 first_on-push name (p ∷ path) m = let rest = first_on-push name path m in grind arith
 
 -- The first attribute, after one more entry is appended.
-pub first_more : (units : List CompilationUnit) (name number : ℕ) (path : List Member) (m : Member)
-    (known : Option UnitAttribute) (value : Option AttributeValue)
-    → slice_get units number ≡ Some m.unit → value ≡ attribute m.die name
-    → IsFirst units known (first_on name path) → (result : Option UnitAttribute)
-    → result ≡ option_or known (option_map (λ v. record { unit = number; value = v }) value)
-    → IsFirst units result (first_on name (path ++ m ∷ []))
-first_more units name number path m known value is value_is h result result_is =
+pub first_more : (units : List CompilationUnit) (name unit : ℕ) (path : List Member) (m : Member)
+    (known : UnitAttribute) (value : Option AttributeValue)
+    → slice_get units unit ≡ Some m.unit → value ≡ attribute m.die name
+    → IsFirst units known (first_on name path) → IsFirst units
+    (if is_some known.value then known else record { unit = unit; value = value })
+    (first_on name (path ++ m ∷ []))
+first_more units name unit path m known value is value_is so_far =
     let push = first_on-push name path m in grind arith
 
 -- ---- the loop

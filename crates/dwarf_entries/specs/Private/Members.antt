@@ -46,15 +46,13 @@ abbrev pub Finds : List CompilationUnit → Option UnitPlace → Result Member C
 Finds units (Some place) outcome = (m : Member) × (outcome ≡ Ok m) × IsPlaceOf units place m
 Finds units None outcome = outcome ≡ Err causes.Reference
 
--- The stored form of the first attribute with a name on an origin chain: its value, and the index
--- of its unit.
-abbrev pub IsFirst : List CompilationUnit → Option UnitAttribute
+-- The stored form of the first attribute with a name on an origin chain, if there is one: its
+-- value, and the index of its unit.
+abbrev pub IsFirst : List CompilationUnit → UnitAttribute
     → Option (CompilationUnit × AttributeValue) → Type 0
-IsFirst units None None = Unit {0}
-IsFirst units None (Some first) = ⊥
-IsFirst units (Some stored) None = ⊥
-IsFirst units (Some stored) (Some first) =
-    (slice_get units stored.unit ≡ Some first.0) × (stored.value ≡ first.1)
+IsFirst units stored None = stored.value ≡ None
+IsFirst units stored (Some first) =
+    (slice_get units stored.unit ≡ Some first.0) × (stored.value ≡ Some first.1)
 
 pub record AreFirst (units : List CompilationUnit) (stored : FirstNames) (path : List Member)
     : Type 0 where

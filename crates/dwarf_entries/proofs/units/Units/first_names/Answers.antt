@@ -7,7 +7,7 @@ pub loop-last-init : goal.loop-last-init
 loop-last-init c = record {
   same = refl;
   so_far = λ m at. followed-none at (c.or-firsts.ensures c.args.self.now.units [] m
-      (record { name = tt; linkage_name = tt }) at);
+      (record { name = refl; linkage_name = refl }) at);
 }
 
 pub returns-then-left-eq0-clause-names : goal.returns-then-left-eq0-clause-names
