@@ -85,12 +85,12 @@ pub use entries.declared.{references.UnitPlace.UnitPlace, scope.{Root.Root, Scop
 pub use entries.declared.{scope_lists.ScopeLists.ScopeLists, text_offset.TextOffset.TextOffset}
 pub use entries.declared.{unit_scopes.ScopeNumbers.ScopeNumbers, units.Units.TheInside.Inside}
 pub use units.Entries.{Die, IsBelow, LocatedNode, attribute, below, die_of, node_at}
-pub use units.Private.{Rising.RiseWithin, StoredAttributes.stored_attributes}
+pub use units.{Rising.RiseWithin, StoredAttributes.stored_attributes}
 pub use units.Units.{declarations_limit, header_at, header_in, is_read}
 pub use units.declared.attributes.AttributeValue.{AttributeValue}
 pub use units.declared.unit_headers.UnitHeader.{UnitHeader}
-pub use walk.{EntryBitmap.{AddsOffsets, offsets_of}, Private.Named.{named_entry_at, used_at}}
-pub use walk.{Private.Rereading.{IsReaderOf, scope_entry_at}, References.{next_of, or_else}}
+pub use walk.{EntryBitmap.{AddsOffsets, offsets_of}, NamedEntries.{named_entry_at, used_at}}
+pub use walk.{References.{next_of, or_else}, Rereading.{IsReaderOf, scope_entry_at}}
 pub use walk.{ScopeEntries.{is_scope, kind_of}, Sections.{Sections, sections_of}}
 pub use walk.Stored.{named_entry, root_in, scope_entry, scope_places, stored_entries, stored_of}
 pub use walk.{Stored.stored_unit, declared.entry_bitmap.EntryBitmap.EntryBitmap}

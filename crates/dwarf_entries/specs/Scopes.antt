@@ -4,9 +4,8 @@ use Rattle.dwarf_bytes.specs.{Bind.◌>>=◌, Items.{At, each, with_offset}, Ref
 use Rattle.dwarf_bytes.specs.declared.constants.TheConstants.{DW_AT_CALL_FILE, DW_AT_CALL_LINE}
 use Rattle.dwarf_bytes.specs.declared.{constants.TheConstants.DW_AT_STMT_LIST, fault.Cause.Cause}
 use Rattle.dwarf_bytes.specs.declared.fault.{LoadFault.LoadFault, Section.Section}
-use Rattle.dwarf_entries.specs.Names.{EntryNames, Member, names_of}
-use Rattle.dwarf_entries.specs.Units.{CompilationUnit, units_read}
-use Rattle.dwarf_entries.specs.declared.calls.{CallSite.CallSite, Calls.Calls}
+use Rattle.dwarf_entries.specs.{Names.{EntryNames, Member, names_of}, Units.CompilationUnit}
+use Rattle.dwarf_entries.specs.{Units.units_read, declared.calls.{CallSite.CallSite, Calls.Calls}}
 use Rattle.dwarf_entries.specs.declared.{scope.Root.Root, scope_lists.ScopeLists.ScopeLists}
 use Rattle.dwarf_entries.specs.declared.text_offset.TextOffset.{TextOffset}
 use Rattle.dwarf_ranges.specs.{Ranges.{Covering, covers_of}, declared.range.Range.Range}

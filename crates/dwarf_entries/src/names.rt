@@ -1,8 +1,7 @@
 //! The strings of names (DWARF 5, 2.15 and 7.5.5).
 
 ghost use Rattle.std.specs.Prelude.{◌≡◌};
-ghost use Rattle.dwarf_entries.specs.Names.{text_in, text_of};
-ghost use Rattle.dwarf_entries.specs.Private.Passes.{str_offsets_at};
+ghost use Rattle.dwarf_entries.specs.{Names.{text_in, text_of}, Private.Passes.str_offsets_at};
 ghost use Rattle.dwarf_entries.specs.Private.StringSections.{AreStringSections};
 ghost use Rattle.dwarf_walk.specs.Sections.{sections_of};
 

@@ -1,8 +1,7 @@
 //! Resolution of references to entries (DWARF 5, 2.13 and 7.5.5).
 
-ghost use Rattle.std.specs.Prelude.{◌≡◌, ◌<◌, ◌≤◌, ◌⊎◌, Some, MatchOption, length};
-ghost use Rattle.std.specs.{Prelude.slice_get, List.Sorted.IsNonDecreasingBy};
-ghost use Rattle.std.specs.List.Sorted.{IsPartitionPoint};
+ghost use Rattle.std.specs.{List.Sorted.{IsNonDecreasingBy, IsPartitionPoint}, Prelude.{◌<◌, ◌≡◌}};
+ghost use Rattle.std.specs.Prelude.{MatchOption, Some, length, slice_get, ◌≤◌, ◌⊎◌};
 ghost use Rattle.dwarf_entries.specs.{Units.CompilationUnit, Names.{member_at, members_of}};
 ghost use Rattle.dwarf_entries.specs.{Names.target_of, Private.Members.{Finds, LeadsTo, member_in}};
 

@@ -2,14 +2,12 @@
 
 ghost use Rattle.std.specs.Prelude.{◌≡◌, ◌≤◌, ◌<◌, ◌+◌, ◌^◌, List, Some, ◌-◌, length, min};
 ghost use Rattle.std.specs.Prelude.{map, slice_get, IfOk};
-ghost use Rattle.dwarf_entries.specs.Units.{CompilationUnit};
-ghost use Rattle.dwarf_entries.specs.Scopes.{ParsedScope, ScopeSite, scope_at, sites_in};
-ghost use Rattle.dwarf_entries.specs.Scopes.{roots_from, scopes_of};
+ghost use Rattle.dwarf_entries.specs.{Passes.PassGives, Private.EntryOffsets.scope_count};
 ghost use Rattle.dwarf_entries.specs.Private.Passes.{IsScopeSite, IsSiteRead, scope_facts};
 ghost use Rattle.dwarf_entries.specs.Private.Passes.{AreParsedTo, ParsesTo, first_number};
-ghost use Rattle.dwarf_entries.specs.{Passes.PassGives, Scopes.all_scopes};
-ghost use Rattle.dwarf_entries.specs.Private.EntryOffsets.{scope_count};
-ghost use Rattle.dwarf_entries.specs.Private.Shared.{AddsFacts};
+ghost use Rattle.dwarf_entries.specs.{Private.Shared.AddsFacts, Scopes.{ParsedScope, ScopeSite}};
+ghost use Rattle.dwarf_entries.specs.Scopes.{all_scopes, roots_from, scope_at, scopes_of, sites_in};
+ghost use Rattle.dwarf_entries.specs.Units.{CompilationUnit};
 
 use crate::calls::CallSite;
 use crate::origin_chains::{PackedNames, UnitEntry};

@@ -12,25 +12,24 @@ pub use Rattle.dwarf_forms.proofs.{Codes.got, Elements.at-last}
 pub use Rattle.dwarf_forms.specs.{Declarations.Declaration, Values.Value}
 pub use Rattle.dwarf_forms.specs.declared.attribute.AttributeSpecification.{AttributeSpecification}
 pub use Rattle.dwarf_forms.specs.declared.values.ValueFault.{ValueFault}
+pub use Rattle.dwarf_units.specs.AbbreviationTables.{Table, table_size, unshared_count}
 pub use Rattle.dwarf_units.specs.Attributes.{accepts, is_negative, is_negative_count, is_used}
 pub use Rattle.dwarf_units.specs.{Attributes.number_of, Entries.{Die, Entry, LocatedNode, Node}}
 pub use Rattle.dwarf_units.specs.Entries.{Null, attribute_at, depth_after, die_of, is_root, node_at}
-pub use Rattle.dwarf_units.specs.Entries.{reading_value, value_of}
-pub use Rattle.dwarf_units.specs.Private.AbbreviationTables.{Table, table_size, unshared_count}
+pub use Rattle.dwarf_units.specs.{Entries.{reading_value, value_of}, NodeShapes.shape_at}
+pub use Rattle.dwarf_units.specs.Private.Declarations.{AbbreviationDeclaration, IsStored}
+pub use Rattle.dwarf_units.specs.Private.Declarations.{full_declaration, full_declarations}
 pub use Rattle.dwarf_units.specs.Private.FixedSizes.{attribute_in, attributes_in, end_of}
 pub use Rattle.dwarf_units.specs.Private.FixedSizes.{layout_len, number_in, used_position}
 pub use Rattle.dwarf_units.specs.Private.{Links.IsLink, Names.{named_attribute, slot_of, used_name}}
-pub use Rattle.dwarf_units.specs.Private.{NodeLayouts.shape_at, Runs.{Run, Stretch}}
-pub use Rattle.dwarf_units.specs.Private.Declarations.{AbbreviationDeclaration, IsStored}
-pub use Rattle.dwarf_units.specs.Private.Declarations.{full_declaration, full_declarations}
-pub use Rattle.dwarf_units.specs.Private.Runs.{all_at, run_at, run_before, runs_at}
+pub use Rattle.dwarf_units.specs.Private.Runs.{Run, Stretch, all_at, run_at, run_before, runs_at}
 pub use Rattle.dwarf_units.specs.Private.Runs.{runs_of, stretch_at, then_read}
-pub use Rattle.dwarf_units.specs.Private.StoredAttributes.{stored_attributes, stored_attributes_at}
-pub use Rattle.dwarf_units.specs.Private.Tables.{AreCached, CachedTables, IsCachedOrTooLarge}
-pub use Rattle.dwarf_units.specs.Private.{Tables.{IsParsedFrom, with_table}, Used.used_after}
-pub use Rattle.dwarf_units.specs.{Private.Used.used_attributes_at, Units.declarations_limit}
-pub use Rattle.dwarf_units.specs.{Units.{header_at, is_read}, Used.{Used, name_of, used_among}}
-pub use Rattle.dwarf_units.specs.Used.{value_named}
+pub use Rattle.dwarf_units.specs.Private.{Tables.AreCached, Used.used_after}
+pub use Rattle.dwarf_units.specs.StoredAttributes.{stored_attributes, stored_attributes_at}
+pub use Rattle.dwarf_units.specs.{StoredAttributes.used_attributes_at, Tables.CachedTables}
+pub use Rattle.dwarf_units.specs.Tables.{IsCachedOrTooLarge, IsParsedFrom, with_table}
+pub use Rattle.dwarf_units.specs.{Units.{declarations_limit, header_at, is_read}, Used.Used}
+pub use Rattle.dwarf_units.specs.Used.{name_of, used_among, value_named}
 pub use Rattle.dwarf_units.specs.declared.attribute_run.LastAttribute.TheVariants.{Checked}
 pub use Rattle.dwarf_units.specs.declared.attribute_run.LastAttribute.TheVariants.{Unchecked}
 pub use Rattle.dwarf_units.specs.declared.attributes.Attribute.{Attribute}

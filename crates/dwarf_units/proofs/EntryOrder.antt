@@ -6,7 +6,7 @@ use Common.{length-take, map, node_at, slice_get, suc, take, zero, ℕ, ◌++◌
 use Rattle.dwarf_bytes.proofs.{Items.ItemLaws.{Lists-each, Lists-within}, Numbers.Advance.bind_ok}
 use Rattle.dwarf_bytes.specs.Items.{items_from}
 use Rattle.dwarf_units.proofs.EntryAdvances.{node_at-advances}
-use Rattle.dwarf_units.specs.{Entries.{AreDepths, entry_at}, Private.Rising.RiseWithin}
+use Rattle.dwarf_units.specs.{Entries.{AreDepths, entry_at}, Rising.RiseWithin}
 use Rattle.std.specs.List.{Sorted.IsStrictlyIncreasing, cons_option}
 
 -- The depths of the nodes of a unit are the counted depths.

@@ -9,8 +9,9 @@ use Common.{ℕ, ◌++◌, ◌+◌, ◌-◌, ◌<◌, ◌∙◌, ◌∷◌, ◌�
 use Rattle.abbreviation_memo.proofs.MapLaws.{Puts}
 use Rattle.dwarf_forms.proofs.Elements.{at-end, at-front}
 use Rattle.dwarf_units.proofs.TableLaws.{all-at, parsed_at}
-use Rattle.dwarf_units.specs.Private.{AbbreviationTables.table_key, Tables.{AreElsewhere, IsAdded}}
-use Rattle.dwarf_units.specs.Private.Tables.{IsIndexOf, IsTableAt, StaysCached, size_limit}
+use Rattle.dwarf_units.specs.{AbbreviationTables.table_key, Private.Tables.{IsAdded, IsIndexOf}}
+use Rattle.dwarf_units.specs.{Private.Tables.StaysCached, Tables.{AreElsewhere, IsTableAt}}
+use Rattle.dwarf_units.specs.Tables.{size_limit}
 use Rattle.std.proofs.lemmas.{Bool.{le-leb, lt-leb}, List.{Elements.All-take, take-append-drop}}
 use Rattle.std.proofs.lemmas.{List.take_more, Option.slice_get_read}
 use Rattle.std.specs.{BTreeMap.{BTreeMap, get}, Ordering.nat_cmp}

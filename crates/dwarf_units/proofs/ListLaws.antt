@@ -4,7 +4,7 @@ use Rattle.dwarf_units.proofs.Common
 use Common.{AbbreviationDeclaration, AttributeSpecification, List, None, Option, Some, StartsWith}
 use Common.{[], append-nil, arith, full_declaration, full_declarations, length, length-append}
 use Common.{list_at, sum_by_push, unshared_count, ℕ, ◌++◌, ◌+◌, ◌∙◌, ◌∷◌, ◌≡◌}
-use Rattle.dwarf_units.specs.Private.AbbreviationTables.{unshared}
+use Rattle.dwarf_units.specs.AbbreviationTables.{unshared}
 use Rattle.std.proofs.{Common.min, lemmas.List.map-append}
 
 -- The first attributes of a stored list are its unshared ones.

@@ -12,10 +12,10 @@ use Common.{◌<◌, ◌==◌, ◌>>=◌, ◌∙◌, ◌∷◌, ◌≡◌, ◌�
 use Rattle.std.proofs.Common.{Bor, MatchOption, get_or, is_some, nat_lt, option_and_then, sym}
 use Rattle.dwarf_units.proofs.{RunReads.runs-read, SlotLaws.slots-used, StoredReads.stored_all}
 use Rattle.dwarf_units.{proofs.StoredReads.used_all, specs.Entries.{declaration_of, depth_limit}}
-use Rattle.dwarf_units.specs.{Entries.entry_at, NodeShapes.null_shape, Private.Heads.used_entry_at}
-use Rattle.dwarf_units.specs.Private.NodeLayouts.{AreLayouts, HasSlotsOf, HasUsed, IsFixedSizeNode}
-use Rattle.dwarf_units.specs.Private.NodeLayouts.{IsLayoutAt, IsLayoutOf, IsLayoutOfCode}
-use Rattle.dwarf_units.specs.Private.NodeLayouts.{code_count, code_limit, shape_of}
+use Rattle.dwarf_units.specs.{Entries.entry_at, Heads.used_entry_at}
+use Rattle.dwarf_units.specs.NodeShapes.{IsFixedSizeNode, code_count, code_limit, null_shape}
+use Rattle.dwarf_units.specs.{NodeShapes.shape_of, Private.NodeLayouts.{AreLayouts, HasSlotsOf}}
+use Rattle.dwarf_units.specs.Private.NodeLayouts.{HasUsed, IsLayoutAt, IsLayoutOf, IsLayoutOfCode}
 use Rattle.dwarf_units.specs.Private.{Runs.fixed_size, Slots.{AreSlots, used_in}}
 use Rattle.dwarf_units.specs.declared.node_layout.{NodeLayout.NodeLayout, NodeShape.NodeShape}
 use Rattle.dwarf_units.specs.declared.value_slot.ValueSlots.{ValueSlots}

@@ -2,5 +2,10 @@ pub mod Attributes
 pub mod Units
 pub mod Entries
 pub mod Used
+pub mod AbbreviationTables
+pub mod StoredAttributes
 pub mod NodeShapes
+pub mod Heads
+pub mod Rising
+pub mod Tables
 pub mod Private

@@ -1,6 +1,14 @@
--- What the nodes with a code have in common, if their size is fixed.
-use Rattle.std.specs.Prelude.{◌≡◌, true, false}
-use Rattle.dwarf_units.specs.{declared.node_layout.NodeShape.NodeShape, Entries.{Node, Entry, Null}}
+-- Nodes of a fixed size: null entries, and entries whose attributes all have a fixed size. Nodes
+-- with the same code have the same shape.
+use Rattle.abbreviation_memo.specs.declared.list_end.TheConstants.{UNSHARED}
+use Rattle.dwarf_bytes.specs.declared.format.Format.{Format}
+use Rattle.dwarf_forms.specs.Declarations.{Declaration}
+use Rattle.dwarf_units.specs.{AbbreviationTables.Table, Entries.{Entry, Node, Null, declaration_of}}
+use Rattle.dwarf_units.specs.{Entries.{depth_limit, node_at_depth}, Private.Runs.fixed_size}
+use Rattle.dwarf_units.specs.{Private.Runs.runs_of, declared.node_layout.NodeShape.NodeShape}
+use Rattle.std.specs.Prelude.{List, None, Ok, Option, Some, false, if◌then◌else◌, length, min}
+use Rattle.std.specs.Prelude.{nat_lt, option_and_then, option_map, slice_get, true, ℕ, ◌+◌, ◌&&◌}
+use Rattle.std.specs.Prelude.{◌==◌, ◌^◌, ◌||◌, ◌≡◌}
 
 -- The shape of a null entry.
 abbrev pub null_shape : NodeShape
@@ -11,3 +19,49 @@ abbrev pub HasShape : NodeShape → Node → Type 0
 HasShape shape Null = shape ≡ null_shape
 HasShape shape (Entry tag children attributes) =
     (shape.is_null ≡ false) × (shape.tag ≡ tag) × (shape.children ≡ children)
+
+-- The shape of the entries of a declaration, if their size is fixed. A declaration with UNSHARED
+-- attributes or more may share some.
+abbrev pub shape_of : Format → Declaration → Option NodeShape
+shape_of format d = if nat_lt (length d.attributes) UNSHARED && nat_lt d.tag (2 ^ 32)
+    then option_map (λ len. record {
+      is_null = false;
+      tag = d.tag;
+      children = d.children;
+      len = len;
+    }) (fixed_size (runs_of format d.attributes)) else None
+
+-- The shape of the nodes with a code.
+abbrev pub shape_of_code : Format → List Declaration → ℕ → Option NodeShape
+shape_of_code format table code = if code == 0 then Some null_shape
+    else option_and_then (shape_of format) (declaration_of table code)
+
+-- The greatest code that is encoded in one byte.
+abbrev pub code_limit : ℕ
+code_limit = 127
+
+-- The number of codes, from 0 on, whose layouts are precomputed: the codes of one byte, up to the
+-- number of declarations.
+abbrev pub code_count : {D : Type 0} → List D → ℕ
+code_count declarations = min (length declarations) code_limit + 1
+
+-- The shape of the nodes with a code, if it is precomputed.
+abbrev pub shape_at : Table → ℕ → Option NodeShape
+shape_at table code = if nat_lt code (code_count table.declarations)
+    then shape_of_code table.format table.declarations code else None
+
+-- The shape of the node at an offset of a unit and the offset after the node, if the shape is
+-- precomputed, the node is at a depth below the root, and it is not truncated.
+unfoldable pub fixed_size_node_at : Table → ℕ → List ℕ → ℕ → Option (NodeShape × ℕ)
+fixed_size_node_at table depth unit at =
+    if (depth == 0) || nat_lt depth_limit depth then None else
+    option_and_then (λ code. option_and_then (λ shape.
+    if nat_lt (length unit) (at + 1 + shape.len) then None else Some (shape, at + 1 + shape.len))
+    (shape_at table code)) (slice_get unit at)
+
+-- A node of this shape is at the offset, at this depth and after the root, and ends at the returned
+-- offset.
+abbrev pub IsFixedSizeNode : Table → ℕ → List ℕ → ℕ → NodeShape × ℕ → Type 0
+IsFixedSizeNode table depth unit at found = (node : Node)
+    × (node_at_depth table.format table.declarations depth true unit at ≡ Ok (node, found.1))
+    × HasShape found.0 node

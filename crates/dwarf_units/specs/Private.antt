@@ -1,9 +1,4 @@
-pub mod AbbreviationTables
-pub mod StoredAttributes
 pub mod Links
-pub mod Heads
-pub mod Rising
-pub mod Tables
 pub mod FixedSizes
 pub mod Runs
 pub mod Declarations
@@ -11,3 +6,4 @@ pub mod NodeLayouts
 pub mod Names
 pub mod Used
 pub mod Slots
+pub mod Tables

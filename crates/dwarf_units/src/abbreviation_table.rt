@@ -4,8 +4,8 @@ ghost use Rattle.std.specs.Prelude.{Err, IfNone, IfOk, IfSome, None, Ok, length,
 ghost use Rattle.std.specs.Prelude.{◌⊎◌};
 ghost use Rattle.dwarf_bytes.specs.Refusals.{Decodes, in_section, memory_fault};
 ghost use Rattle.dwarf_forms.specs.Tables.{declarations_of};
-ghost use Rattle.dwarf_units.specs.{Entries.declaration_of, Private.AbbreviationTables.table_size};
-ghost use Rattle.dwarf_units.specs.Private.{Declarations.IsDeclaration, Tables.IsAt};
+ghost use Rattle.dwarf_units.specs.{AbbreviationTables.table_size, Entries.declaration_of};
+ghost use Rattle.dwarf_units.specs.{Private.Declarations.IsDeclaration, Tables.IsAt};
 ghost use Rattle.dwarf_bytes.specs.declared.fault.Section.TheVariants as sections;
 
 use crate::attribute_runs::AttributeRuns;
@@ -43,7 +43,7 @@ pub(crate) struct AbbreviationTable<'a> {
 impl<'a> Model for AbbreviationTable<'a> {
     ghost use Rattle.std.specs.{List.All, Prelude.{length, map, ◌*◌, ◌≡◌, ◌≤◌}};
     ghost use Rattle.abbreviation_memo.specs.declared.list_end.TheConstants.{UNSHARED};
-    ghost use Rattle.dwarf_units.specs.Private.AbbreviationTables.{Table, unshared_count};
+    ghost use Rattle.dwarf_units.specs.AbbreviationTables.{Table, unshared_count};
     ghost use Rattle.dwarf_units.specs.Private.Declarations.{IsStored, full_declarations};
 
     ghost Value = { Table };

@@ -4,7 +4,7 @@ ghost use Rattle.std.specs.Prelude.{◌≡◌, ◌++◌, ◌∷◌, [], IfOk, On
 ghost use Rattle.dwarf_bytes.specs.Refusals.{ReadsPlace};
 ghost use Rattle.dwarf_units.specs.{Private.FixedSizes.attributes_in, Private.Runs.end_in};
 ghost use Rattle.dwarf_units.specs.Private.Runs.{last_at, run_at, run_before, stretch_at};
-ghost use Rattle.dwarf_units.specs.Private.StoredAttributes.{Fills, stored_attributes_at};
+ghost use Rattle.dwarf_units.specs.StoredAttributes.{Fills, stored_attributes_at};
 ghost use Rattle.dwarf_units.specs.Private.Used.{used_after, with_used};
 
 use crate::attributes::read_attribute;

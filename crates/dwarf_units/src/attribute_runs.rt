@@ -3,7 +3,7 @@
 ghost use Rattle.std.specs.Prelude.{◌≡◌, IfOk, IfSome, Ok, true};
 ghost use Rattle.dwarf_units.specs.{Used.used_among, Private.FixedSizes.attributes_in};
 ghost use Rattle.dwarf_units.specs.Private.Runs.{all_at, fixed_size, runs_of};
-ghost use Rattle.dwarf_units.specs.{Private.StoredAttributes.Fills, Private.Used.used_after};
+ghost use Rattle.dwarf_units.specs.{Private.Used.used_after, StoredAttributes.Fills};
 
 use crate::attribute_run::{AttributeRun, Stretch, push_position};
 use crate::attributes::is_used;

@@ -3,8 +3,8 @@
 ghost use Rattle.std.specs.Prelude.{◌≡◌, ◌+◌, ◌↔◌, length, IfOk, IsTrue};
 ghost use Rattle.dwarf_bytes.specs.Refusals.{Decodes, in_section};
 ghost use Rattle.dwarf_forms.specs.Tables.{declarations_of};
-ghost use Rattle.dwarf_units.specs.Private.AbbreviationTables.{table_key, table_size};
-ghost use Rattle.dwarf_units.specs.Private.{NodeLayouts.{AreLayouts, code_count}, Tables.IsAt};
+ghost use Rattle.dwarf_units.specs.{AbbreviationTables.{table_key, table_size}, Tables.IsAt};
+ghost use Rattle.dwarf_units.specs.{NodeShapes.code_count, Private.NodeLayouts.AreLayouts};
 ghost use Rattle.dwarf_bytes.specs.declared.fault.Section.TheVariants as sections;
 
 use crate::abbreviation_table::AbbreviationTable;
@@ -23,8 +23,8 @@ pub(crate) struct CachedTable<'a> {
 }
 
 impl<'a> Model for CachedTable<'a> {
-    ghost use Rattle.dwarf_units.specs.Private.AbbreviationTables.{Table};
-    ghost use Rattle.dwarf_units.specs.Private.NodeLayouts.{AreLayouts, code_count};
+    ghost use Rattle.dwarf_units.specs.AbbreviationTables.{Table};
+    ghost use Rattle.dwarf_units.specs.{NodeShapes.code_count, Private.NodeLayouts.AreLayouts};
 
     ghost Value = { Table };
 

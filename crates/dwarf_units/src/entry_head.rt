@@ -3,8 +3,8 @@
 ghost use Rattle.std.specs.Prelude.{IfOk, IsSome, option_map, ◌≡◌, ◌≤◌};
 ghost use Rattle.dwarf_bytes.specs.Refusals.{ReadsField};
 ghost use Rattle.dwarf_units.specs.Entries.{declaration_of, depth_limit};
-ghost use Rattle.dwarf_units.specs.Private.Heads.{ReturnsAndFills, head_at, head_in, used_entry_at};
-ghost use Rattle.dwarf_units.specs.Private.{StoredAttributes.Fills, Used.used_attributes_at};
+ghost use Rattle.dwarf_units.specs.Heads.{ReturnsAndFills, head_at, head_in, used_entry_at};
+ghost use Rattle.dwarf_units.specs.StoredAttributes.{Fills, used_attributes_at};
 
 use crate::abbreviation_table::AbbreviationDeclaration;
 use crate::linked_lists::LinkedLists;
@@ -26,7 +26,7 @@ pub struct EntryHead<'a> {
 
 impl<'a> Model for EntryHead<'a> {
     ghost use Rattle.dwarf_units.specs.Private.Declarations.{IsStored, full_declaration};
-    ghost use Rattle.dwarf_units.specs.Private.Heads.{Head};
+    ghost use Rattle.dwarf_units.specs.Heads.{Head};
 
     ghost Value = { Head };
 

@@ -4,7 +4,7 @@ ghost use Rattle.std.specs.Prelude.{◌≡◌, IfOk, IfSome, IsOk, Ok};
 ghost use Rattle.dwarf_forms.specs.Tables.{attributes_at};
 ghost use Rattle.abbreviation_memo.specs.Lists.{IsListAt, StartsWith, list_at, rest_attributes};
 ghost use Rattle.dwarf_units.specs.Private.Links.{AreLinks, IsLink, is_empty_unused};
-ghost use Rattle.dwarf_units.specs.Private.StoredAttributes.{Fills, stored_attributes_at};
+ghost use Rattle.dwarf_units.specs.StoredAttributes.{Fills, stored_attributes_at};
 ghost use Rattle.dwarf_units.specs.Private.Used.{used_after};
 
 use crate::attribute_run::read_one;

@@ -3,7 +3,7 @@
 ghost use Rattle.std.specs.Prelude.{◌≡◌, ℕ, List, IfOk};
 ghost use Rattle.dwarf_units.specs.Private.Declarations.{IsStored, full_declaration};
 ghost use Rattle.dwarf_units.specs.Private.NodeLayouts.{AreLayouts, IsLayoutOf, IsLayoutOfCode};
-ghost use Rattle.dwarf_units.specs.Private.NodeLayouts.{code_count};
+ghost use Rattle.dwarf_units.specs.NodeShapes.{code_count};
 
 use crate::abbreviation_table::{AbbreviationDeclaration, AbbreviationTable};
 use crate::value_slot::{ValueSlots, slots_of};

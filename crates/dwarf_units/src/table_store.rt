@@ -2,9 +2,9 @@
 
 ghost use Rattle.std.specs.Prelude.{◌≡◌, ◌<◌, [], Some, length, slice_get};
 ghost use Rattle.std.specs.Prelude.{IsTrue, IfOk, IfNone, IfSome};
-ghost use Rattle.dwarf_units.specs.Private.Tables.{AreElsewhere, IsCachedOrTooLarge, IsIndexOf};
-ghost use Rattle.dwarf_units.specs.Private.Tables.{IsTableAt, IsParsedFrom, IsWithinLimit};
-ghost use Rattle.dwarf_units.specs.Private.Tables.{with_table};
+ghost use Rattle.dwarf_units.specs.{Private.Tables.IsIndexOf, Tables.{AreElsewhere, IsTableAt}};
+ghost use Rattle.dwarf_units.specs.Tables.{IsCachedOrTooLarge, IsParsedFrom, IsWithinLimit};
+ghost use Rattle.dwarf_units.specs.Tables.{with_table};
 
 use crate::cached_table::{CachedTable, table_key};
 use crate::unit_headers::UnitHeader;
@@ -27,7 +27,7 @@ pub(crate) struct TableStore<'a> {
 }
 
 impl<'a> Model for TableStore<'a> {
-    ghost use Rattle.dwarf_units.specs.Private.Tables.{AreCached, CachedTables};
+    ghost use Rattle.dwarf_units.specs.{Private.Tables.AreCached, Tables.CachedTables};
 
     ghost Value = { CachedTables };
 

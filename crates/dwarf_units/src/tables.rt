@@ -4,11 +4,11 @@ ghost use Rattle.std.specs.Prelude.{◌≡◌, ℕ, ◌+◌, ◌<◌, ◌≤◌,
 ghost use Rattle.std.specs.{Prelude.{slice_get, IfOk, OnOk, IfSome, IfNone, IsTrue}, List.All};
 ghost use Rattle.dwarf_bytes.specs.Refusals.{in_section};
 ghost use Rattle.dwarf_forms.specs.Declarations.{Declaration};
+ghost use Rattle.dwarf_units.specs.{AbbreviationTables.Table, Private.Tables.IsAdded};
+ghost use Rattle.dwarf_units.specs.{Private.Tables.StaysCached, Tables.{AreElsewhere, IsAt}};
+ghost use Rattle.dwarf_units.specs.Tables.{IsCachedOrTooLarge, IsNumberOf, IsTableAt, Refuses};
+ghost use Rattle.dwarf_units.specs.Tables.{IsWithinLimit, table_read, with_table};
 ghost use Rattle.dwarf_units.specs.Units.{declarations_limit, tables_of};
-ghost use Rattle.dwarf_units.specs.{Private.AbbreviationTables.Table, Private.Tables.AreElsewhere};
-ghost use Rattle.dwarf_units.specs.Private.Tables.{IsAdded, IsAt, IsNumberOf, IsWithinLimit};
-ghost use Rattle.dwarf_units.specs.Private.Tables.{Refuses, IsCachedOrTooLarge, StaysCached};
-ghost use Rattle.dwarf_units.specs.Private.Tables.{IsTableAt, table_read, with_table};
 ghost use Rattle.dwarf_bytes.specs.declared.fault.Section.TheVariants as sections;
 
 use crate::cached_table::CachedTable;
@@ -32,7 +32,7 @@ pub struct Tables<'a> {
 
 impl<'a> Model for Tables<'a> {
     ghost use Rattle.std.specs.Prelude.{◌≡◌};
-    ghost use Rattle.dwarf_units.specs.Private.Tables.{CachedTables};
+    ghost use Rattle.dwarf_units.specs.Tables.{CachedTables};
 
     ghost Value = { CachedTables };
 

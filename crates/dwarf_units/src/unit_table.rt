@@ -2,9 +2,9 @@
 
 ghost use Rattle.std.specs.Prelude.{IfSome, MatchOption, None, Ok, length, option_map};
 ghost use Rattle.std.specs.Prelude.{◌<◌, ◌≡◌, ◌≤◌};
-ghost use Rattle.dwarf_units.specs.{Entries.depth_limit, Private.Heads.used_entry_at};
-ghost use Rattle.dwarf_units.specs.Private.NodeLayouts.{IsFixedSizeNode, IsLayoutAt};
-ghost use Rattle.dwarf_units.specs.Private.NodeLayouts.{fixed_size_node_at};
+ghost use Rattle.dwarf_units.specs.{Entries.depth_limit, Heads.used_entry_at};
+ghost use Rattle.dwarf_units.specs.NodeShapes.{IsFixedSizeNode, fixed_size_node_at};
+ghost use Rattle.dwarf_units.specs.Private.NodeLayouts.{IsLayoutAt};
 
 use crate::cached_table::CachedTable;
 use crate::entry_head::DEPTH_LIMIT;
@@ -23,8 +23,8 @@ pub struct UnitTable<'a> {
 
 impl<'a> Model for UnitTable<'a> {
     ghost use Rattle.std.specs.Prelude.{◌≡◌};
-    ghost use Rattle.dwarf_units.specs.Private.AbbreviationTables.{Table};
-    ghost use Rattle.dwarf_units.specs.Private.NodeLayouts.{AreLayouts, code_count};
+    ghost use Rattle.dwarf_units.specs.AbbreviationTables.{Table};
+    ghost use Rattle.dwarf_units.specs.{NodeShapes.code_count, Private.NodeLayouts.AreLayouts};
 
     ghost Value = { Table };
 
@@ -69,7 +69,7 @@ impl<'a> UnitTable<'a> {
     /// fixed size, is below the root, and is not truncated.
     // Inlined: called for each entry.
     #[inline(always)]
-    #[tactic(auto, unfolding(crate::specs::Private::NodeLayouts::fixed_size_node_at))]
+    #[tactic(auto, unfolding(crate::specs::NodeShapes::fixed_size_node_at))]
     pub fn fixed_size_node(
         &self,
         depth: u32,

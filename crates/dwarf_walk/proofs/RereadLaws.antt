@@ -1,10 +1,9 @@
 -- Entries that are read at their offsets.
-use Rattle.dwarf_bytes.specs.{Bind.◌>>=◌, declared.fault.Cause.Cause}
-use Rattle.dwarf_bytes.specs.declared.format.Format.{Format}
+use Rattle.dwarf_bytes.specs.{Bind.◌>>=◌, declared.{fault.Cause.Cause, format.Format.Format}}
 use Rattle.dwarf_forms.specs.Declarations.{Declaration}
-use Rattle.dwarf_units.specs.{Entries.entry_at, Private.StoredAttributes.stored_attributes}
+use Rattle.dwarf_units.specs.{Entries.entry_at, StoredAttributes.stored_attributes}
 use Rattle.dwarf_units.specs.declared.attributes.Attribute.{Attribute}
-use Rattle.dwarf_walk.specs.{Private.Named.used_at}
+use Rattle.dwarf_walk.specs.NamedEntries.{used_at}
 use Rattle.std.proofs.{Common.{List, length, refl, true, ℕ, ◌≡◌, ◌≤◌}, lemmas.Bool.le-ltb}
 use Rattle.std.specs.Prelude.{Ok, Result}
 

@@ -1,6 +1,6 @@
 -- An entry with only some of its attributes stored.
 use Rattle.dwarf_units.specs.{Attributes.is_used, Entries.{Die, Entry, value_of}}
-use Rattle.dwarf_units.specs.Private.StoredAttributes.{stored_attributes}
+use Rattle.dwarf_units.specs.StoredAttributes.{stored_attributes}
 use Rattle.dwarf_units.specs.declared.attributes.Attribute.{Attribute}
 use Rattle.dwarf_walk.specs.Private.Readers.{WalkState, after_die, after_node, die_at}
 use Rattle.dwarf_walk.specs.Stored.{named_entry, root_entry}

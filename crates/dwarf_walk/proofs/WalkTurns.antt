@@ -18,9 +18,8 @@ use Rattle.dwarf_units.specs.Entries.{opens, closes, is_root, depth_after}
 use Rattle.dwarf_units.specs.declared.unit_headers.UnitHeader.{UnitHeader}
 use Rattle.dwarf_units.proofs.EntryAdvances.{node_at_depth-moves, node_at-advances}
 use Rattle.dwarf_walk.specs.{EntryBitmap.{AddsOffsets, offsets_of}, Private.Readers.WalkState}
-use Rattle.dwarf_walk.specs.Private.Readers.{state_after, nodes_of, Takes, TakesNodes, walk_of}
-use Rattle.dwarf_walk.specs.Private.Readers.{after_node}
-use Rattle.dwarf_walk.specs.{Private.Readers.places_of, Private.WalkedScopes.AreBounded}
+use Rattle.dwarf_walk.specs.Private.Readers.{Takes, TakesNodes, nodes_of, state_after, walk_of}
+use Rattle.dwarf_walk.specs.Private.{Readers.{after_node, places_of}, WalkedScopes.AreBounded}
 use Rattle.dwarf_walk.specs.{References.or_else, Stored.{root_entry, root_in}}
 use Rattle.dwarf_walk.specs.declared.entry_bitmap.EntryBitmap.{EntryBitmap}
 use Rattle.dwarf_walk.proofs.{BitmapLaws.adds-more, ScopeLaws.{walked-push, least-push}}

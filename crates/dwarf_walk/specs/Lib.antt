@@ -3,4 +3,7 @@ pub mod ScopeEntries
 pub mod References
 pub mod Stored
 pub mod EntryBitmap
+pub mod NamedEntries
+pub mod LongEntries
+pub mod Rereading
 pub mod Private

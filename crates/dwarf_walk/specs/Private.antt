@@ -1,5 +1,2 @@
-pub mod Rereading
 pub mod WalkedScopes
-pub mod Long
-pub mod Named
 pub mod Readers

@@ -3,8 +3,8 @@
 ghost use Rattle.std.specs.Prelude.{◌≡◌, ◌-◌, List, Ok, OnOk, IfErr, IfSome, take};
 ghost use Rattle.dwarf_forms.specs.{Declarations.Declaration, Tables.declarations_of};
 ghost use Rattle.dwarf_units.specs.Units.{declarations_limit};
-ghost use Rattle.dwarf_walk.specs.Private.Rereading.{ReturnsAndStores, len_at, HasTableOf};
-ghost use Rattle.dwarf_walk.specs.Private.Named.{used_by_name_at};
+ghost use Rattle.dwarf_walk.specs.Rereading.{HasTableOf, ReturnsAndStores, len_at};
+ghost use Rattle.dwarf_walk.specs.NamedEntries.{used_by_name_at};
 ghost use Rattle.dwarf_bytes.specs.declared.fault.Cause.TheVariants as causes;
 
 use crate::entry_reader::EntryReader;

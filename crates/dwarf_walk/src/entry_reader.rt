@@ -7,12 +7,10 @@ ghost use Rattle.dwarf_forms.specs.{Declarations.Declaration, Tables.declaration
 ghost use Rattle.dwarf_units.specs.Units.{declarations_limit};
 ghost use Rattle.dwarf_walk.specs.declared.unit_entries.NamedEntry.{NamedEntry as Named};
 ghost use Rattle.dwarf_walk.specs.Sections.{Sections as SectionBytes, sections_of};
-ghost use Rattle.dwarf_walk.specs.Private.Rereading.{scope_entry_at, IsReaderOf, len_at, cached_by};
-ghost use Rattle.dwarf_walk.specs.Private.Rereading.{HasTableOf};
-ghost use Rattle.dwarf_walk.specs.Private.Rereading.{HasPermanentTable, IsShort, IsCachedAt};
-ghost use Rattle.dwarf_walk.specs.{Private.Rereading.GivesNames, EntryBitmap.has_entry};
-ghost use Rattle.dwarf_walk.specs.Private.Long.{cached_at, long_entry};
-ghost use Rattle.dwarf_walk.specs.Private.Named.{named_entry_at};
+ghost use Rattle.dwarf_walk.specs.{EntryBitmap.has_entry, LongEntries.{cached_at, long_entry}};
+ghost use Rattle.dwarf_walk.specs.{NamedEntries.named_entry_at, Rereading.GivesNames};
+ghost use Rattle.dwarf_walk.specs.Rereading.{HasPermanentTable, HasTableOf, IsCachedAt, IsReaderOf};
+ghost use Rattle.dwarf_walk.specs.Rereading.{IsShort, cached_by, len_at, scope_entry_at};
 ghost use Rattle.dwarf_bytes.specs.declared.fault.Cause.TheVariants as causes;
 
 use crate::entry_bitmap::EntryBitmap;

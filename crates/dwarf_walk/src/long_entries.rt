@@ -3,7 +3,7 @@
 ghost use Rattle.std.specs.Prelude.{◌≡◌, ◌==◌, ◌↔◌, None, Some, IfSome, IsTrue, OnOk, OnErr};
 ghost use Rattle.std.specs.Prelude.{if◌then◌else◌};
 ghost use Rattle.dwarf_walk.specs.declared.unit_entries.NamedEntry.{NamedEntry as Named};
-ghost use Rattle.dwarf_walk.specs.Private.Long.{cached_at, long_entry};
+ghost use Rattle.dwarf_walk.specs.LongEntries.{cached_at, long_entry};
 
 use crate::unit_entries::NamedEntry;
 use dwarf_bytes::Format;

@@ -1,6 +1,6 @@
 -- The units of an object, and what the program stores for them.
 use Rattle.std.specs.Prelude.{◌≡◌, List, [], map, Result, Ok, Err}
-use Rattle.dwarf_walk.specs.{Sections.Sections, Private.Rereading.IsReaderOf}
+use Rattle.dwarf_walk.specs.{Rereading.IsReaderOf, Sections.Sections}
 use Rattle.dwarf_entries.specs.{declared.units.Units.TheInside.Inside, Units.CompilationUnit}
 use Rattle.dwarf_entries.specs.{Units.units_read, Private.EntryOffsets.{AreStored, IsBitmapOf}}
 use Rattle.dwarf_entries.specs.{Private.NameCache.IsCacheOf, Private.Passes.bases_of}

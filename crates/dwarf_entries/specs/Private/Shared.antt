@@ -3,12 +3,11 @@ use Rattle.std.specs.Prelude.{◌≡◌, ℕ, ◌-◌, ◌≤◌, ◌<◌, List,
 use Rattle.std.specs.Prelude.{◌==◌, if◌then◌else◌, slice_get, ◌^◌, Option, IfSome, take, drop}
 use Rattle.std.specs.Option.{option_map_or}
 use Rattle.dwarf_bytes.specs.{declared.fault.Cause.Cause, Refusals.Fails}
-use Rattle.dwarf_entries.specs.{declared.calls.CallSite.CallSite, declared.calls.Calls.Calls}
-use Rattle.dwarf_entries.specs.{declared.scope.Root.Root, declared.scope.Scope.Scope as StoredScope}
-use Rattle.dwarf_entries.specs.declared.scope.ScopeFacts.{ScopeFacts}
-use Rattle.dwarf_entries.specs.Private.PackedNames.{unpacked_text}
-use Rattle.dwarf_entries.specs.{declared.scope_lists.ScopeLists.ScopeLists, Scopes.Scope}
-use Rattle.dwarf_entries.specs.Scopes.{scope_of, stmt_list_by_number, wide_index, ParsedScope}
+use Rattle.dwarf_entries.specs.{Private.PackedNames.unpacked_text, Scopes.{Scope, scope_of}}
+use Rattle.dwarf_entries.specs.Scopes.{ParsedScope, stmt_list_by_number, wide_index}
+use Rattle.dwarf_entries.specs.declared.{calls.{CallSite.CallSite, Calls.Calls}, scope.Root.Root}
+use Rattle.dwarf_entries.specs.declared.scope.{Scope.Scope as StoredScope, ScopeFacts.ScopeFacts}
+use Rattle.dwarf_entries.specs.declared.scope_lists.ScopeLists.{ScopeLists}
 use Rattle.dwarf_ranges.specs.declared.range.Range.{Range}
 use Rattle.dwarf_entries.specs.declared.calls.Calls.TheVariants as calls
 

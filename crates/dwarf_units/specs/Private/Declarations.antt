@@ -4,7 +4,7 @@ use Rattle.abbreviation_memo.specs.Lists.{StartsWith, list_at}
 use Rattle.dwarf_bytes.specs.declared.format.Format.{Format}
 use Rattle.dwarf_forms.specs.Declarations.{Declaration}
 use Rattle.dwarf_forms.specs.declared.attribute.AttributeSpecification.{AttributeSpecification}
-use Rattle.dwarf_units.specs.{Entries.declaration_of, Private.AbbreviationTables.Table}
+use Rattle.dwarf_units.specs.{AbbreviationTables.Table, Entries.declaration_of}
 use Rattle.dwarf_units.specs.Private.Runs.{runs_of}
 use Rattle.dwarf_units.specs.declared.abbreviation_table.AbbreviationDeclaration
 use Rattle.std.specs.Prelude.{List, Some, map, ℕ, ◌≡◌}

@@ -9,9 +9,8 @@ use Rattle.dwarf_forms.specs.declared.attribute.AttributeSpecification.{Attribut
 use Rattle.dwarf_units.specs.Attributes.{accepts, is_negative_count, number_of}
 use Rattle.dwarf_units.specs.Private.Names.{named_attribute, used_name}
 use Rattle.dwarf_units.specs.declared.attributes.Attribute.{Attribute}
-use Rattle.dwarf_units.specs.declared.used_position.UsedPosition.{UsedPosition}
+use Rattle.dwarf_units.specs.declared.used_position.{UsedPosition.UsedPosition, UsedValue.UsedValue}
 use Rattle.dwarf_units.specs.declared.used_position.UsedValue.TheVariants.{At, Constant}
-use Rattle.dwarf_units.specs.declared.used_position.UsedValue.{UsedValue}
 use Rattle.std.specs.{Option.option_map_or, Prelude.{Err, List, None, Ok, Option, Result, Some}}
 use Rattle.std.specs.Prelude.{if◌then◌else◌, map, nat_le, option_and_then, option_map, ℕ, ◌+◌}
 

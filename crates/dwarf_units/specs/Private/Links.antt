@@ -4,7 +4,7 @@ use Rattle.abbreviation_memo.specs.declared.list_start.ListStart.{ListStart}
 use Rattle.dwarf_bytes.specs.declared.format.Format.{Format, TheVariants.Dwarf32}
 use Rattle.dwarf_forms.specs.declared.attribute.AttributeSpecification.{AttributeSpecification}
 use Rattle.dwarf_units.specs.{Attributes.is_used, Private.FixedSizes.fixed_len}
-use Rattle.dwarf_units.specs.Private.StoredAttributes.{stored_attributes_at}
+use Rattle.dwarf_units.specs.StoredAttributes.{stored_attributes_at}
 use Rattle.std.specs.{BTreeMap.{BTreeMap, get}, Option.option_map_or, Ordering.nat_cmp}
 use Rattle.std.specs.Prelude.{Bool, IfSome, List, Some, false, length, not, ℕ, ◌&&◌, ◌<◌, ◌==◌, ◌≡◌}
 use Rattle.std.specs.Prelude.{◌≤◌}

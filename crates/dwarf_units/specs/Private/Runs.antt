@@ -6,7 +6,7 @@ use Rattle.dwarf_bytes.specs.declared.{form.ValueLayout.ValueLayout, format.Form
 use Rattle.dwarf_forms.specs.declared.attribute.AttributeSpecification.{AttributeSpecification}
 use Rattle.dwarf_units.specs.Attributes.{accepts, is_used}
 use Rattle.dwarf_units.specs.Private.FixedSizes.{attributes_in, end_of, used_position}
-use Rattle.dwarf_units.specs.Private.StoredAttributes.{stored_attributes_at}
+use Rattle.dwarf_units.specs.StoredAttributes.{stored_attributes_at}
 use Rattle.dwarf_units.specs.declared.attribute_run.LastAttribute.{LastAttribute}
 use Rattle.dwarf_units.specs.declared.attribute_run.LastAttribute.TheVariants.{Checked, Unchecked}
 use Rattle.dwarf_units.specs.declared.attributes.Attribute.{Attribute}

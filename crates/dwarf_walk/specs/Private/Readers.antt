@@ -5,11 +5,10 @@ use Rattle.std.specs.{Prelude.{is_some, Result, Ok, Err, if◌then◌else◌, ta
 use Rattle.dwarf_bytes.specs.{declared.fault.Cause.Cause, declared.format.Format.Format, Bind.◌>>=◌}
 use Rattle.dwarf_bytes.specs.{Items.{At, items_from}, Position.Position, Refusals.Fails}
 use Rattle.dwarf_forms.specs.Declarations.{Declaration}
-use Rattle.dwarf_units.specs.declared.attributes.Attribute.{Attribute}
-use Rattle.dwarf_units.specs.{declared.unit_headers.UnitHeader.UnitHeader, Entries.{Node, Entry}}
-use Rattle.dwarf_units.specs.Entries.{Null, LocatedNode, Die, die_of, depth_after, node_at_depth}
-use Rattle.dwarf_units.specs.{Entries.node_at, Private.StoredAttributes.stored_attributes}
-use Rattle.dwarf_units.specs.Used.{Used, used_among}
+use Rattle.dwarf_units.specs.Entries.{Die, Entry, LocatedNode, Node, Null, depth_after, die_of}
+use Rattle.dwarf_units.specs.{Entries.{node_at, node_at_depth}, StoredAttributes.stored_attributes}
+use Rattle.dwarf_units.specs.{Used.{Used, used_among}, declared.attributes.Attribute.Attribute}
+use Rattle.dwarf_units.specs.declared.unit_headers.UnitHeader.{UnitHeader}
 use Rattle.dwarf_walk.specs.declared.walk.{Depths.Depths, NodeHead.NodeHead, Walk.Walk}
 use Rattle.dwarf_walk.specs.declared.descendants.WalkedScope.{WalkedScope}
 use Rattle.dwarf_walk.specs.declared.unit_entries.RootEntry.{RootEntry}

@@ -1,6 +1,6 @@
 use Rattle.dwarf_units.proofs.{◌≡◌, ◌+◌, ℕ, ap, ◌∙◌, arith, layouts-more}
 use Rattle.std.proofs.Common.{min}
-use Rattle.dwarf_units.specs.Private.NodeLayouts.{code_count}
+use Rattle.dwarf_units.specs.NodeShapes.{code_count}
 use Rattle.dwarf_units.proofs.node_layout.layouts.Goals as goal
 
 pub loop-code-preserved : goal.loop-code-preserved

@@ -1,6 +1,5 @@
 use Rattle.std.proofs.Common.{ap, arith, ◌∙◌, ◌≡◌}
-use Rattle.dwarf_units.specs.Private.AbbreviationTables.{Table}
-use Rattle.dwarf_units.specs.declared.unit_headers.UnitHeader.{UnitHeader}
+use Rattle.dwarf_units.specs.{AbbreviationTables.Table, declared.unit_headers.UnitHeader.UnitHeader}
 use Rattle.dwarf_walk.proofs.WalkTurns.{walk-end, walk-fault, walk-item, walk-items}
 use Rattle.dwarf_walk.proofs.walk.walk_unit.Goals as goal
 

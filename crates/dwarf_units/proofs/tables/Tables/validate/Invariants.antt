@@ -1,5 +1,5 @@
 use Rattle.dwarf_units.proofs.{All, ◌≡◌, take, IsCachedOrTooLarge, AreParsedSoFar}
-use Rattle.dwarf_units.specs.Private.Tables.{IsWithinLimit}
+use Rattle.dwarf_units.specs.Tables.{IsWithinLimit}
 use Rattle.dwarf_units.proofs.tables.Tables.validate.Given as goal
 
 abbrev pub invariant-loop-unit : goal.invariant-loop-unit

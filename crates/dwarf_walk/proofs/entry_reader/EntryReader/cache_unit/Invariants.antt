@@ -1,4 +1,4 @@
-use Rattle.dwarf_walk.specs.{EntryBitmap.has_entry, Private.Rereading.{IsCachedAt, IsReaderOf}}
+use Rattle.dwarf_walk.specs.{EntryBitmap.has_entry, Rereading.{IsCachedAt, IsReaderOf}}
 use Rattle.dwarf_walk.specs.Sections.{Sections}
 use Rattle.std.proofs.Common.{true, ℕ, ◌<◌, ◌≡◌, ◌≤◌}
 use Rattle.dwarf_walk.proofs.entry_reader.EntryReader.cache_unit.Given as goal

@@ -1,4 +1,4 @@
-use Rattle.dwarf_walk.specs.Private.Long.{long_entry}
+use Rattle.dwarf_walk.specs.LongEntries.{long_entry}
 use Rattle.std.proofs.Common.{arith, inl}
 use Rattle.dwarf_walk.proofs.entry_reader.EntryReader.names_at.Goals as goal
 

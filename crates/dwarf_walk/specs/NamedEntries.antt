@@ -1,10 +1,10 @@
--- The result of reading an entry at its offset, for the contracts of the entry reader.
+-- The result of reading an entry at its offset.
 use Rattle.std.specs.Prelude.{ℕ, List, length, true, Result, Ok, nat_lt}
 use Rattle.dwarf_bytes.specs.{declared.fault.Cause.Cause, declared.format.Format.Format, Bind.◌>>=◌}
 use Rattle.dwarf_bytes.specs.Items.{refuse_if}
 use Rattle.dwarf_forms.specs.Declarations.{Declaration}
 use Rattle.dwarf_units.specs.{declared.attributes.Attribute.Attribute, Entries.{Die, entry_at}}
-use Rattle.dwarf_units.specs.{Private.StoredAttributes.stored_attributes, Used.{Used, used_among}}
+use Rattle.dwarf_units.specs.{StoredAttributes.stored_attributes, Used.{Used, used_among}}
 use Rattle.dwarf_walk.specs.{declared.unit_entries.NamedEntry.NamedEntry, Stored.named_entry}
 use Rattle.dwarf_bytes.specs.declared.fault.Cause.TheVariants as causes
 

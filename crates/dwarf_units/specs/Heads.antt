@@ -6,8 +6,8 @@ use Rattle.dwarf_bytes.specs.{Items.{reading, refuse_if}, Numbers.uleb_at, Posit
 use Rattle.dwarf_bytes.specs.Refusals.{Fails}
 use Rattle.dwarf_forms.specs.Declarations.{Declaration}
 use Rattle.dwarf_units.specs.Entries.{depth_limit, declaration_of, entry_at}
-use Rattle.dwarf_units.specs.Private.AbbreviationTables.{Table}
-use Rattle.dwarf_units.specs.{Private.StoredAttributes.stored_attributes, Used.{Used, used_among}}
+use Rattle.dwarf_units.specs.AbbreviationTables.{Table}
+use Rattle.dwarf_units.specs.{StoredAttributes.stored_attributes, Used.{Used, used_among}}
 use Rattle.dwarf_bytes.specs.declared.fault.Cause.TheVariants as causes
 
 -- The declaration of an entry in a unit of a format.

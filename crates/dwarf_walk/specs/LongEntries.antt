@@ -1,7 +1,7 @@
--- The cache of long entries, for the contracts of the entry reader.
+-- The cache of long entries.
 use Rattle.dwarf_forms.specs.{Declarations.Declaration, Tables.declarations_of}
 use Rattle.dwarf_units.specs.{Units.declarations_limit, declared.unit_headers.UnitHeader.UnitHeader}
-use Rattle.dwarf_walk.specs.Private.Named.{named_entry_at}
+use Rattle.dwarf_walk.specs.NamedEntries.{named_entry_at}
 use Rattle.dwarf_walk.specs.declared.long_entries.{LongEntries.LongEntries, LongEntry.LongEntry}
 use Rattle.dwarf_walk.specs.declared.unit_entries.NamedEntry.{NamedEntry}
 use Rattle.std.specs.{BTreeMap.get, Ordering.nat_cmp, Prelude.{List, Ok, Option, Some, take, ℕ}}

@@ -1,11 +1,11 @@
--- Re-reading entries, for the contracts of the entry reader.
+-- Re-reading entries at their offsets.
 use Rattle.dwarf_bytes.specs.{Bind.◌>>=◌, Refusals.{Fails, Gives}, declared.fault.Cause.Cause}
 use Rattle.dwarf_bytes.specs.declared.format.Format.{Format}
 use Rattle.dwarf_forms.specs.{Declarations.Declaration, Tables.declarations_of}
-use Rattle.dwarf_units.specs.{Entries.entry_at, Private.Tables.IsNumberOf}
+use Rattle.dwarf_units.specs.{Entries.entry_at, Tables.IsNumberOf}
 use Rattle.dwarf_units.specs.{Units.declarations_limit, declared.unit_headers.UnitHeader.UnitHeader}
-use Rattle.dwarf_walk.specs.Private.{Long.{AreCachedOf, cached_at, long_entry}, Named.entry_with}
-use Rattle.dwarf_walk.specs.{Private.Named.{named_entry_at, used_at}, Sections.Sections}
+use Rattle.dwarf_walk.specs.{LongEntries.{AreCachedOf, cached_at, long_entry}, Sections.Sections}
+use Rattle.dwarf_walk.specs.NamedEntries.{entry_with, named_entry_at, used_at}
 use Rattle.dwarf_walk.specs.{Stored.scope_entry_of, declared.entry_reader.EntryReader.EntryReader}
 use Rattle.dwarf_walk.specs.declared.entry_reader.TheConstants.{LONG}
 use Rattle.dwarf_walk.specs.declared.long_entries.LongEntry.{LongEntry}
