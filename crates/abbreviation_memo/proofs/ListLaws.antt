@@ -1,9 +1,8 @@
 -- Attribute lists by their first attributes and the rest.
 use Rattle.abbreviation_memo.specs.Lists.{IsListAt, first_of, list_at, list_from, listed}
 use Rattle.dwarf_bytes.proofs.Items.ItemLaws.{Lists-within, first_step, items_from-Lists}
-use Rattle.dwarf_bytes.proofs.Items.ItemLaws.{items_from-step, with_front}
-use Rattle.dwarf_bytes.proofs.Items.Turns.{SoFar, so-far-item, so-far-none}
-use Rattle.dwarf_bytes.proofs.Numbers.Moves.{same-item}
+use Rattle.dwarf_bytes.proofs.Items.{ItemLaws.{items_from-step, with_front}, Turns.SoFar}
+use Rattle.dwarf_bytes.proofs.{Items.Turns.{so-far-item, so-far-none}, Numbers.Moves.same-item}
 use Rattle.dwarf_bytes.specs.Items.{At, End, Item, Lists, items_from, without_offset}
 use Rattle.dwarf_bytes.specs.{Position.Position, Refusals.ReadsNext, declared.fault.Cause.Cause}
 use Rattle.dwarf_forms.proofs.Moves.{attribute_at-advances, attribute_at-ends, attributes-ok}
@@ -12,9 +11,8 @@ use Rattle.dwarf_forms.proofs.SuffixLists.{attribute-again, end-again, list-cont
 use Rattle.dwarf_forms.specs.Tables.{attribute_at, attributes_at}
 use Rattle.dwarf_forms.specs.declared.attribute.AttributeSpecification.{AttributeSpecification}
 use Rattle.std.proofs.Common.{Err, IfSome, List, None, Ok, Option, Result, Some, [], ap, append-nil}
-use Rattle.std.proofs.Common.{append_assoc, suc, ◌-◌}
-use Rattle.std.proofs.Common.{arith, false, length, refl, sym, ℕ, ◌++◌, ◌<◌, ◌==◌, ◌∙◌, ◌∷◌, ◌≡◌}
-use Rattle.std.proofs.{Common.◌≤◌, lemmas.List.Folds.list_any-append}
+use Rattle.std.proofs.Common.{append_assoc, arith, false, length, refl, suc, sym, ℕ, ◌++◌, ◌-◌, ◌<◌}
+use Rattle.std.proofs.{Common.{◌==◌, ◌∙◌, ◌∷◌, ◌≡◌, ◌≤◌}, lemmas.List.Folds.list_any-append}
 use Rattle.std.specs.List.{list_any}
 
 pub list-read : (section : List ℕ) (at : ℕ) (xs : List AttributeSpecification) (after : ℕ)

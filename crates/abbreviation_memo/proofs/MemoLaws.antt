@@ -1,13 +1,12 @@
 -- The memos of lists, and the names of their attributes.
-use Rattle.abbreviation_memo.specs.{Lists.list_at, Private.Memo.{AreMemos, HasNames, IsMemo}}
-use Rattle.abbreviation_memo.specs.{Private.NameSets.SetsStay, declared.memoized_lists.Memo.Memo}
-use Rattle.abbreviation_memo.specs.declared.name_sets.Branch.{Branch}
+use Rattle.abbreviation_memo.proofs.{ListLaws.list-read, MapLaws.{Puts, entries-put}}
+use Rattle.abbreviation_memo.{proofs.SetLaws.HasMore, specs.{Lists.list_at, Private.Memo.AreMemos}}
+use Rattle.abbreviation_memo.specs.Private.{Memo.{HasNames, IsMemo}, NameSets.SetsStay}
+use Rattle.abbreviation_memo.specs.declared.{memoized_lists.Memo.Memo, name_sets.Branch.Branch}
 use Rattle.dwarf_forms.specs.Tables.{attributes_at}
 use Rattle.dwarf_forms.specs.declared.attribute.AttributeSpecification.{AttributeSpecification}
 use Rattle.std.proofs.Common.{List, Ok, [], arith, length, ℕ, ◌<◌, ◌∙◌, ◌∷◌, ◌≡◌}
 use Rattle.std.specs.BTreeMap.{BTreeMap}
-use Rattle.abbreviation_memo.proofs.{ListLaws.list-read, MapLaws.{Puts, entries-put}}
-use Rattle.abbreviation_memo.proofs.SetLaws.{HasMore}
 
 -- ---- names
 

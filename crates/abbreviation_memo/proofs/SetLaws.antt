@@ -4,10 +4,9 @@ use Rattle.abbreviation_memo.specs.Private.NameSets.{branch_at, is_in, no_names,
 use Rattle.abbreviation_memo.specs.declared.name_sets.Branch.{Branch}
 use Rattle.std.proofs.Common.{List, [], ap, arith, false, length, length-append, refl, reverse, ℕ}
 use Rattle.std.proofs.Common.{◌%◌, ◌++◌, ◌/◌, ◌<◌, ◌==◌, ◌||◌, ◌∙◌, ◌∷◌, ◌≡◌, ◌≢◌}
-use Rattle.std.proofs.{Math.ListN.get_or-append, Math.Seq.get_or-append_seam}
-use Rattle.std.proofs.{lemmas.Int.Digits.digits_of_step, lemmas.List.{get_or_past, reverse-append}}
-use Rattle.std.proofs.lemmas.Option.{slice_get_within}
-use Rattle.std.specs.Int.Digits.{digits_of}
+use Rattle.std.proofs.Math.{ListN.get_or-append, Seq.get_or-append_seam}
+use Rattle.std.proofs.lemmas.{Int.Digits.digits_of_step, List.{get_or_past, reverse-append}}
+use Rattle.std.{proofs.lemmas.Option.slice_get_within, specs.Int.Digits.digits_of}
 
 -- ---- a name by its bits
 

@@ -10,8 +10,8 @@ pub use Rattle.dwarf_bytes.proofs.Numbers.{LengthLaws.initial_length_at-moves, M
 pub use Rattle.dwarf_bytes.proofs.Numbers.Moves.{same-ok, uleb-moves}
 pub use Rattle.dwarf_bytes.proofs.Strings.SectionNames.{before-all, string-after-end}
 pub use Rattle.dwarf_bytes.proofs.Strings.StringLaws.{text-encoded}
-pub use Rattle.dwarf_forms.proofs.Elements.{at-front}
-pub use Rattle.dwarf_forms.specs.{Declarations.Declaration, Tables.declarations_of}
+pub use Rattle.dwarf_forms.{proofs.Elements.at-front, specs.Declarations.Declaration}
+pub use Rattle.dwarf_forms.specs.Tables.{declarations_of}
 pub use Rattle.dwarf_ranges.proofs.ScopeBudget.{Fits, budget-left, covers-fits}
 pub use Rattle.dwarf_ranges.specs.{Bases.{item_at, no_bases, optional}, Ranges.AddsRanges}
 pub use Rattle.dwarf_ranges.specs.{Ranges.covers_by, declared.bases.{Bases.Bases, Table.Table}}
@@ -47,9 +47,9 @@ pub use Rattle.std.proofs.lemmas.List.{take-append-le, take-take, take_all, take
 pub use Rattle.std.proofs.lemmas.Option.{get_or_from_slice_get, same_Some, slice_get-get_or}
 pub use Rattle.std.proofs.lemmas.Option.{slice_get-map, slice_get_past, slice_get_read}
 pub use Rattle.std.proofs.lemmas.Option.{slice_get_within, unwrap_or-slice_get}
-pub use Rattle.std.proofs.lemmas.Slice.Zip.{get_or-zip, length-zip}
-pub use Rattle.std.specs.List.{AllPairs, Sorted.{IsNonDecreasingBy, IsPartitionPoint}, filter_map}
-pub use Rattle.std.specs.{List.{find, list_any, prefix_len}, Option.option_or, Result.IsErrAnd}
+pub use Rattle.std.{proofs.lemmas.Slice.Zip.{get_or-zip, length-zip}, specs.List.AllPairs}
+pub use Rattle.std.specs.List.{Sorted.{IsNonDecreasingBy, IsPartitionPoint}, filter_map, find}
+pub use Rattle.std.specs.{List.{list_any, prefix_len}, Option.option_or, Result.IsErrAnd}
 pub use Rattle.std.specs.declared.alloc.Global.{Global}
 pub use bytes.{Bind.◌>>=◌, Items.{At, Lists, each, items_from, reading, with_offset}}
 pub use bytes.Refusals.{Fails, at_item, in_section, memory_fault}
@@ -58,26 +58,24 @@ pub use bytes.declared.fault.Cause.{Cause, TheVariants.{OriginDepth, Reference}}
 pub use bytes.declared.fault.{LoadFault.LoadFault, Section.{Section, TheVariants.DebugAbbrev}}
 pub use bytes.declared.fault.Section.TheVariants.{DebugInfo, DebugLineStr, DebugStr}
 pub use bytes.declared.{format.Format.Format, tables.TableKind.TheVariants.StrOffsets}
-pub use entries.Names.{EntryNames, Member, first_on, members_of, name_on, names_of, of_member}
-pub use entries.Names.{member_at, references_limit}
-pub use entries.{Names.{target_of, text_in, text_of}, Order.{AreInOrder, AreNested, AreNumbered}}
-pub use entries.{Order.HasDataOf, Private.EntryOffsets.{AreStored, all_offsets, scope_count}}
-pub use entries.Private.{EntryOffsets.stored_unit_of, Members.{AreFirst, Finds, FindsFirst}}
-pub use entries.Private.Members.{IsFirst, IsMember, IsPlaceOf, LeadsTo, member_in}
-pub use entries.Private.NameCache.{IsCacheOf, second_names, slot_at, slot_of, target_names}
-pub use entries.Private.PackedNames.{unpacked_names, unpacked_text}
-pub use entries.Private.ObjectUnits.{AreUnitsOf, ObjectUnits, units_of_object, units_or_none}
-pub use entries.Private.Passes.{AreParsedTo, IsScopeSite, IsSiteRead}
+pub use entries.Names.{EntryNames, Member, first_on, member_at, members_of, name_on, names_of}
+pub use entries.{Names.{of_member, references_limit, target_of, text_in, text_of}, Order.AreInOrder}
+pub use entries.{Order.{AreNested, AreNumbered, HasDataOf}, Passes.PassedTo}
+pub use entries.Private.EntryOffsets.{AreStored, all_offsets, scope_count, stored_unit_of}
+pub use entries.Private.Members.{AreFirst, Finds, FindsFirst, IsFirst, IsMember, IsPlaceOf, LeadsTo}
+pub use entries.Private.{Members.member_in, NameCache.{IsCacheOf, second_names, slot_at, slot_of}}
+pub use entries.Private.{NameCache.target_names, ObjectUnits.{AreUnitsOf, ObjectUnits}}
+pub use entries.Private.{ObjectUnits.{units_of_object, units_or_none}, PackedNames.unpacked_names}
+pub use entries.Private.{PackedNames.unpacked_text, Passes.{AreParsedTo, IsScopeSite, IsSiteRead}}
 pub use entries.Private.Passes.{bases_in, bases_of, first_number, number_of_scopes, scope_facts}
-pub use entries.{Passes.PassedTo, Scopes.{all_scopes, all_sites, parse_scope}}
-pub use entries.Units.{all_bases, all_entries}
 pub use entries.Private.Shared.{AddsFacts, AreConsecutive, IsInList, IsPushed, facts_of}
 pub use entries.{Private.Shared.ranges_start, Scopes.{Own, ParsedScope, Scope, ScopeSite, Tree}}
-pub use entries.Scopes.{call_site, covers_there, items_limit, own, own_of, root_of, roots_from}
-pub use entries.Scopes.{scope_at, scope_of, scope_of_site, scopes_from, scopes_of, sites_in}
-pub use entries.{Scopes.{stmt_list_by_number, stmt_list_of, wide_index}, TreeLaws.AreContiguous}
-pub use entries.TreeLaws.{ArePartsFrom, FillsUnit, IsEntry, IsTextOf, section_bytes}
-pub use entries.Units.{CompilationUnit, bases_of_first, unit_of, with_bases}
+pub use entries.Scopes.{all_scopes, all_sites, call_site, covers_there, items_limit, own, own_of}
+pub use entries.Scopes.{parse_scope, root_of, roots_from, scope_at, scope_of, scope_of_site}
+pub use entries.Scopes.{scopes_from, scopes_of, sites_in, stmt_list_by_number, stmt_list_of}
+pub use entries.{Scopes.wide_index, TreeLaws.{AreContiguous, ArePartsFrom, FillsUnit, IsEntry}}
+pub use entries.{TreeLaws.{IsTextOf, section_bytes}, Units.{CompilationUnit, all_bases}}
+pub use entries.Units.{all_entries, bases_of_first, unit_of, with_bases}
 pub use entries.declared.{calls.{CallSite.CallSite, Calls.Calls}, name_cache.NameCache.NameCache}
 pub use entries.declared.origin_chains.{FirstNames.FirstNames, PackedNames.PackedNames}
 pub use entries.declared.origin_chains.{UnitAttribute.UnitAttribute, UnitEntry.UnitEntry}
@@ -85,8 +83,8 @@ pub use entries.declared.{references.UnitPlace.UnitPlace, scope.{Root.Root, Scop
 pub use entries.declared.{scope_lists.ScopeLists.ScopeLists, text_offset.TextOffset.TextOffset}
 pub use entries.declared.{unit_scopes.ScopeNumbers.ScopeNumbers, units.Units.TheInside.Inside}
 pub use units.Entries.{Die, IsBelow, LocatedNode, attribute, below, die_of, node_at}
-pub use units.{Rising.RiseWithin, StoredAttributes.stored_attributes}
-pub use units.Units.{declarations_limit, header_at, header_in, is_read}
+pub use units.{Rising.RiseWithin, StoredAttributes.stored_attributes, Units.declarations_limit}
+pub use units.Units.{header_at, header_in, is_read}
 pub use units.declared.attributes.AttributeValue.{AttributeValue}
 pub use units.declared.unit_headers.UnitHeader.{UnitHeader}
 pub use walk.{EntryBitmap.{AddsOffsets, offsets_of}, NamedEntries.{named_entry_at, used_at}}

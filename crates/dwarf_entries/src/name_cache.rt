@@ -21,7 +21,7 @@ pub(crate) struct CachedTarget {
 }
 
 impl CachedTarget {
-    /// Packs a target and its names. An offset of 2^32 or more is reported as an allocation failure.
+    /// Packs a target and its names. Reports an offset of 2^32 or more as an allocation failure.
     fn of(offset: usize, names: PackedNames) -> Result<CachedTarget, AllocError>
         ensures { IfOk result (λ packed. cached_names_of packed
             ≡ record { offset = offset; names = unpacked_names names }) }

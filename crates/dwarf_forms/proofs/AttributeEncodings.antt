@@ -3,20 +3,19 @@
 use Rattle.dwarf_bytes.proofs.{Contents.ContentEncodings.front-within, Numbers.Advance.reading-ok}
 use Rattle.dwarf_bytes.proofs.Numbers.AtOffsets.{fixed-again, fixed-encoded}
 use Rattle.dwarf_bytes.proofs.Numbers.LebEncodings.{sleb-again, sleb-encoded, uleb-again}
-use Rattle.dwarf_bytes.proofs.Numbers.LebEncodings.{uleb-encoded}
-use Rattle.dwarf_bytes.specs.{Items.{End, Item, reading}, Numbers.{IsEncodedAt, IsUleb}}
-use Rattle.dwarf_bytes.specs.Numbers.{little_endian, sleb_at, u8_at, uleb_at}
+use Rattle.dwarf_bytes.{proofs.Numbers.LebEncodings.uleb-encoded, specs.Items.{End, Item, reading}}
+use Rattle.dwarf_bytes.specs.Numbers.{IsEncodedAt, IsUleb, little_endian, sleb_at, u8_at, uleb_at}
 use Rattle.dwarf_bytes.specs.declared.constants.TheConstants.{DW_FORM_IMPLICIT_CONST}
-use Rattle.dwarf_forms.specs.Declarations.{EncodesAttribute, EncodesConstant, EndsAttributes}
-use Rattle.dwarf_forms.specs.Tables.{attribute_at, attributes_at, constant_at}
-use Rattle.dwarf_forms.specs.declared.attribute.AttributeSpecification.{AttributeSpecification}
-use Rattle.std.proofs.Common.{List, None, Ok, Option, Some, [], arith, length, refl, ℕ, ℤ, ◌++◌}
-use Rattle.std.proofs.Common.{◌↔◌, ◌∷◌, ◌≡◌, ◌≢◌}
 use Rattle.dwarf_forms.proofs.Encodings.{AreDistinct, AreEncoded, IsDecoded, StandsAt, again, both}
 use Rattle.dwarf_forms.proofs.Encodings.{distinct-front, distinct-none, distinct-push, encoded}
 use Rattle.dwarf_forms.proofs.Encodings.{joined, last-new, list-decoded, nothing, parted, stands}
 use Rattle.dwarf_forms.proofs.Moves.{IsUsable, attribute_at-advances, found, found-again, name_of}
-use Rattle.dwarf_forms.proofs.Moves.{with-offset}
+use Rattle.dwarf_forms.{proofs.Moves.with-offset, specs.Declarations.EncodesAttribute}
+use Rattle.dwarf_forms.specs.{Declarations.{EncodesConstant, EndsAttributes}, Tables.attribute_at}
+use Rattle.dwarf_forms.specs.Tables.{attributes_at, constant_at}
+use Rattle.dwarf_forms.specs.declared.attribute.AttributeSpecification.{AttributeSpecification}
+use Rattle.std.proofs.Common.{List, None, Ok, Option, Some, [], arith, length, refl, ℕ, ℤ, ◌++◌}
+use Rattle.std.proofs.Common.{◌↔◌, ◌∷◌, ◌≡◌, ◌≢◌}
 
 -- ---- numbers, constants and bytes
 

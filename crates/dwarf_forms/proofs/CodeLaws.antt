@@ -1,14 +1,13 @@
 -- The index of abbreviation codes.
-use Rattle.dwarf_forms.specs.Private.Codes.{AreCodes, is_code_at}
+use Rattle.dwarf_forms.{proofs.Elements.{at-end, at-front, at-last}, specs.Private.Codes.AreCodes}
+use Rattle.dwarf_forms.specs.Private.Codes.{is_code_at}
 use Rattle.std.proofs.Common.{AllPairs, Bool, List, Some, [], arith, cond, false, get_or}
 use Rattle.std.proofs.Common.{if◌then◌else◌, is_some, length, position, refl, slice_get, ℕ, ◌++◌}
 use Rattle.std.proofs.{Common.{◌+◌, ◌-◌, ◌==◌, ◌∷◌, ◌≡◌, ◌≢◌, ◌⊎◌}, lemmas.Grind.common_steps}
-use Rattle.std.proofs.{lemmas.List.Folds.list_any_at, lemmas.List.Quantifiers.all_pairs_push}
-use Rattle.std.proofs.{lemmas.List.Quantifiers.position-Some, lemmas.List.Sums.position_or_len_is}
-use Rattle.std.proofs.lemmas.Option.{get_or_from_slice_get, slice_get-get_or, slice_get_within}
-use Rattle.std.specs.{BTreeMap.{BTreeMap, get, is_at}, List.{list_any, position_or_len}}
-use Rattle.std.specs.Ordering.{nat_cmp}
-use Rattle.dwarf_forms.proofs.Elements.{at-end, at-front, at-last}
+use Rattle.std.proofs.lemmas.List.{Folds.list_any_at, Quantifiers.{all_pairs_push, position-Some}}
+use Rattle.std.proofs.lemmas.{List.Sums.position_or_len_is, Option.get_or_from_slice_get}
+use Rattle.std.{proofs.lemmas.Option.{slice_get-get_or, slice_get_within}, specs.BTreeMap.BTreeMap}
+use Rattle.std.specs.{BTreeMap.{get, is_at}, List.{list_any, position_or_len}, Ordering.nat_cmp}
 
 abbrev pub is_code : ℕ → ℕ → Bool
 is_code code other = other == code

@@ -1,16 +1,15 @@
 -- Encodings at offsets: bytes in sequence, consecutive items in both directions, for any step, and
 -- lists of valid items with distinct keys.
 use Rattle.dwarf_bytes.proofs.{Contents.ContentLaws.bytes-after, Items.ItemLaws.Lists-within}
-use Rattle.dwarf_bytes.proofs.Items.ItemLaws.{items_from-Lists}
-use Rattle.dwarf_bytes.specs.Items.{Advances, End, Item, Lists, Next, items_from}
-use Rattle.dwarf_bytes.specs.{Numbers.IsEncodedAt, declared.fault.Cause.Cause}
+use Rattle.dwarf_bytes.{proofs.Items.ItemLaws.items_from-Lists, specs.Items.{Advances, End, Item}}
+use Rattle.dwarf_bytes.specs.{Items.{Lists, Next, items_from}, Numbers.IsEncodedAt}
+use Rattle.dwarf_bytes.specs.declared.fault.Cause.{Cause}
 use Rattle.dwarf_forms.specs.Declarations.{EncodesEach}
 use Rattle.std.proofs.Common.{All, AllPairs, List, Ok, Result, [], ap, append-nil, append_assoc}
 use Rattle.std.proofs.Common.{arith, drop, false, length, length-append, refl, suc, ℕ, ◌++◌, ◌+◌}
 use Rattle.std.proofs.{Common.{◌-◌, ◌<◌, ◌==◌, ◌↔◌, ◌∷◌, ◌≡◌, ◌≢◌}, lemmas.List.Elements.All-push}
 use Rattle.std.proofs.lemmas.List.{Folds.{list_any_at, list_any_none}, Quantifiers.all_pairs_push}
-use Rattle.std.proofs.lemmas.List.{get_or_append_left, get_or_push, take_at}
-use Rattle.std.specs.List.{list_any}
+use Rattle.std.{proofs.lemmas.List.{get_or_append_left, get_or_push, take_at}, specs.List.list_any}
 
 -- the bytes at the offset start with `front`, and `next` is the offset after it
 pub record StandsAt (bytes : List ℕ) (at : ℕ) (front : List ℕ) (next : ℕ) : Type 0 where

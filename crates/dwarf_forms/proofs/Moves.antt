@@ -1,17 +1,16 @@
 -- The reads of the parts of a declaration, and the number of bytes that each of them consumes.
-use Rattle.dwarf_bytes.proofs.{Items.ItemLaws.Lists-within, Items.Turns.{Ends, Lists-moves}}
+use Rattle.dwarf_bytes.proofs.Items.{ItemLaws.Lists-within, Turns.{Ends, Lists-moves}}
 use Rattle.dwarf_bytes.proofs.Numbers.Advance.{MovesOn, after-bind, after-test, chosen}
 use Rattle.dwarf_bytes.proofs.Numbers.Moves.{same-ok, sleb-moves, u8-moves, uleb-moves}
 use Rattle.dwarf_bytes.specs.{Forms.form_of, Items.{Advances, At, End, Item, Lists, Next}}
 use Rattle.dwarf_bytes.specs.{Items.{items_from, reading, without_offset}, Numbers.{u8_at, uleb_at}}
-use Rattle.dwarf_forms.specs.{Declarations.Declaration, Tables.{attribute_at, attributes_at}}
-use Rattle.dwarf_forms.specs.Tables.{constant_at, declaration_at}
+use Rattle.dwarf_forms.{proofs.{Elements.any_map, Encodings.IsNew}, specs.Declarations.Declaration}
+use Rattle.dwarf_forms.specs.Tables.{attribute_at, attributes_at, constant_at, declaration_at}
 use Rattle.dwarf_forms.specs.declared.attribute.AttributeSpecification.{AttributeSpecification}
 use Rattle.std.proofs.Common.{Err, IsSome, List, Ok, Option, Result, [], arith, false}
 use Rattle.std.proofs.Common.{if◌then◌else◌, is_none, length, refl, suc, true, ℕ, ℤ, ◌&&◌, ◌-◌, ◌<◌}
 use Rattle.std.proofs.{Common.{◌==◌, ◌||◌, ◌≡◌, ◌≢◌, ◌≤◌}, lemmas.List.length-map}
 use Rattle.std.specs.List.{list_any}
-use Rattle.dwarf_forms.proofs.{Elements.any_map, Encodings.IsNew}
 use Rattle.dwarf_bytes.specs.declared.fault.Cause.TheVariants as causes
 
 -- the conditions on an attribute that do not depend on the ones before it

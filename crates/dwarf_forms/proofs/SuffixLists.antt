@@ -1,15 +1,14 @@
 -- Attribute lists with a memoized rest.
-use Rattle.dwarf_bytes.proofs.{Items.ItemLaws.{first_step, items_from-step}, Items.Turns.SoFar}
+use Rattle.dwarf_bytes.proofs.Items.{ItemLaws.{first_step, items_from-step}, Turns.SoFar}
 use Rattle.dwarf_bytes.specs.Items.{At, End, Item, Lists, Next, items_from, without_offset}
 use Rattle.dwarf_bytes.specs.declared.fault.Cause.{Cause}
-use Rattle.dwarf_forms.specs.Tables.{attribute_at, attributes_at, shares_name}
+use Rattle.dwarf_forms.proofs.Moves.{attribute_at-advances, attributes-ok, attributes_at-lists}
+use Rattle.dwarf_forms.{proofs.Moves.{found, found-again, found-twice}, specs.Tables.attribute_at}
+use Rattle.dwarf_forms.specs.Tables.{attributes_at, shares_name}
 use Rattle.dwarf_forms.specs.declared.attribute.AttributeSpecification.{AttributeSpecification}
 use Rattle.std.proofs.Common.{Bool, Err, List, Ok, Result, [], append-nil, append_assoc, arith}
 use Rattle.std.proofs.Common.{false, if◌then◌else◌, length, refl, true, ℕ, ◌++◌, ◌==◌, ◌||◌, ◌∙◌}
-use Rattle.std.proofs.{Common.{◌∷◌, ◌≡◌}, lemmas.List.Folds.list_any-append}
-use Rattle.std.specs.List.{list_any}
-use Rattle.dwarf_forms.proofs.Moves.{attribute_at-advances, attributes-ok, attributes_at-lists}
-use Rattle.dwarf_forms.proofs.Moves.{found, found-again, found-twice}
+use Rattle.std.{proofs.{Common.{◌∷◌, ◌≡◌}, lemmas.List.Folds.list_any-append}, specs.List.list_any}
 use Rattle.dwarf_bytes.specs.declared.fault.Cause.TheVariants as causes
 
 abbrev pub named : ℕ → AttributeSpecification → Bool

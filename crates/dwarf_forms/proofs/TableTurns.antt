@@ -1,15 +1,14 @@
 -- The iterations of the loop over the declarations of a table.
-use Rattle.dwarf_bytes.proofs.Items.ItemLaws.{items_from-step}
-use Rattle.dwarf_bytes.specs.{Numbers.{leb_front, uleb_at}, Position.Position, Refusals.Fails}
-use Rattle.dwarf_bytes.specs.Refusals.{at_item, in_section, memory_fault}
-use Rattle.dwarf_bytes.specs.{declared.fault.Cause.Cause, declared.fault.LoadFault.LoadFault}
-use Rattle.dwarf_bytes.specs.declared.fault.ReadFault.TheVariants.{Short}
+use Rattle.dwarf_bytes.{proofs.Items.ItemLaws.items_from-step, specs.Numbers.{leb_front, uleb_at}}
+use Rattle.dwarf_bytes.specs.{Position.Position, Refusals.{Fails, at_item, in_section}}
+use Rattle.dwarf_bytes.specs.{Refusals.memory_fault, declared.fault.Cause.Cause}
+use Rattle.dwarf_bytes.specs.declared.fault.{LoadFault.LoadFault, ReadFault.TheVariants.Short}
+use Rattle.dwarf_forms.proofs.{EncodedTables.table-decoded, Loops.{ItemsSoFar, all-read}}
+use Rattle.dwarf_forms.proofs.{Loops.{first-fault, one-more}, Moves.declaration_at-advances}
 use Rattle.dwarf_forms.specs.{Declarations.Declaration, Steps.ExtendsTable, Tables.declaration_at}
 use Rattle.dwarf_forms.specs.Tables.{declarations_of, table_at}
 use Rattle.std.proofs.Common.{Err, List, Ok, [], arith, false, length, refl, true, ℕ, ◌<◌, ◌≡◌, ◌≤◌}
 use Rattle.std.proofs.{Common.◌⊎◌, lemmas.List.drop_all}
-use Rattle.dwarf_forms.proofs.{EncodedTables.table-decoded, Loops.{ItemsSoFar, all-read}}
-use Rattle.dwarf_forms.proofs.{Loops.{first-fault, one-more}, Moves.declaration_at-advances}
 use Rattle.dwarf_bytes.specs.declared.fault.Section.TheVariants as sections
 use Rattle.dwarf_bytes.specs.declared.fault.Cause.TheVariants as causes
 

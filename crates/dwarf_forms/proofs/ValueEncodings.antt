@@ -1,8 +1,7 @@
 -- Values are read if and only if they are encoded, in both directions.
-use Rattle.dwarf_bytes.proofs.Contents.ContentEncodings.{content-again}
-use Rattle.dwarf_bytes.proofs.Contents.ContentLaws.{content-encoded}
-use Rattle.dwarf_bytes.proofs.Numbers.LebEncodings.{uleb-again, uleb-encoded}
-use Rattle.dwarf_bytes.specs.{Bind.◌>>=◌, Contents.{Signed, content_at}, Forms.form_of}
+use Rattle.dwarf_bytes.proofs.Contents.{ContentEncodings.content-again, ContentLaws.content-encoded}
+use Rattle.dwarf_bytes.{proofs.Numbers.LebEncodings.{uleb-again, uleb-encoded}, specs.Bind.◌>>=◌}
+use Rattle.dwarf_bytes.specs.{Contents.{Signed, content_at}, Forms.form_of}
 use Rattle.dwarf_bytes.specs.{Numbers.{IsEncodedAt, uleb_at}, declared.form.Form.Form as Shape}
 use Rattle.dwarf_bytes.specs.declared.form.Form.TheVariants.{Direct, ImplicitConst, Indirect}
 use Rattle.dwarf_bytes.specs.{declared.form.ValueLayout.ValueLayout, declared.format.Format.Format}

@@ -1,11 +1,10 @@
 //! Theorems about range lists.
 
-ghost use Rattle.std.specs.Prelude.{◌≡◌, ℕ, List, ◌∷◌, ◌++◌, Option, Some, map};
-ghost use Rattle.dwarf_ranges.specs.declared.range.Range.{Range};
+ghost use Rattle.std.specs.Prelude.{List, Option, Some, map, ℕ, ◌++◌, ◌∷◌, ◌≡◌};
+ghost use Rattle.dwarf_ranges.specs.{Ranges.base_after, declared.range.Range.Range};
 ghost use Rattle.dwarf_ranges.specs.declared.range_entries.RangeListEntry.{RangeListEntry};
 ghost use Rattle.dwarf_ranges.specs.declared.range_entries.RangeListEntry.TheVariants.{Base};
 ghost use Rattle.dwarf_ranges.specs.declared.range_entries.RangeListEntry.TheVariants.{Covers};
-ghost use Rattle.dwarf_ranges.specs.Ranges.{base_after};
 
 /// The current base after some entries of a range list is the one set by the last base entry. If
 /// no entry sets a base, it is the initial base, which is the low_pc of the unit.

@@ -9,8 +9,7 @@ use Rattle.std.proofs.Common.{List, [], ap, append-nil, append_assoc, arith, con
 use Rattle.std.proofs.Common.{get_or, length, min, nat_lt, one-add, refl, suc, suc-add, zero}
 use Rattle.std.proofs.Common.{zero-add, ℕ, ◌++◌, ◌+◌, ◌<◌, ◌∷◌, ◌≡◌, ◌≤◌}
 use Rattle.std.proofs.lemmas.{Grind.common_steps, List.Elements.{All-append, All-nil, All-tail}}
-use Rattle.std.proofs.lemmas.List.Sums.{sum_by-cons, take_while-cons}
-use Rattle.std.specs.List.{prefix_len}
+use Rattle.std.{proofs.lemmas.List.Sums.{sum_by-cons, take_while-cons}, specs.List.prefix_len}
 
 -- ---- one more entry
 

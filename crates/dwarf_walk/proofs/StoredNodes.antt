@@ -5,8 +5,7 @@ use Rattle.dwarf_units.specs.declared.attributes.Attribute.{Attribute}
 use Rattle.dwarf_walk.specs.Private.Readers.{WalkState, after_die, after_node, die_at}
 use Rattle.dwarf_walk.specs.Stored.{named_entry, root_entry}
 use Rattle.std.proofs.Common.{Bool, List, [], arith, filter, is_some, not, refl, true, ℕ, ◌+◌, ◌∷◌}
-use Rattle.std.proofs.Common.{◌≡◌}
-use Rattle.std.specs.Int.{from_bool}
+use Rattle.std.{proofs.Common.◌≡◌, specs.Int.from_bool}
 
 -- The value of an attribute is in a list of attributes with certain names, if its name is one.
 value-kept : (p : ℕ → Bool) (xs : List Attribute) (name : ℕ) → p name ≡ true

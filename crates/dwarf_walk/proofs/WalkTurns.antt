@@ -1,29 +1,26 @@
 -- The loop of the walk over a unit.
-use Rattle.std.proofs.Common.{◌≡◌, ℕ, ◌<◌, ◌≤◌, ◌⊎◌, List, [], ◌∷◌, ◌++◌, false, length, take, refl}
-use Rattle.std.proofs.Common.{ap, sym, ◌∙◌, arith, length-take, is_some, Result, Ok, Err, nat_le}
-use Rattle.std.proofs.Common.{cond, Some, None, count_by, suc, zero}
-use Rattle.std.proofs.{lemmas.Bool.{lt-leb, le-leb}, lemmas.Grind.common_steps}
-use Rattle.std.proofs.{lemmas.List.map-append, lemmas.List.Elements.filter_map-append}
-use Rattle.std.proofs.{lemmas.List.Folds.list_any-append, lemmas.List.Sums.sum_by-append}
+use Rattle.std.proofs.Common.{Err, List, None, Ok, Result, Some, [], ap, arith, cond, count_by}
+use Rattle.std.proofs.Common.{false, is_some, length, length-take, nat_le, refl, suc, sym, take}
+use Rattle.std.proofs.{Common.{zero, ℕ, ◌++◌, ◌<◌, ◌∙◌, ◌∷◌, ◌≡◌, ◌≤◌, ◌⊎◌}, lemmas.Bool.le-leb}
+use Rattle.std.proofs.lemmas.{Bool.lt-leb, Grind.common_steps, List.Elements.filter_map-append}
+use Rattle.std.proofs.lemmas.List.{Folds.list_any-append, Sums.sum_by-append, map-append}
 use Rattle.std.specs.List.{filter_map, list_any}
-use Rattle.dwarf_bytes.specs.{Bind.◌>>=◌, Items.{Next, Item, End, Advances, At}}
-use Rattle.dwarf_bytes.specs.Refusals.{memory_fault, at_item, in_section}
-use Rattle.dwarf_bytes.specs.{Refusals.Fails, declared.fault.Cause.Cause}
-use Rattle.dwarf_bytes.specs.{declared.fault.LoadFault.LoadFault, declared.format.Format.Format}
-use Rattle.dwarf_bytes.proofs.Items.Turns.{SoFar, so-far-item, so-far-end, so-far-fault}
-use Rattle.dwarf_bytes.proofs.Numbers.Moves.{same-ok}
+use Rattle.dwarf_bytes.proofs.Items.Turns.{SoFar, so-far-end, so-far-fault, so-far-item}
+use Rattle.dwarf_bytes.{proofs.Numbers.Moves.same-ok, specs.{Bind.◌>>=◌, Items.{Advances, At, End}}}
+use Rattle.dwarf_bytes.specs.{Items.{Item, Next}, Refusals.{Fails, at_item, in_section}}
+use Rattle.dwarf_bytes.specs.{Refusals.memory_fault, declared.fault.Cause.Cause}
+use Rattle.dwarf_bytes.specs.declared.{fault.LoadFault.LoadFault, format.Format.Format}
 use Rattle.dwarf_forms.specs.Declarations.{Declaration}
-use Rattle.dwarf_units.specs.Entries.{Node, LocatedNode, die_of, node_at_depth, node_at, Die}
-use Rattle.dwarf_units.specs.Entries.{opens, closes, is_root, depth_after}
+use Rattle.dwarf_units.proofs.EntryAdvances.{node_at-advances, node_at_depth-moves}
+use Rattle.dwarf_units.specs.Entries.{Die, LocatedNode, Node, closes, depth_after, die_of, is_root}
+use Rattle.dwarf_units.specs.Entries.{node_at, node_at_depth, opens}
 use Rattle.dwarf_units.specs.declared.unit_headers.UnitHeader.{UnitHeader}
-use Rattle.dwarf_units.proofs.EntryAdvances.{node_at_depth-moves, node_at-advances}
-use Rattle.dwarf_walk.specs.{EntryBitmap.{AddsOffsets, offsets_of}, Private.Readers.WalkState}
-use Rattle.dwarf_walk.specs.Private.Readers.{Takes, TakesNodes, nodes_of, state_after, walk_of}
-use Rattle.dwarf_walk.specs.Private.{Readers.{after_node, places_of}, WalkedScopes.AreBounded}
-use Rattle.dwarf_walk.specs.{References.or_else, Stored.{root_entry, root_in}}
-use Rattle.dwarf_walk.specs.declared.entry_bitmap.EntryBitmap.{EntryBitmap}
-use Rattle.dwarf_walk.proofs.{BitmapLaws.adds-more, ScopeLaws.{walked-push, least-push}}
-use Rattle.dwarf_walk.proofs.ScopeLaws.{are-bounded}
+use Rattle.dwarf_walk.proofs.{BitmapLaws.adds-more, ScopeLaws.{are-bounded, least-push}}
+use Rattle.dwarf_walk.{proofs.ScopeLaws.walked-push, specs.EntryBitmap.{AddsOffsets, offsets_of}}
+use Rattle.dwarf_walk.specs.Private.Readers.{Takes, TakesNodes, WalkState, after_node, nodes_of}
+use Rattle.dwarf_walk.specs.Private.Readers.{places_of, state_after, walk_of}
+use Rattle.dwarf_walk.specs.{Private.WalkedScopes.AreBounded, References.or_else, Stored.root_entry}
+use Rattle.dwarf_walk.specs.{Stored.root_in, declared.entry_bitmap.EntryBitmap.EntryBitmap}
 use Rattle.dwarf_bytes.specs.declared.fault.Section.TheVariants as sections
 
 -- The node at an offset, after a list of nodes.

@@ -1,5 +1,4 @@
-use Rattle.dwarf_forms.proofs.Loops.{ItemsSoFar}
-use Rattle.dwarf_forms.specs.Tables.{attribute_at}
+use Rattle.dwarf_forms.{proofs.Loops.ItemsSoFar, specs.Tables.attribute_at}
 use Rattle.std.proofs.Common.{length, ◌-◌, ◌≤◌}
 use Rattle.abbreviation_memo.proofs.list_end.first_attributes.Given as goal
 

@@ -1,7 +1,6 @@
-use Rattle.abbreviation_memo.specs.Lists.{list_at}
-use Rattle.std.proofs.Common.{[], sym, ◌∷◌}
 use Rattle.abbreviation_memo.proofs.{ListLaws.{attribute-before, list-ends}, MemoLaws.memo-of}
-use Rattle.abbreviation_memo.proofs.MemoLaws.{names-more}
+use Rattle.abbreviation_memo.{proofs.MemoLaws.names-more, specs.Lists.list_at}
+use Rattle.std.proofs.Common.{[], sym, ◌∷◌}
 use Rattle.abbreviation_memo.proofs.memoized_lists.memo_at.Goals as goal
 
 pub returns-in_default-clause-memo : goal.returns-in_default-clause-memo

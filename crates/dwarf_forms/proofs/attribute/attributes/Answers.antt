@@ -1,10 +1,8 @@
-use Rattle.dwarf_bytes.proofs.Items.Turns.{None-from-no-Some}
-use Rattle.dwarf_bytes.specs.Items.{without_offset}
-use Rattle.dwarf_forms.specs.Tables.{attributes_at}
-use Rattle.std.proofs.{Common.{[], ap, arith, inr, length, ◌∙◌, ◌∷◌}, lemmas.Grind.common_steps}
-use Rattle.std.proofs.{lemmas.List.Folds.list_any-append, lemmas.Result.err_from_is_err_and}
+use Rattle.dwarf_bytes.{proofs.Items.Turns.None-from-no-Some, specs.Items.without_offset}
 use Rattle.dwarf_forms.proofs.{Loops.{all-read, first-fault, one-more}, Moves.attribute_at-advances}
-use Rattle.dwarf_forms.proofs.{Moves.attributes-ok, SuffixLists.named}
+use Rattle.dwarf_forms.{proofs.{Moves.attributes-ok, SuffixLists.named}, specs.Tables.attributes_at}
+use Rattle.std.proofs.{Common.{[], ap, arith, inr, length, ◌∙◌, ◌∷◌}, lemmas.Grind.common_steps}
+use Rattle.std.proofs.lemmas.{List.Folds.list_any-append, Result.err_from_is_err_and}
 use Rattle.dwarf_forms.proofs.attribute.attributes.Goals as goal
 
 pub returns-in_err-next : goal.returns-in_err-next

@@ -1,6 +1,5 @@
 use Rattle.dwarf_bytes.specs.Forms.{form_of}
-use Rattle.dwarf_forms.specs.Values.{value_at}
-use Rattle.dwarf_forms.proofs.ValueEncodings.{value-decoded}
+use Rattle.dwarf_forms.{proofs.ValueEncodings.value-decoded, specs.Values.value_at}
 use Rattle.dwarf_forms.proofs.laws.value_is_encoded.Goals as goal
 
 pub returns : goal.returns

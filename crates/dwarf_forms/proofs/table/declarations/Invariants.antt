@@ -1,6 +1,5 @@
-use Rattle.dwarf_forms.specs.Tables.{declaration_at}
+use Rattle.dwarf_forms.{proofs.Loops.ItemsSoFar, specs.Tables.declaration_at}
 use Rattle.std.proofs.Common.{length, ◌-◌}
-use Rattle.dwarf_forms.proofs.Loops.{ItemsSoFar}
 use Rattle.dwarf_forms.proofs.table.declarations.Given as goal
 
 abbrev pub invariant-loop-table : goal.invariant-loop-table

@@ -1,5 +1,4 @@
-use Rattle.std.proofs.Common.{length, ◌-◌, ◌+◌, ◌≡◌, drop}
-use Rattle.std.specs.List.{prefix_len}
+use Rattle.std.{proofs.Common.{drop, length, ◌+◌, ◌-◌, ◌≡◌}, specs.List.prefix_len}
 use Rattle.dwarf_walk.specs.Private.WalkedScopes.{is_deeper}
 use Rattle.dwarf_walk.proofs.descendants.count_deeper.Given as goal
 

@@ -1,6 +1,5 @@
 use Rattle.std.proofs.Common.{arith}
-use Rattle.dwarf_units.specs.Entries.{entries_of}
-use Rattle.dwarf_units.proofs.EntryOrder.{list-in}
+use Rattle.dwarf_units.{proofs.EntryOrder.list-in, specs.Entries.entries_of}
 use Rattle.dwarf_walk.proofs.{ScopeLaws.places-counted, WalkTurns.walk-bounded}
 use Rattle.dwarf_walk.proofs.walk.entries.Goals as goal
 

@@ -1,6 +1,5 @@
-use Rattle.std.proofs.Common.{◌-◌, length}
-use Rattle.dwarf_walk.specs.Private.Readers.{state_of}
-use Rattle.dwarf_walk.proofs.WalkTurns.{WalkSoFar}
+use Rattle.std.proofs.Common.{length, ◌-◌}
+use Rattle.dwarf_walk.{proofs.WalkTurns.WalkSoFar, specs.Private.Readers.state_of}
 use Rattle.dwarf_walk.proofs.walk.walk_unit.Given as goal
 
 abbrev pub invariant-loop-place : goal.invariant-loop-place

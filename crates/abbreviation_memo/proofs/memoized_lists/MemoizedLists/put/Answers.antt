@@ -1,6 +1,5 @@
-use Rattle.abbreviation_memo.specs.Lists.{IsListAt}
+use Rattle.abbreviation_memo.{proofs.MemoLaws.memos-put, specs.Lists.IsListAt}
 use Rattle.std.proofs.lemmas.List.Elements.{All-push}
-use Rattle.abbreviation_memo.proofs.MemoLaws.{memos-put}
 use Rattle.abbreviation_memo.proofs.memoized_lists.MemoizedLists.put.Goals as goal
 
 pub invariant_of-self-in_err-push : goal.invariant_of-self-in_err-push

@@ -1,9 +1,8 @@
 use Rattle.dwarf_entries.proofs
-use proofs.{slice_get, UnitPlace, ◌≡◌, ℕ, List, [], ◌∷◌, Bool, true, ◌==◌, refl}
-use proofs.{arith, Option, Some, None, is_some, find, option_map, list_any, Die, offsets_of}
-use proofs.{CompilationUnit, all_offsets, member_in, Reference, find_at, ok_or, members_of, Finds}
-use proofs.{list_any-append, eqb-true, is_at_offset, member_of}
-use proofs.{die_at, find-units, member-is, seen, Err}
+use proofs.{Bool, CompilationUnit, Die, Err, Finds, List, None, Option, Reference, Some, UnitPlace}
+use proofs.{[], all_offsets, arith, die_at, eqb-true, find, find-units, find_at, is_at_offset}
+use proofs.{is_some, list_any, list_any-append, member-is, member_in, member_of, members_of}
+use proofs.{offsets_of, ok_or, option_map, refl, seen, slice_get, true, ℕ, ◌==◌, ◌∷◌, ◌≡◌}
 use Rattle.dwarf_entries.proofs.units.Units.entry_place.Goals as goal
 
 any-dies : (u : CompilationUnit) (offset : ℕ) (dies : List Die)

@@ -1,6 +1,5 @@
 use Rattle.std.proofs.Common.{Ok, ap, arith, is_some, refl, suc, true, ℕ, ◌∙◌, ◌≡◌}
-use Rattle.dwarf_units.proofs.EntryAdvances.{node_at_depth-moves}
-use Rattle.dwarf_units.specs.Entries.{Entry, Node, Null}
+use Rattle.dwarf_units.{proofs.EntryAdvances.node_at_depth-moves, specs.Entries.{Entry, Node, Null}}
 use Rattle.dwarf_walk.specs.Private.Readers.{Takes, TakesNodes, WalkState, after_node, state_of}
 use Rattle.dwarf_walk.proofs.walk.Walk.fixed_size_nodes.Goals as goal
 

@@ -1,7 +1,6 @@
-use Rattle.std.proofs.Common.{◌+◌, ap, not}
+use Rattle.std.proofs.Common.{ap, not, ◌+◌}
 use Rattle.dwarf_units.specs.{Entries.Entry, StoredAttributes.stored_attributes}
-use Rattle.dwarf_walk.specs.Private.Readers.{state_of}
-use Rattle.dwarf_walk.proofs.StoredNodes.{entry-added}
+use Rattle.dwarf_walk.{proofs.StoredNodes.entry-added, specs.Private.Readers.state_of}
 use Rattle.dwarf_walk.proofs.walk.Walk.step.Goals as goal
 
 pub returns : goal.returns
