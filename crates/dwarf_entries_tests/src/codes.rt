@@ -61,6 +61,22 @@ fn codes_of_one_byte_and_of_two(rt: HostRuntime) {
     are_four(&rt, &read, wanted);
 }
 
+#[test]
+fn codes_up_to_511_and_above(rt: HostRuntime) {
+    let table = kinds_in_turn(&rt, 513);
+    // 12: unit, then entries at offsets 13, 15, 17 and 19, the last with code 2 in three bytes
+    let info = unit(&rt, &[1, 0xff, 3, 0x80, 4, 0x81, 4, 0x82, 0x80, 0, 0]);
+    let read = scopes_of(&rt, &sections(&info, &table));
+    are_equal(&rt, read.roots(), [root(12, 0, 4)].as_slice());
+    let wanted = [
+        (13, ScopeKind::Inlined),
+        (15, ScopeKind::Subprogram),
+        (17, ScopeKind::Inlined),
+        (19, ScopeKind::Subprogram),
+    ];
+    are_four(&rt, &read, wanted);
+}
+
 /// Checks the offsets and kinds of four scopes, and that there are no more.
 fn are_four(rt: &impl Abort, read: &Scopes, wanted: [(usize, ScopeKind); 4]) {
     are_equal(rt, read.scopes().len(), 4);

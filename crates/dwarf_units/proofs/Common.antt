@@ -1,15 +1,14 @@
 -- The names from elsewhere that the proofs of this crate cite.
 pub use Rattle.abbreviation_memo.specs.Lists.{IsListAt, StartsWith, list_at, rest_attributes}
 pub use Rattle.dwarf_bytes.proofs.{Items.Turns.{None-from-no-Some, SoFar}, Numbers.Advance.MovesOn}
-pub use Rattle.dwarf_bytes.proofs.Numbers.Advance.{after-bind}
-pub use Rattle.dwarf_bytes.specs.{Bind.◌>>=◌, Contents.{Content, Signed}, Forms.form_of}
-pub use Rattle.dwarf_bytes.specs.{Items.{Advances, Item, Lists, reading}, Numbers.uleb_at}
-pub use Rattle.dwarf_bytes.specs.{Refusals.in_section, declared.fault.Cause.Cause}
-pub use Rattle.dwarf_bytes.specs.declared.{fault.ReadFault.ReadFault, form.Form.Form}
+pub use Rattle.dwarf_bytes.{proofs.Numbers.Advance.after-bind, specs.{Bind.◌>>=◌, Contents.Content}}
+pub use Rattle.dwarf_bytes.specs.{Contents.Signed, Forms.form_of, Items.{Advances, Item, Lists}}
+pub use Rattle.dwarf_bytes.specs.{Items.reading, Numbers.uleb_at, Refusals.in_section}
+pub use Rattle.dwarf_bytes.specs.declared.{fault.{Cause.Cause, ReadFault.ReadFault}, form.Form.Form}
 pub use Rattle.dwarf_bytes.specs.declared.form.Form.TheVariants.{Direct, ImplicitConst, Indirect}
 pub use Rattle.dwarf_bytes.specs.declared.{form.ValueLayout.ValueLayout, format.Format.Format}
-pub use Rattle.dwarf_forms.proofs.{Codes.got, Elements.at-last}
-pub use Rattle.dwarf_forms.specs.{Declarations.Declaration, Values.Value}
+pub use Rattle.dwarf_forms.{proofs.{Codes.got, Elements.at-last}, specs.Declarations.Declaration}
+pub use Rattle.dwarf_forms.specs.Values.{Value}
 pub use Rattle.dwarf_forms.specs.declared.attribute.AttributeSpecification.{AttributeSpecification}
 pub use Rattle.dwarf_forms.specs.declared.values.ValueFault.{ValueFault}
 pub use Rattle.dwarf_units.specs.AbbreviationTables.{Table, table_size, unshared_count}
@@ -20,10 +19,11 @@ pub use Rattle.dwarf_units.specs.{Entries.{reading_value, value_of}, NodeShapes.
 pub use Rattle.dwarf_units.specs.Private.Declarations.{AbbreviationDeclaration, IsStored}
 pub use Rattle.dwarf_units.specs.Private.Declarations.{full_declaration, full_declarations}
 pub use Rattle.dwarf_units.specs.Private.FixedSizes.{attribute_in, attributes_in, end_of}
-pub use Rattle.dwarf_units.specs.Private.FixedSizes.{layout_len, number_in, used_position}
-pub use Rattle.dwarf_units.specs.Private.{Links.IsLink, Names.{named_attribute, slot_of, used_name}}
-pub use Rattle.dwarf_units.specs.Private.Runs.{Run, Stretch, all_at, run_at, run_before, runs_at}
-pub use Rattle.dwarf_units.specs.Private.Runs.{runs_of, stretch_at, then_read}
+pub use Rattle.dwarf_units.specs.Private.FixedSizes.{layout_len, number_in, used_position, value_in}
+pub use Rattle.dwarf_units.specs.Private.{FixedSizes.{value_len, width_in}, Links.IsLink}
+pub use Rattle.dwarf_units.specs.Private.{Names.{named_attribute, slot_of, used_name}, Runs.Run}
+pub use Rattle.dwarf_units.specs.Private.Runs.{Stretch, all_at, last_at, named_by, run_at}
+pub use Rattle.dwarf_units.specs.Private.Runs.{run_before, runs_at, runs_of, stretch_at, then_read}
 pub use Rattle.dwarf_units.specs.Private.{Tables.AreCached, Used.used_after}
 pub use Rattle.dwarf_units.specs.StoredAttributes.{stored_attributes, stored_attributes_at}
 pub use Rattle.dwarf_units.specs.{StoredAttributes.used_attributes_at, Tables.CachedTables}

@@ -5,9 +5,9 @@ use Common.{Attribute, AttributeSpecification, Bool, Cause, Content, Direct, Err
 use Common.{ImplicitConst, Indirect, List, None, Ok, Option, ReadFault, Result, Signed, Some, Value}
 use Common.{ValueFault, ValueLayout, accepts, ap, arith, attribute_at, block_at, cond, content_at}
 use Common.{direct_at, false, fixed_at, fixed_len, form_of, is_negative, is_negative_count, is_used}
-use Common.{layout_len, length, ne_eqb, number_in, number_of, option_map_or, reading, reading_value}
-use Common.{refl, same_Some, sym, true, unchecked_layout, used_value, value_at, ℕ, ℤ, ◌+◌, ◌<◌}
-use Common.{◌>>=◌, ◌∙◌, ◌≡◌, ◌≤◌}
+use Common.{layout_len, length, ne_eqb, number_in, number_of, option_map, option_map_or, reading}
+use Common.{reading_value, refl, same_Some, sym, true, unchecked_layout, used_value, value_at}
+use Common.{value_len, width_in, ℕ, ℤ, ◌+◌, ◌<◌, ◌>>=◌, ◌∙◌, ◌≡◌, ◌≤◌}
 use Rattle.dwarf_bytes.specs.{Items.refuse_if, declared.constants.TheConstants.DW_FORM_INDIRECT}
 use Rattle.dwarf_units.specs.Private.{FixedSizes.constant_len, Runs.{is_signed, valid_layout}}
 use Rattle.dwarf_units.specs.declared.used_position.UsedValue.TheVariants.{At}
@@ -106,6 +106,26 @@ fixed-fine : (name n : ℕ) (bytes : List ℕ) (at : ℕ) (r : Result (Content �
     → IsFixed n bytes at r → IsFine (is_negative_count name) r
 fixed-fine name n bytes at r fixed = grind (arith, never-count name)
 
+-- A value as a number, or 0 if its bytes are missing.
+abbrev content_number : Result (Content × ℕ) ReadFault → ℕ
+content_number (Ok c) = number_of c.0 c.1
+content_number (Err e) = 0
+
+in-block : (s : AttributeSpecification) (m : ℕ) (bytes : List ℕ) (at : ℕ)
+    (r : Result (Content × ℕ) ReadFault) → at ≤ length bytes → IsFixed m bytes at r
+    → (reading r >>= as_attribute s) ≡ after_bytes m bytes at (with_number s (content_number r))
+unfolding block_at
+in-block s m bytes at r le fixed = grind arith
+
+-- The value has this size, and that of a used attribute is the number at its position.
+value-there : (format : Format) (name : ℕ) (layout : ValueLayout) (m : ℕ) (bytes : List ℕ)
+    (first n : ℕ) → value_len format name layout ≡ Some m → (layout_len format layout ≡ Some m)
+    × (is_used name ≡ true
+    → option_map (number_in bytes first) (option_map (At n) (width_in format layout))
+    ≡ Some (content_number (content_at layout format bytes (first + n))))
+unfolding content_at block_at fixed_at
+value-there format name layout m bytes first n len = grind (arith, len)
+
 -- A constant of the declaration takes no bytes.
 constant-read : (s : AttributeSpecification) (negative : Content → Bool) (constant : Option ℤ)
     (bytes : List ℕ) (at m : ℕ) → (elim constant as (λ _. Option ℕ) [
@@ -146,45 +166,44 @@ module _ (format : Format) (s : AttributeSpecification) (bytes : List ℕ) where
       ∙ sym (checked-fine s (is_negative_count s.name) (content_at layout format bytes at) valid))
 
   -- An attribute whose value needs no check is read by its layout.
-  pub record IsInLayout (layout : ValueLayout) (at : ℕ) : Type 0 where
-    pub value : (n : ℕ) → used_value n s ≡ At n layout
-    pub read : attribute_at format s bytes at
-        ≡ (reading (content_at layout format bytes at) >>= as_attribute s)
-
   pub unchecked-read : (layout : ValueLayout) (at : ℕ) → unchecked_layout s ≡ Some layout
-      → IsInLayout layout at
+      → attribute_at format s bytes at
+      ≡ (reading (content_at layout format bytes at) >>= as_attribute s)
   unfolding unchecked_layout
   unchecked-read layout at h =
       by-form (valid_layout s.name) None layout (accepts s.name s.form) (form_of s.form) h
       (λ own fine is found.
       let valid = valid-fine s.name own layout format bytes at (is_used s.name)
       (λ c unused. grind (arith, unused)) found in
-      rw (← valid.0)
-      (record { value = λ n. rw (is, used_value) refl; read = in-layout own at fine is valid.1 }))
+      rw (← valid.0) (in-layout own at fine is valid.1))
       (λ fine is none. cc)
 
-  -- An attribute of m bytes, n bytes after the first one, has the value at its position.
-  abbrev pub IsAt : ℕ → ℕ → ℕ → Type 0
-  IsAt first n m = attribute_at format s bytes (first + n) ≡ after_bytes m bytes (first + n)
-      (with_number s (number_in format bytes first (used_value n s)))
-
-  in-block : (first n m : ℕ) (layout : ValueLayout) (r : Result (Content × ℕ) ReadFault)
-      → content_at layout format bytes (first + n) ≡ r → first + n ≤ length bytes
-      → IsFixed m bytes (first + n) r → (reading r >>= as_attribute s)
-      ≡ after_bytes m bytes (first + n)
-      (with_number s (number_in format bytes first (At n layout)))
-  unfolding block_at
-  in-block first n m layout r read le fixed = grind (arith, read)
+  -- An attribute of m bytes, n bytes after the first one, has a number. If the attribute is used,
+  -- the number is at its position.
+  pub record IsAt (first n m : ℕ) : Type 0 where
+    pub number : ℕ
+    pub read : attribute_at format s bytes (first + n)
+        ≡ after_bytes m bytes (first + n) (with_number s number)
+    pub place : is_used s.name ≡ true
+        → option_map (number_in bytes first) (used_value format n s) ≡ Some number
 
   pub fixed-at : (first n m : ℕ) → fixed_len format s ≡ Some m → first + n ≤ length bytes
       → IsAt first n m
   unfolding fixed_len value_at
-  fixed-at first n m h le = by-form (layout_len format) (constant_len s) m
+  fixed-at first n m h le = by-form (value_len format s.name) (constant_len s) m
       (accepts s.name s.form) (form_of s.form) h
       (λ layout fine is len.
-      let fixed = content-fixed layout format m bytes (first + n) len le in
-      in-layout layout (first + n) fine is (fixed-fine s.name m bytes (first + n) _ fixed)
-      ∙ rw (is, used_value) (in-block first n m layout _ refl le fixed))
-      (λ fine is len. attribute-direct ImplicitConst (first + n) fine is (λ e. cc)
-      ∙ rw (is, value_at, used_value)
-      (constant-read s (is_negative_count s.name) s.constant bytes (first + n) m len le))
+      let there = value-there format s.name layout m bytes first n len in
+      let fixed = content-fixed layout format m bytes (first + n) there.0 le in record {
+        number = content_number (content_at layout format bytes (first + n));
+        read = in-layout layout (first + n) fine is (fixed-fine s.name m bytes (first + n) _ fixed)
+            ∙ in-block s m bytes (first + n) _ le fixed;
+        place = λ used. rw (is, option_map, used_value) (there.1 used);
+      })
+      (λ fine is len. record {
+        number = option_map_or (λ c. number_of (Signed c) 0) s.constant 0;
+        read = attribute-direct ImplicitConst (first + n) fine is (λ e. cc)
+            ∙ rw (is, value_at)
+            (constant-read s (is_negative_count s.name) s.constant bytes (first + n) m len le);
+        place = λ used. rw (is, option_map, used_value) (grind (arith, len));
+      })

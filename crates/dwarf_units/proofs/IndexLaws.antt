@@ -8,13 +8,12 @@ use Common.{sum_by_push, sym, table_size, take, take-append_seam, take-length, t
 use Common.{ℕ, ◌++◌, ◌+◌, ◌-◌, ◌<◌, ◌∙◌, ◌∷◌, ◌≡◌, ◌≤◌, ◌⊎◌}
 use Rattle.abbreviation_memo.proofs.MapLaws.{Puts}
 use Rattle.dwarf_forms.proofs.Elements.{at-end, at-front}
-use Rattle.dwarf_units.proofs.TableLaws.{all-at, parsed_at}
-use Rattle.dwarf_units.specs.{AbbreviationTables.table_key, Private.Tables.{IsAdded, IsIndexOf}}
-use Rattle.dwarf_units.specs.{Private.Tables.StaysCached, Tables.{AreElsewhere, IsTableAt}}
-use Rattle.dwarf_units.specs.Tables.{size_limit}
+use Rattle.dwarf_units.{proofs.TableLaws.{all-at, parsed_at}, specs.AbbreviationTables.table_key}
+use Rattle.dwarf_units.specs.{Private.Tables.{IsAdded, IsIndexOf, StaysCached}, Tables.AreElsewhere}
+use Rattle.dwarf_units.specs.Tables.{IsTableAt, size_limit}
 use Rattle.std.proofs.lemmas.{Bool.{le-leb, lt-leb}, List.{Elements.All-take, take-append-drop}}
-use Rattle.std.proofs.lemmas.{List.take_more, Option.slice_get_read}
-use Rattle.std.specs.{BTreeMap.{BTreeMap, get}, Ordering.nat_cmp}
+use Rattle.std.{proofs.lemmas.{List.take_more, Option.slice_get_read}, specs.BTreeMap.BTreeMap}
+use Rattle.std.specs.{BTreeMap.get, Ordering.nat_cmp}
 
 -- ---- one more table
 
@@ -195,11 +194,11 @@ kept-with old table within =
     ]
 
 -- A table that was parsed for a unit stays in the cache, or exceeds the limit.
-pub stays_parsed : (old new : CachedTables) (unit : UnitHeader) (budget left number : ℕ)
+pub stays_parsed : (old new : CachedTables) (unit : UnitHeader) (budget number : ℕ)
     → old.permanent ≤ length old.tables → budget ≤ declarations_limit
-    → IsAdded unit.format unit.abbreviations budget left old new number
+    → IsAdded unit.format unit.abbreviations budget old new number
     → IsCachedOrTooLarge new unit × StaysCached old new
-stays_parsed old new unit budget left number within few added =
+stays_parsed old new unit budget number within few added =
     let parsed : IsParsedFrom old.section added.table =
     parsed_at old.section budget added.table unit.abbreviations added.within added.at.0 added.read
     few in

@@ -1,19 +1,20 @@
 -- Reading attributes in runs is reading them one by one.
 use Rattle.dwarf_units.proofs.Common
-use Common.{Attribute, AttributeSpecification, Bool, Cause, Checked, Content, Format, List, None}
-use Common.{Ok, Option, ReadFault, Result, Some, Unchecked, UsedName, UsedPosition, ValueLayout, []}
-use Common.{all_at, append-nil, append_assoc, arith, attribute_at, attribute_in, attributes_at}
-use Common.{attributes_in, block_at, cond, content_at, end_of, fixed_len, length, nat_le, number_in}
-use Common.{number_of, option_and_then_some, option_map, option_map_or, option_to_list, reading}
-use Common.{refl, run_at, run_before, runs_from, runs_of, stored_attributes, stored_attributes_at}
-use Common.{stretch_at, then_read, unchecked_layout, used_after, used_among, used_attributes_at}
-use Common.{used_name, used_position, used_value, ℕ, ◌++◌, ◌+◌, ◌>>=◌, ◌∙◌, ◌∷◌, ◌≡◌, ◌≤◌}
-use Rattle.dwarf_units.proofs.{EntryAdvances.attributes-stay, FixedValues.{IsInLayout, after_bytes}}
-use Rattle.dwarf_units.proofs.FixedValues.{fixed-at, unchecked-read, with_number}
-use Rattle.dwarf_units.proofs.{SlotLaws.{among-append, used-none, used-some}, StoredReads.one-read}
+use Common.{Attribute, AttributeSpecification, Bool, Cause, Checked, Format, List, None}
+use Common.{Ok, Option, Result, Some, Unchecked, UsedName, UsedPosition, ValueLayout, [], all_at}
+use Common.{append-nil, append_assoc, arith, attribute_at, attribute_in, attributes_at}
+use Common.{attributes_in, block_at, cond, content_at, end_of, fixed_len, is_used, last_at, length}
+use Common.{named_by, nat_le, number_in, number_of, option_and_then_some, option_map, option_map_or}
+use Common.{option_to_list, reading, refl, run_before, runs_from, runs_of, same_Some}
+use Common.{stored_attributes, stored_attributes_at, stretch_at, sym, then_read, true}
+use Common.{unchecked_layout, used_after, used_among, used_attributes_at, used_name, used_position}
+use Common.{used_value, ℕ, ◌++◌, ◌+◌, ◌>>=◌, ◌∙◌, ◌∷◌, ◌≡◌, ◌≤◌}
+use Rattle.dwarf_units.proofs.{EntryAdvances.attributes-stay, FixedValues.{after_bytes, fixed-at}}
+use Rattle.dwarf_units.proofs.{FixedValues.{unchecked-read, with_number}, SlotLaws.among-append}
+use Rattle.dwarf_units.proofs.{SlotLaws.{some-used, used-none, used-some}, StoredReads.one-read}
 use Rattle.dwarf_units.proofs.StoredReads.{stored-append, used_both}
-use Rattle.dwarf_units.specs.Private.FixedSizes.{number_or_zero}
-use Rattle.std.proofs.lemmas.List.{map-append}
+use Rattle.dwarf_units.specs.declared.used_position.UsedValue.{UsedValue}
+use Rattle.std.{proofs.lemmas.List.map-append, specs.Prelude.option_and_then}
 
 -- ---- two reads
 
@@ -25,21 +26,6 @@ fixed-step : (n m : ℕ) (bytes : List ℕ) (at : ℕ) (front here : List Attrib
     ≡ then_read (after_bytes n bytes at (λ k. Ok (front, k))) next
 unfolding block_at
 fixed-step n m bytes at front here next is = grind (arith, is)
-
--- n bytes, and a value whose number is read with the stretch.
-unchecked-step : (n : ℕ) (bytes : List ℕ) (at : ℕ) (front : List Attribute)
-    (here : ℕ → List Attribute) (number : Content × ℕ → ℕ)
-    (content : ℕ → Result (Content × ℕ) ReadFault) (next : ℕ → Result (List Attribute × ℕ) Cause)
-    → ((k : ℕ) → next k ≡ (reading (content k) >>= λ c. Ok (here (number c), c.1)))
-    → then_read (after_bytes n bytes at (λ k. Ok (
-      front ++ here (number_or_zero
-          (after_bytes n bytes at (λ j. reading (content j) >>= λ c. Ok (number c, c.1)))),
-      k,
-    )))
-    (λ k. (reading (content k) >>= λ c. Ok c.1) >>= λ end. Ok ([], end))
-    ≡ then_read (after_bytes n bytes at (λ k. Ok (front, k))) next
-unfolding block_at
-unchecked-step n bytes at front here number content next is = grind (arith, is, append-nil)
 
 then-same : (r : Result (List Attribute × ℕ) Cause) (next other : ℕ → Result (List Attribute × ℕ)
     Cause) → ((x : List Attribute × ℕ) → r ≡ Ok x → next x.1 ≡ other x.1)
@@ -53,7 +39,7 @@ module _ (keep : Bool) (format : Format) (bytes : List ℕ) where
   stored declared at = stored_attributes_at keep format declared bytes at
 
   abbrev stretch : ℕ → List UsedPosition → ℕ → Result (List Attribute × ℕ) Cause
-  stretch n used at = stretch_at keep format (record { len = n; used = used }) bytes at
+  stretch n used at = stretch_at keep (record { len = n; used = used }) bytes at
 
   -- A stretch, and the attribute after it.
   abbrev then_one : ℕ → List UsedPosition → AttributeSpecification → ℕ
@@ -62,12 +48,12 @@ module _ (keep : Bool) (format : Format) (bytes : List ℕ) where
 
   -- The attributes at these positions if they are stored, otherwise none.
   abbrev kept_in : ℕ → List UsedPosition → List Attribute
-  kept_in first used = cond keep (attributes_in format bytes first used) []
+  kept_in first used = cond keep (attributes_in bytes first used) []
 
   kept-append : (first : ℕ) (used more : List UsedPosition)
       → kept_in first (used ++ more) ≡ kept_in first used ++ kept_in first more
   kept-append first used more =
-      grind (arith, map-append (attribute_in format bytes first) used more)
+      grind (arith, map-append (attribute_in bytes first) used more)
 
   -- The attribute with a number, if it is stored.
   abbrev here_in : AttributeSpecification → ℕ → List Attribute
@@ -76,13 +62,32 @@ module _ (keep : Bool) (format : Format) (bytes : List ℕ) where
     value = record { form = s.form; number = number };
   } ∷ [])
 
-  here-kept : (s : AttributeSpecification) (first n : ℕ) (found : Option UsedName)
-      → used_name s.name ≡ found
-      → here_in s (number_in format bytes first (used_value n s))
-      ≡ kept_in first (option_to_list (option_map
-      (λ name. record { name = name; form = s.form; value = used_value n s }) found))
-  here-kept s first n None is = rw (used-none s.name is) refl
-  here-kept s first n (Some name) is = rw (used-some _ name is) refl
+  here-named : (s : AttributeSpecification) (number : ℕ) (found : Option UsedName)
+      → used_name s.name ≡ found → here_in s number
+      ≡ cond keep (named_by found (record { form = s.form; number = number })) []
+  here-named s number None is = rw (used-none s.name is) refl
+  here-named s number (Some name) is = rw (used-some _ name is) refl
+
+  -- The attribute is at its position.
+  here-kept : (s : AttributeSpecification) (first n number : ℕ) → (is_used s.name ≡ true
+      → option_map (number_in bytes first) (used_value format n s) ≡ Some number)
+      → (found : Option UsedName) → used_name s.name ≡ found → here_in s number
+      ≡ kept_in first (option_to_list (option_and_then (λ name. option_map
+      (λ value. record { name = name; form = s.form; value = value }) (used_value format n s))
+      found))
+  here-kept s first n number place None is = rw (used-none s.name is) refl
+  here-kept s first n number place (Some name) is =
+      by_value (used_value format n s) (place (some-used s.name name is))
+    where
+      by_value : (value : Option UsedValue) → option_map (number_in bytes first) value
+          ≡ Some number → here_in s number ≡ kept_in first (option_to_list
+          (option_map (λ v. record { name = name; form = s.form; value = v }) value))
+      by_value None none = cc
+      by_value (Some v) some =
+          rw (
+            here-named s number (Some name) is,
+            same_Some (number_in bytes first v) number some,
+          ) refl
 
   stored-one : {X : Type 0} (s : AttributeSpecification) (at : ℕ) (r : Result X Cause)
       (number end : X → ℕ)
@@ -93,37 +98,34 @@ module _ (keep : Bool) (format : Format) (bytes : List ℕ) where
 
   fixed-one : (n m : ℕ) (used : List UsedPosition) (s : AttributeSpecification) (at : ℕ)
       → fixed_len format s ≡ Some m
-      → stretch (n + m) (used ++ option_to_list (used_position n s)) at ≡ then_one n used s at
-  fixed-one n m used s at len = rw (
-    kept-append at used (option_to_list (used_position n s)),
-    ← here-kept s at n (used_name s.name) refl,
-  )
-      (fixed-step n m bytes at (kept_in at used)
-      (here_in s (number_in format bytes at (used_value n s))) (stored (s ∷ []))
-      (λ le. stored-one s (at + n) (reading (block_at m bytes (at + n)))
-      (λ _. number_in format bytes at (used_value n s)) (λ block. block.1)
-      (fixed-at format s bytes at n m len le)))
-
-  last-one : (n : ℕ) (used : List UsedPosition) (s : AttributeSpecification) (at : ℕ)
-      (found : Option ValueLayout) → unchecked_layout s ≡ found
-      → run_at keep format (option_map_or (λ layout. record {
-        stretch = record { len = n; used = used ++ option_to_list (used_position n s) };
-        last = Unchecked layout;
-      }) found (record { stretch = record { len = n; used = used }; last = Checked s })) bytes at
+      → stretch (n + m) (used ++ option_to_list (used_position format n s)) at
       ≡ then_one n used s at
-  last-one n used s at None checked = refl
-  last-one n used s at (Some layout) unchecked =
-      let read : (k : ℕ) → IsInLayout format s bytes layout k =
-      λ k. unchecked-read format s bytes layout k unchecked in
-      rw (
-        kept-append at used (option_to_list (used_position n s)),
-        ← here-kept s at n (used_name s.name) refl,
-        (read 0).value n,
-      )
-      (unchecked-step n bytes at (kept_in at used) (here_in s) (λ c. number_of c.0 c.1)
-      (content_at layout format bytes) (stored (s ∷ []))
-      (λ k. stored-one s k (reading (content_at layout format bytes k))
-      (λ c. number_of c.0 c.1) (λ c. c.1) (read k).read))
+  fixed-one n m used s at len =
+      rw (kept-append at used (option_to_list (used_position format n s)))
+      (fixed-step n m bytes at (kept_in at used)
+      (kept_in at (option_to_list (used_position format n s))) (stored (s ∷ []))
+      (λ le.
+      let is = fixed-at format s bytes at n m len le in
+      rw (← here-kept s at n is.number is.place (used_name s.name) refl)
+      (stored-one s (at + n) (reading (block_at m bytes (at + n))) (λ _. is.number)
+      (λ block. block.1) is.read)))
+
+  last-read : (name : Option UsedName) (form : ℕ) (layout : ValueLayout) (at : ℕ)
+      (here : ℕ → List Attribute) → ((number : ℕ) → here number
+      ≡ cond keep (named_by name (record { form = form; number = number })) [])
+      → last_at keep format (Unchecked name form layout) bytes at
+      ≡ (reading (content_at layout format bytes at) >>= λ c. Ok (here (number_of c.0 c.1), c.1))
+  last-read name form layout at here is = grind (arith, is)
+
+  last-one : (s : AttributeSpecification) (at : ℕ) (found : Option ValueLayout)
+      → unchecked_layout s ≡ found → last_at keep format (option_map_or
+      (λ layout. Unchecked (used_name s.name) s.form layout) found (Checked s)) bytes at
+      ≡ stored (s ∷ []) at
+  last-one s at None checked = refl
+  last-one s at (Some layout) unchecked = last-read (used_name s.name) s.form layout at (here_in s)
+      (λ number. here-named s number (used_name s.name) refl)
+      ∙ sym (stored-one s at (reading (content_at layout format bytes at))
+      (λ c. number_of c.0 c.1) (λ c. c.1) (unchecked-read format s bytes layout at unchecked))
 
   stored-within : (declared : List AttributeSpecification) (at : ℕ) (x : List Attribute × ℕ)
       → at ≤ length bytes → stored declared at ≡ Ok x → x.1 ≤ length bytes
@@ -152,7 +154,7 @@ module _ (keep : Bool) (format : Format) (bytes : List ℕ) where
       (λ k within. have-runs [] 0 [] ss k (no-stretch k within) within))
     where
       position : List UsedPosition
-      position = option_to_list (used_position n s)
+      position = option_to_list (used_position format n s)
 
       by_end : (end : Option ℕ) → end_of format n s ≡ end
           → ((k : ℕ) (more : List UsedPosition) → stretch k more at ≡ stored (done ++ s ∷ []) at
@@ -165,7 +167,8 @@ module _ (keep : Bool) (format : Format) (bytes : List ℕ) where
           record others { runs = run_before n used s ∷ others.runs })) bytes at
           ≡ stored ((done ++ s ∷ []) ++ ss) at
       by_end None none more rest = rw (
-        last-one n used s at (unchecked_layout s) refl,
+        then-same (stretch n used at) _ (stored (s ∷ []))
+            (λ x _. last-one s x.1 (unchecked_layout s) refl),
         one-more done n used s at is,
         stored-append keep format (done ++ s ∷ []) ss bytes at,
       )

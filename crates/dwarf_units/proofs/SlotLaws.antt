@@ -1,19 +1,19 @@
 -- The used attributes of an entry: their names, adding attributes one by one, and their positions.
 use Rattle.dwarf_units.proofs.Common
-use Common.{Attribute, AttributeValue, Bool, Format, List, None, Option, Some, Used, UsedName}
-use Common.{UsedPosition, ValueLayout, [], arith, attribute_in, attributes_in, block_at, content_at}
-use Common.{false, filter, find, fixed_at, get_or, is_used, length, map, name_of, named_attribute}
-use Common.{number_in, option_map, refl, slot_of, sym, true, used_among, used_name, value_named}
-use Common.{value_of, with_used, ℕ, ◌+◌, ◌++◌, ◌<◌, ◌==◌, ◌∙◌, ◌∷◌, ◌≡◌, drop}
-use Rattle.dwarf_bytes.specs.{Forms.number_at, declared.form.Width.Width}
-use Rattle.dwarf_units.specs.Private.Slots.{AreSlots, slot_value, used_in, value_in, value_in_slot}
-use Rattle.dwarf_units.specs.{Private.Slots.width_in, declared.value_slot.ValueSlots.ValueSlots}
+use Common.{Attribute, AttributeValue, Bool, List, None, Option, Some, Used, UsedName, UsedPosition}
+use Common.{[], arith, attribute_in, attributes_in, drop, false, filter, find, get_or, is_used}
+use Common.{length, map, name_of, named_attribute, number_in, option_map, refl, slot_of, sym, true}
+use Common.{used_among, used_name, value_in, value_named, value_of, with_used, ℕ, ◌++◌, ◌<◌, ◌==◌}
+use Common.{◌∙◌, ◌∷◌, ◌≡◌}
+use Rattle.dwarf_bytes.specs.declared.form.Width.{Width}
+use Rattle.dwarf_units.specs.Private.Slots.{AreSlots, in_slots, slot_value, used_in, value_in_slot}
+use Rattle.dwarf_units.specs.Private.Slots.{value_of_slot}
+use Rattle.dwarf_units.specs.declared.value_slot.ValueSlots.{ValueSlots}
 use Rattle.dwarf_units.specs.declared.used_position.UsedValue.TheVariants as positions
 use Rattle.std.proofs.{Math.ListN.set, lemmas.{Bool.eqb-true, List.{drop-drop, get_or-set_other}}}
 use Rattle.std.{proofs.lemmas.List.{get_or-set_same, length-drop}, specs.List.list_all}
-use Rattle.std.specs.{Option.option_or, Prelude.{is_some, unwrap_or}}
-use Rattle.dwarf_units.specs.{Attributes.used_attributes, Private.Names.used_names}
-use Rattle.dwarf_units.specs.{Private.Slots.in_slots, Used.used_by}
+use Rattle.std.specs.{Option.option_or, Prelude.is_some}
+use Rattle.dwarf_units.specs.{Attributes.used_attributes, Private.Names.used_names, Used.used_by}
 
 -- ---- names, their codes and their slots
 
@@ -34,6 +34,10 @@ number-used name = grind arith
 pub used-some : (a : Attribute) (name : UsedName) → used_name a.name ≡ Some name
     → filter (λ (b : Attribute). is_used b.name) (a ∷ []) ≡ named_attribute name a.value ∷ []
 used-some a name is = rw (found-number a.name name is, number-used name) refl
+
+pub some-used : (number : ℕ) (name : UsedName) → used_name number ≡ Some name
+    → is_used number ≡ true
+some-used number name is = rw (found-number number name is) (number-used name)
 
 pub used-none : (number : ℕ) → used_name number ≡ None → is_used number ≡ false
 used-none number none = by_row (find (λ row. number == row.0) used_attributes) refl
@@ -103,31 +107,55 @@ with_twice u xs ys = same-used _ _ (λ name. grind (
 
 -- ---- adding one used attribute in its slot
 
+slot-named : (has : List Bool) (values : List AttributeValue) (name : UsedName)
+    → value_named name (in_slots has values) ≡ value_of_slot has values (slot_of name)
+slot-named has values = by-named (λ name. value_of_slot has values (slot_of name))
+
 -- The value of another name, or of the same name.
-put-slot : (values : List (Option AttributeValue)) (value : AttributeValue)
-    (slot other own number : ℕ) → slot < length values → (slot == other) ≡ (own == number)
-    → get_or (set values slot (option_or (get_or values slot None) (Some value))) other None
-    ≡ option_or (get_or values other None)
+put-slot : (has : List Bool) (values : List AttributeValue) (value : AttributeValue)
+    (slot other own number : ℕ) → slot < length has → slot < length values
+    → get_or has slot false ≡ false → (slot == other) ≡ (own == number)
+    → value_of_slot (set has slot true) (set values slot value) other
+    ≡ option_or (value_of_slot has values other)
     (value_of (record { name = own; value = value } ∷ []) number)
-put-slot values value slot other own number within same =
-    grind (arith, get_or-set_same values, get_or-set_other)
+put-slot has values value slot other own number within there free same =
+    grind (
+      arith,
+      within,
+      there,
+      free,
+      same,
+      get_or-set_same has,
+      get_or-set_same values,
+      get_or-set_other,
+    )
 
-slot-named : (values : List (Option AttributeValue)) (name : UsedName)
-    → value_named name (in_slots values) ≡ get_or values (slot_of name) None
-slot-named values = by-named (λ name. get_or values (slot_of name) None)
-
--- The attribute is stored unless its slot has a value.
-pub put_is : (values : List (Option AttributeValue)) (name : UsedName) (value : AttributeValue)
-    (slot : ℕ) → slot ≡ slot_of name → slot < length values
-    → in_slots (set values slot (option_or (get_or values slot None) (Some value)))
-    ≡ with_used (in_slots values) (named_attribute name value ∷ [])
-put_is values name value slot at within = same-used _ _ (λ x. rw (
-  slot-named (set values slot (option_or (get_or values slot None) (Some value))) x,
-  with-named (in_slots values) (named_attribute name value ∷ []) x,
-  slot-named values x,
+-- An attribute is stored in its empty slot.
+pub put_is : (has : List Bool) (values : List AttributeValue) (name : UsedName)
+    (value : AttributeValue) (slot : ℕ) → slot ≡ slot_of name → slot < length has
+    → slot < length values → get_or has slot false ≡ false
+    → in_slots (set has slot true) (set values slot value)
+    ≡ with_used (in_slots has values) (named_attribute name value ∷ [])
+put_is has values name value slot at within there free = same-used _ _ (λ x. rw (
+  slot-named (set has slot true) (set values slot value) x,
+  with-named (in_slots has values) (named_attribute name value ∷ []) x,
+  slot-named has values x,
 )
-    (put-slot values value slot (slot_of x) (name_of name) (name_of x) within
+    (put-slot has values value slot (slot_of x) (name_of name) (name_of x) within there free
     (rw (← at) at (same-slot name x))))
+
+-- An attribute whose slot has a value is not stored.
+pub full_is : (has : List Bool) (values : List AttributeValue) (name : UsedName)
+    (value : AttributeValue) (slot : ℕ) → slot ≡ slot_of name → get_or has slot false ≡ true
+    → in_slots has values ≡ with_used (in_slots has values) (named_attribute name value ∷ [])
+full_is has values name value slot at full = same-used _ _ (λ x. rw (
+  with-named (in_slots has values) (named_attribute name value ∷ []) x,
+  slot-named has values x,
+)
+    (grind (arith, full, at, same-slot name x)))
+
+-- What adding one attribute needs.
+pub ruleset add_steps = (put_is, full_is)
 
 -- ---- the attributes of an entry at their positions
 
@@ -137,11 +165,11 @@ find-map f p q same [] = refl
 find-map f p q same (x ∷ xs) = let rest = find-map f p q same xs in grind (arith, same x)
 
 -- The value of a name is the one at the first position in its slot.
-value-at : (format : Format) (bytes : List ℕ) (first : ℕ) (n : UsedName) (used : List UsedPosition)
-    → value_named n (used_among (attributes_in format bytes first used))
-    ≡ option_map (value_in format bytes first) (find (λ p. slot_of p.name == slot_of n) used)
-value-at format bytes first n used = among-named n (attributes_in format bytes first used)
-    ∙ (rw (find-map (attribute_in format bytes first) (λ p. slot_of p.name == slot_of n)
+value-at : (bytes : List ℕ) (first : ℕ) (n : UsedName) (used : List UsedPosition)
+    → value_named n (used_among (attributes_in bytes first used))
+    ≡ option_map (value_in bytes first) (find (λ p. slot_of p.name == slot_of n) used)
+value-at bytes first n used = among-named n (attributes_in bytes first used)
+    ∙ (rw (find-map (attribute_in bytes first) (λ p. slot_of p.name == slot_of n)
     (λ a. a.name == name_of n) (λ p. sym (same-slot p.name n)) used)
     (grind arith))
 
@@ -149,26 +177,17 @@ slot-small : (n : UsedName) → slot_of n < 13
 slot-small n = grind arith
 
 -- The slots of the positions have the used attributes at these positions.
-pub slots-used : (format : Format) (used : List UsedPosition) (slots : ValueSlots)
-    (bytes : List ℕ) (first : ℕ) → AreSlots format used slots
-    → used_in slots (drop first bytes) ≡ used_among (attributes_in format bytes first used)
-slots-used format used slots bytes first are = same-used _ _
+pub slots-used : (used : List UsedPosition) (slots : ValueSlots) (bytes : List ℕ) (first : ℕ)
+    → AreSlots used slots
+    → used_in slots (drop first bytes) ≡ used_among (attributes_in bytes first used)
+slots-used used slots bytes first are = same-used _ _
     (λ n. by-named (λ name. value_in_slot slots (drop first bytes) (slot_of name)) n
-    ∙ are.each (slot_of n) (slot-small n) bytes first ∙ sym (value-at format bytes first n used))
+    ∙ are.each (slot_of n) (slot-small n) bytes first ∙ sym (value-at bytes first n used))
 
 -- ---- the value in a slot
 
--- A value in a layout of a fixed width is the number of this width.
-pub width_number : (format : Format) (layout : ValueLayout) (width : Width) (n : ℕ)
-    (bytes : List ℕ) (first : ℕ) → width_in format layout ≡ Some width
-    → unwrap_or (number_at width bytes (first + n)) 0
-    ≡ number_in format bytes first (positions.At n layout)
-unfolding content_at block_at fixed_at
-width_number format layout width n bytes first is = grind (arith, is)
-
-pub width_value : (format : Format) (layout : ValueLayout) (width : Width) (form n : ℕ)
-    (bytes : List ℕ) (first : ℕ) → width_in format layout ≡ Some width
+pub width_value : (width : Width) (form n : ℕ) (bytes : List ℕ) (first : ℕ)
     → slot_value (drop first bytes) (record { form = form; width = width; offset = n })
-    ≡ record { form = form; number = number_in format bytes first (positions.At n layout) }
-width_value format layout width form n bytes first is = rw (← width_number format layout width n bytes first is, drop-drop n first bytes)
-    (grind (arith, length-drop first bytes))
+    ≡ record { form = form; number = number_in bytes first (positions.At n width) }
+width_value width form n bytes first =
+    rw (drop-drop n first bytes) (grind (arith, length-drop first bytes))

@@ -1,7 +1,6 @@
 //! Abbreviation tables for units of a format (DWARF 5, 7.5.3).
 
-ghost use Rattle.std.specs.Prelude.{Err, IfNone, IfOk, IfSome, None, Ok, length, ◌+◌, ◌≡◌, ◌≤◌};
-ghost use Rattle.std.specs.Prelude.{◌⊎◌};
+ghost use Rattle.std.specs.Prelude.{Err, IfNone, IfOk, IfSome, None, Ok, length, ◌≡◌, ◌≤◌, ◌⊎◌};
 ghost use Rattle.dwarf_bytes.specs.Refusals.{Decodes, in_section, memory_fault};
 ghost use Rattle.dwarf_forms.specs.Tables.{declarations_of};
 ghost use Rattle.dwarf_units.specs.{AbbreviationTables.table_size, Entries.declaration_of};
@@ -63,29 +62,25 @@ impl<'a> Model for AbbreviationTable<'a> {
 
 impl<'a> AbbreviationTable<'a> {
     /// Parses the table at `offset` from the start of `.debug_abbrev`, up to the code 0 that ends
-    /// it. `left` is the number of declarations that may still be read; on success it decreases by
-    /// the number of the table's declarations. A fault has the offset of its declaration. Memoized
-    /// suffixes of attribute lists are not re-read, and new ones are memoized in `linked`.
+    /// it. It may have at most `budget` declarations. A fault has the offset of its declaration.
+    /// Memoized suffixes of attribute lists are not re-read, and new ones are memoized in `linked`.
     pub(crate) fn read(
         alloc: Global,
         linked: &mut LinkedLists<'a>,
         format: Format,
         offset: u64,
-        left: &mut u64,
+        budget: u64,
     ) -> Result<AbbreviationTable<'a>, LoadFault>
         ensures decodes { Decodes (λ table. table.declarations) result
-            (in_section sections.DebugAbbrev (declarations_of left.old linked.old offset)) }
-        ensures counted { IfOk result (λ table. left.new + length table.declarations ≡ left.old) }
+            (in_section sections.DebugAbbrev (declarations_of budget linked.old offset)) }
+        ensures few { IfOk result (λ table. length table.declarations ≤ budget) }
         ensures at { IfOk result (λ table. (table.section ≡ linked.old)
             × IsAt format offset table) }
         ensures section { linked.new ≡ linked.old }
     {
-        match AbbreviationTable::parse(alloc, linked, format, offset, *left) {
-            Ok(table) => {
-                *left -= table.len();
-                Ok(table)
-            }
-            Err(_) => Err(fault_of(alloc, linked.section(), offset, *left)),
+        match AbbreviationTable::parse(alloc, linked, format, offset, budget) {
+            Ok(table) => Ok(table),
+            Err(_) => Err(fault_of(alloc, linked.section(), offset, budget)),
         }
     }
 

@@ -1,13 +1,12 @@
 //! A run of attributes: attributes of a fixed size, and the attribute after them (DWARF 5, 7.5.3).
 
-ghost use Rattle.std.specs.Prelude.{◌≡◌, ◌++◌, ◌∷◌, [], IfOk, OnOk};
-ghost use Rattle.dwarf_bytes.specs.Refusals.{ReadsPlace};
-ghost use Rattle.dwarf_units.specs.{Private.FixedSizes.attributes_in, Private.Runs.end_in};
-ghost use Rattle.dwarf_units.specs.Private.Runs.{last_at, run_at, run_before, stretch_at};
+ghost use Rattle.std.specs.Prelude.{OnOk, [], ◌++◌, ◌∷◌, ◌≡◌};
+ghost use Rattle.dwarf_bytes.specs.Refusals.{ReadsField, ReadsPlace};
+ghost use Rattle.dwarf_units.specs.Private.Runs.{end_in, last_at, number_from, run_at, run_before};
+ghost use Rattle.dwarf_units.specs.Private.{Runs.stretch_at, Used.used_after};
 ghost use Rattle.dwarf_units.specs.StoredAttributes.{Fills, stored_attributes_at};
-ghost use Rattle.dwarf_units.specs.Private.Used.{used_after, with_used};
 
-use crate::attributes::read_attribute;
+use crate::attributes::{AttributeValue, number_of, read_attribute};
 use crate::fixed_sizes::unchecked_layout;
 use crate::used_attributes::UsedAttributes;
 use crate::used_name::UsedName;
@@ -22,16 +21,15 @@ use std::marker::Model;
 pub(crate) struct Stretch {
     /// Their size in bytes.
     pub(crate) len: u16,
-    /// The positions of the used ones. If the next attribute is unchecked and used, its position
-    /// is the last one.
+    /// The positions of the used ones.
     pub(crate) used: Vec<UsedPosition>,
 }
 
 /// The attribute after a stretch.
 #[derive(Clone, Copy)]
 pub(crate) enum LastAttribute {
-    /// An attribute whose value has this layout and needs no check.
-    Unchecked(ValueLayout),
+    /// An attribute whose value needs no check: its name if it is used, its form, and its layout.
+    Unchecked(Option<UsedName>, u64, ValueLayout),
     /// Any other attribute.
     Checked(AttributeSpecification),
 }
@@ -67,32 +65,21 @@ impl Stretch {
     pub(crate) fn read(
         &self,
         keep: bool,
-        format: Format,
         cursor: &mut Cursor,
         found: &mut UsedAttributes,
     ) -> Result<(), Cause>
         ensures { Fills result found.new (λ bytes at. used_after found.old
-            (stretch_at keep format self.now bytes at)) cursor.old cursor.new }
+            (stretch_at keep self.now bytes at)) cursor.old cursor.new }
     {
         let first = cursor.fork();
         cursor.block(u64::from(self.len))?;
-        if keep {
-            self.add_used(format, &first, found);
+        if !keep {
+            return Ok(());
+        }
+        for position in &self.used {
+            found.add(position.name, position.read(&first));
         }
         Ok(())
-    }
-
-    /// Adds the used attributes of an entry whose first attribute of the stretch is at the cursor.
-    // Inlined: called for each entry that is re-read.
-    #[inline(always)]
-    #[tactic(auto, using(crate::proofs::StoredReads::read_steps))]
-    fn add_used(&self, format: Format, first: &Cursor, found: &mut UsedAttributes)
-        ensures { found.new ≡ with_used found.old
-            (attributes_in format first.now.bytes first.now.place self.now.used) }
-    {
-        for position in &self.used {
-            found.add(position.name, position.read(format, first));
-        }
     }
 }
 
@@ -101,22 +88,19 @@ impl AttributeRun {
     /// the positions of the attributes before it.
     pub(crate) fn of(
         len: u16,
-        mut used: Vec<UsedPosition>,
+        used: Vec<UsedPosition>,
         specification: &AttributeSpecification,
-    ) -> Result<AttributeRun, AllocError>
-        ensures { IfOk result (λ run. run ≡ run_before len used.items specification.now) }
+    ) -> AttributeRun
+        ensures { result ≡ run_before len used.items specification.now }
     {
-        let Some(layout) = unchecked_layout(specification) else {
-            let stretch = Stretch { len, used };
-            let last = LastAttribute::Checked(*specification);
-            return Ok(AttributeRun { stretch, last });
-        };
-        if let Some(position) = UsedPosition::of(len, specification) {
-            push_position(&mut used, position)?;
-        }
         let stretch = Stretch { len, used };
-        let last = LastAttribute::Unchecked(layout);
-        Ok(AttributeRun { stretch, last })
+        let Some(layout) = unchecked_layout(specification) else {
+            let last = LastAttribute::Checked(*specification);
+            return AttributeRun { stretch, last };
+        };
+        let name = UsedName::of(specification.name);
+        let last = LastAttribute::Unchecked(name, specification.form, layout);
+        AttributeRun { stretch, last }
     }
 
     /// Reads the attributes from the cursor on. Adds the used ones to `found` if `keep` is set.
@@ -133,14 +117,13 @@ impl AttributeRun {
         ensures { Fills result found.new (λ bytes at. used_after found.old
             (run_at keep format self.now bytes at)) cursor.old cursor.new }
     {
-        self.stretch.read(keep, format, cursor, found)?;
+        self.stretch.read(keep, cursor, found)?;
         self.last.read(keep, format, cursor, found)
     }
 }
 
 impl LastAttribute {
-    /// Reads the attribute at the cursor. Adds a checked attribute to `found` if it is used and
-    /// `keep` is set.
+    /// Reads the attribute at the cursor. Adds it to `found` if it is used and `keep` is set.
     // Inlined: called for each entry.
     #[inline(always)]
     #[tactic(auto, using(crate::proofs::StoredReads::read_steps))]
@@ -155,7 +138,13 @@ impl LastAttribute {
             (last_at keep format self.now bytes at)) cursor.old cursor.new }
     {
         match self {
-            LastAttribute::Unchecked(layout) => skip(*layout, format, cursor),
+            LastAttribute::Unchecked(Some(name), form, layout) if keep => {
+                let number = read_number(*layout, format, cursor)?;
+                let form = *form;
+                found.add(*name, AttributeValue { form, number });
+                Ok(())
+            }
+            LastAttribute::Unchecked(_, _, layout) => skip(*layout, format, cursor),
             LastAttribute::Checked(specification) => {
                 let mut copy = cursor.fork();
                 read_one(keep, format, specification, &mut copy, found)?;
@@ -164,6 +153,22 @@ impl LastAttribute {
             }
         }
     }
+}
+
+/// Reads a value as a number. ULEB128 is tested first.
+// Inlined: called for each entry that is re-read.
+#[inline(always)]
+#[tactic(auto, unfolding(dwarf_bytes::specs::Contents::content_at))]
+fn read_number(layout: ValueLayout, format: Format, cursor: &mut Cursor) -> Result<u64, Cause>
+    ensures { ReadsField (λ n. n) result (number_from layout format) cursor.old cursor.new }
+{
+    if let ValueLayout::Unsigned = layout {
+        return Ok(cursor.uleb()?);
+    }
+    let mut copy = cursor.fork();
+    let content = Content::read(layout, format, &mut copy)?;
+    *cursor = copy;
+    Ok(number_of(content, cursor.place()))
 }
 
 /// Skips a value. The most common layouts have an arm of their own.

@@ -1,7 +1,6 @@
 //! The attributes of a declaration in runs (DWARF 5, 7.5.3).
 
-ghost use Rattle.std.specs.Prelude.{◌≡◌, IfOk, IfSome, Ok, true};
-ghost use Rattle.dwarf_units.specs.{Used.used_among, Private.FixedSizes.attributes_in};
+ghost use Rattle.std.specs.Prelude.{◌≡◌, IfOk};
 ghost use Rattle.dwarf_units.specs.Private.Runs.{all_at, fixed_size, runs_of};
 ghost use Rattle.dwarf_units.specs.{Private.Used.used_after, StoredAttributes.Fills};
 
@@ -46,14 +45,14 @@ impl AttributeRuns {
         let mut used = Vec::with_capacity(alloc, used_count(declared))?;
         for specification in declared {
             if let Some(end) = end_of(format, len, specification) {
-                if let Some(position) = UsedPosition::of(len, specification) {
+                if let Some(position) = UsedPosition::of(format, len, specification) {
                     push_position(&mut used, position)?;
                 }
                 len = end;
                 continue;
             }
             runs.reserve_exact(1)?;
-            runs.push(AttributeRun::of(len, used, specification)?)?;
+            runs.push(AttributeRun::of(len, used, specification))?;
             len = 0;
             used = Vec::new(alloc);
         }
@@ -92,7 +91,7 @@ impl AttributeRuns {
         for run in &self.runs {
             run.read(keep, format, cursor, found)?;
         }
-        self.rest.read(keep, format, cursor, found)
+        self.rest.read(keep, cursor, found)
     }
 }
 

@@ -1,10 +1,9 @@
 //! A cached abbreviation table (DWARF 5, 7.5.3).
 
-ghost use Rattle.std.specs.Prelude.{◌≡◌, ◌+◌, ◌↔◌, length, IfOk, IsTrue};
+ghost use Rattle.std.specs.Prelude.{◌≡◌, ◌≤◌, ◌↔◌, length, IfOk, IsTrue};
 ghost use Rattle.dwarf_bytes.specs.Refusals.{Decodes, in_section};
 ghost use Rattle.dwarf_forms.specs.Tables.{declarations_of};
-ghost use Rattle.dwarf_units.specs.{AbbreviationTables.{table_key, table_size}, Tables.IsAt};
-ghost use Rattle.dwarf_units.specs.{NodeShapes.code_count, Private.NodeLayouts.AreLayouts};
+ghost use Rattle.dwarf_units.specs.{AbbreviationTables.table_key, Tables.IsAt};
 ghost use Rattle.dwarf_bytes.specs.declared.fault.Section.TheVariants as sections;
 
 use crate::abbreviation_table::AbbreviationTable;
@@ -19,7 +18,7 @@ use std::marker::Model;
 #[derive(Drop)]
 pub(crate) struct CachedTable<'a> {
     pub(crate) table: AbbreviationTable<'a>,
-    layouts: Vec<Option<NodeLayout>>,
+    pub(crate) layouts: Vec<Option<NodeLayout>>,
 }
 
 impl<'a> Model for CachedTable<'a> {
@@ -41,16 +40,16 @@ impl<'a> CachedTable<'a> {
         linked: &mut LinkedLists<'a>,
         format: Format,
         offset: u64,
-        left: &mut u64,
+        budget: u64,
     ) -> Result<CachedTable<'a>, LoadFault>
         ensures decodes { Decodes (λ table. table.declarations) result
-            (in_section sections.DebugAbbrev (declarations_of left.old linked.old offset)) }
-        ensures counted { IfOk result (λ table. left.new + length table.declarations ≡ left.old) }
+            (in_section sections.DebugAbbrev (declarations_of budget linked.old offset)) }
+        ensures few { IfOk result (λ table. length table.declarations ≤ budget) }
         ensures at { IfOk result (λ table. (table.section ≡ linked.old)
             × IsAt format offset table) }
         ensures section { linked.new ≡ linked.old }
     {
-        let table = AbbreviationTable::read(alloc, linked, format, offset, left)?;
+        let table = AbbreviationTable::read(alloc, linked, format, offset, budget)?;
         let layouts = layouts(alloc, &table)?;
         Ok(CachedTable { table, layouts })
     }
@@ -60,21 +59,6 @@ impl<'a> CachedTable<'a> {
         ensures { result ≡ table_key self.now.format self.now.offset }
     {
         table_key(self.table.format, self.table.offset)
-    }
-
-    /// Returns the layouts of the nodes by their codes.
-    pub(crate) fn layouts(&self) -> &[Option<NodeLayout>]
-        ensures { AreLayouts self.now.format self.now.declarations
-            (code_count self.now.declarations) result.now }
-    {
-        self.layouts.as_slice()
-    }
-
-    /// Returns the size of the table.
-    pub(crate) fn size(&self) -> u128
-        ensures { result ≡ table_size self.now }
-    {
-        self.table.size()
     }
 
     /// Returns whether a unit uses this table: the offset and the format are equal.

@@ -3,6 +3,7 @@
 ghost use Rattle.std.specs.Prelude.{◌≡◌};
 ghost use Rattle.dwarf_bytes.specs.Forms.{byte_len};
 ghost use Rattle.dwarf_units.specs.Private.FixedSizes.{constant_len, end_of, fixed_len, layout_len};
+ghost use Rattle.dwarf_units.specs.Private.FixedSizes.{width_in};
 ghost use Rattle.dwarf_units.specs.Private.Runs.{unchecked_layout, valid_layout};
 
 use crate::attributes::{accepts, is_negative_count, is_used};
@@ -32,6 +33,10 @@ pub(crate) fn fixed_len(format: Format, specification: &AttributeSpecification) 
         return None;
     }
     match Form::of(specification.form)? {
+        // The values of a used attribute are numbers.
+        Form::Direct(layout) if is_used(specification.name) => {
+            Some(byte_len(width_in(format, layout)?))
+        }
         Form::Direct(layout) => layout_len(format, layout),
         Form::ImplicitConst => constant_len(specification),
         Form::Indirect => None,
@@ -78,10 +83,20 @@ fn layout_len(format: Format, layout: ValueLayout) -> Option<u16>
     ensures { result ≡ layout_len format layout }
 {
     match layout {
-        ValueLayout::Fixed(width) => Some(byte_len(width)),
-        ValueLayout::Offset => Some(format.offset_len() as u16),
         ValueLayout::Present => Some(0),
         ValueLayout::Sixteen => Some(16),
+        _ => Some(byte_len(width_in(format, layout)?)),
+    }
+}
+
+/// Returns the width of the values in a layout, if they are numbers of a fixed size.
+pub(crate) fn width_in(format: Format, layout: ValueLayout) -> Option<Width>
+    ensures { result ≡ width_in format layout }
+{
+    match (layout, format) {
+        (ValueLayout::Fixed(width), _) => Some(width),
+        (ValueLayout::Offset, Format::Dwarf32) => Some(Width::Four),
+        (ValueLayout::Offset, Format::Dwarf64) => Some(Width::Eight),
         _ => None,
     }
 }

@@ -10,10 +10,11 @@ use crate::value_slot::{ValueSlots, slots_of};
 use dwarf_bytes::Format;
 use std::alloc::{AllocError, Global};
 
-/// The greatest abbreviation code that is encoded in one byte.
-const CODE_LIMIT: u64 = 127;
+/// The greatest abbreviation code with a layout, which bounds the memory of a table. Compilers
+/// seldom use greater codes.
+const CODE_LIMIT: u64 = 511;
 
-/// What the nodes with a one-byte code have in common, if their size is fixed.
+/// What the nodes with a code have in common, if their size is fixed.
 #[derive(Clone, Copy)]
 pub struct NodeShape {
     /// The tag of the entries. It is 0 if the node is a null entry.
@@ -49,13 +50,13 @@ impl NodeLayout {
             children: declaration.head.children,
             len: u32::from(len),
         };
-        let slots = slots_of(format, declaration.runs.last_positions());
+        let slots = slots_of(declaration.runs.last_positions());
         Some(NodeLayout { shape, slots })
     }
 }
 
 /// Computes the layouts of the nodes with the codes from 0 up to the number of declarations, at
-/// most 127.
+/// most `CODE_LIMIT`.
 pub(crate) fn layouts(
     alloc: Global,
     table: &AbbreviationTable<'_>,

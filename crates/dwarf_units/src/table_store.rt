@@ -105,7 +105,7 @@ impl<'a> TableStore<'a> {
         ensures section { self.new.section ≡ self.old.section }
         ensures limit { IsWithinLimit self.new }
     {
-        let size = table.size();
+        let size = table.table.size();
         self.numbers.insert(table.key(), self.permanent)?;
         self.tables.truncate(self.permanent);
         let number = self.tables.len();

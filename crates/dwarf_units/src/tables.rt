@@ -1,7 +1,7 @@
 //! A cache of the abbreviation tables of all units (DWARF 5, 7.5.3).
 
-ghost use Rattle.std.specs.Prelude.{◌≡◌, ℕ, ◌+◌, ◌<◌, ◌≤◌, List, Some, Ok, length, nat_lt};
-ghost use Rattle.std.specs.{Prelude.{slice_get, IfOk, OnOk, IfSome, IfNone, IsTrue}, List.All};
+ghost use Rattle.std.specs.{List.All, Prelude.{◌≡◌, ℕ, ◌+◌, ◌<◌, ◌≤◌, List, Some, Ok, length}};
+ghost use Rattle.std.specs.Prelude.{slice_get, IfOk, IfSome, IfNone, IsTrue, OnErr, OnOk, nat_lt};
 ghost use Rattle.dwarf_bytes.specs.Refusals.{in_section};
 ghost use Rattle.dwarf_forms.specs.Declarations.{Declaration};
 ghost use Rattle.dwarf_units.specs.{AbbreviationTables.Table, Private.Tables.IsAdded};
@@ -86,6 +86,7 @@ impl<'a> Tables<'a> {
         ensures err { Refuses result (table_read left.old self.old.section unit.now) }
         ensures section { self.new.section ≡ self.old.section }
         ensures limit { IsWithinLimit self.new }
+        ensures unchanged { OnErr result (left.new ≡ left.old) }
         ensures stays { OnOk result (IsCachedOrTooLarge self.new unit.now) }
         ensures grows { OnOk result (StaysCached self.old self.new) }
     {
@@ -93,7 +94,8 @@ impl<'a> Tables<'a> {
             *left -= len;
             return Ok(());
         }
-        self.add(alloc, unit, left)?;
+        let number = self.add(alloc, unit, *left)?;
+        *left -= self.store.table(number).table.len();
         Ok(())
     }
 
@@ -152,8 +154,7 @@ impl<'a> Tables<'a> {
         if let Some(number) = self.store.find(unit) {
             return Ok(number);
         }
-        let mut left = DECLARATIONS_LIMIT;
-        self.add(alloc, unit, &mut left)
+        self.add(alloc, unit, DECLARATIONS_LIMIT)
     }
 
     /// Returns the table at an index.
@@ -174,23 +175,23 @@ impl<'a> Tables<'a> {
         number < self.store.permanent
     }
 
-    /// Parses the table of a unit, which must not be cached, and caches it. Returns its index.
-    /// Subtracts its declarations from `left`.
+    /// Parses the table of a unit, which must not be cached, and caches it. Returns its index. The
+    /// table may have at most `budget` declarations.
     #[tactic(auto, using(crate::proofs::TableLaws::parsed_at))]
-    fn add(&mut self, alloc: Global, unit: &UnitHeader, left: &mut u64) -> Result<usize, LoadFault>
-        requires few { left.old ≤ declarations_limit }
+    fn add(&mut self, alloc: Global, unit: &UnitHeader, budget: u64) -> Result<usize, LoadFault>
+        requires few { budget ≤ declarations_limit }
         requires new { (table : List Declaration)
-            → table_read left.old self.old.section unit.now ≡ Ok table
+            → table_read budget self.old.section unit.now ≡ Ok table
             → AreElsewhere unit.now.format unit.now.abbreviations self.old.tables }
         requires limit { IsWithinLimit self.old }
         ensures ok { IfOk result (λ number. IsAdded unit.now.format unit.now.abbreviations
-            left.old left.new self.old self.new number) }
-        ensures err { Refuses result (table_read left.old self.old.section unit.now) }
+            budget self.old self.new number) }
+        ensures err { Refuses result (table_read budget self.old.section unit.now) }
         ensures section { self.new.section ≡ self.old.section }
         ensures limit { IsWithinLimit self.new }
     {
         let place = unit.abbreviations;
-        let table = CachedTable::read(alloc, &mut self.lists, unit.format, place, left)?;
+        let table = CachedTable::read(alloc, &mut self.lists, unit.format, place, budget)?;
         Ok(self.store.add(table)?)
     }
 }

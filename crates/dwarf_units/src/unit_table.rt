@@ -3,7 +3,7 @@
 ghost use Rattle.std.specs.Prelude.{IfSome, MatchOption, None, Ok, length, option_map};
 ghost use Rattle.std.specs.Prelude.{◌<◌, ◌≡◌, ◌≤◌};
 ghost use Rattle.dwarf_units.specs.{Entries.depth_limit, Heads.used_entry_at};
-ghost use Rattle.dwarf_units.specs.NodeShapes.{IsFixedSizeNode, fixed_size_node_at};
+ghost use Rattle.dwarf_units.specs.NodeShapes.{IsFixedSizeNode, fixed_size_node_at, short_code_at};
 ghost use Rattle.dwarf_units.specs.Private.NodeLayouts.{IsLayoutAt};
 
 use crate::cached_table::CachedTable;
@@ -43,7 +43,7 @@ impl<'a> UnitTable<'a> {
         UnitTable {
             table,
             linked,
-            layouts: table.layouts(),
+            layouts: table.layouts.as_slice(),
         }
     }
 
@@ -55,18 +55,18 @@ impl<'a> UnitTable<'a> {
         UnitTable { ..*self }
     }
 
-    /// Returns the layout of the nodes with a one-byte code, if the table has layouts up to it.
+    /// Returns the layout of the nodes with a code, if the table has layouts up to it.
     // Inlined: called for each entry. No `Option<&NodeLayout>`: a missing one costs a null pointer.
     #[inline(always)]
-    fn layout(&self, code: u8) -> Option<&'a Option<NodeLayout>>
+    fn layout(&self, code: u64) -> Option<&'a Option<NodeLayout>>
         ensures { MatchOption result (IsLayoutAt self.now code None)
             (λ layout. IsLayoutAt self.now code layout.now) }
     {
-        self.layouts.get(usize::from(code))
+        self.layouts.get(code as usize)
     }
 
     /// Returns the shape of the node at an offset and the offset after the node, if the node has a
-    /// fixed size, is below the root, and is not truncated.
+    /// short code and a fixed size, is below the root, and is not truncated.
     // Inlined: called for each entry.
     #[inline(always)]
     #[tactic(auto, unfolding(crate::specs::NodeShapes::fixed_size_node_at))]
@@ -85,12 +85,12 @@ impl<'a> UnitTable<'a> {
         if depth == 0 || depth > DEPTH_LIMIT {
             return None;
         }
-        let code = *bytes.get(place)?;
+        let (code, start) = short_code(bytes, place)?;
         let Some(layout) = self.layout(code)? else {
             return None;
         };
         let shape = &layout.shape;
-        let after = place + 1 + u64::from(shape.len) as usize;
+        let after = start + u64::from(shape.len) as usize;
         if after > bytes.len() {
             return None;
         }
@@ -106,17 +106,17 @@ impl<'a> UnitTable<'a> {
             ≡ Ok ((entry.tag, entry.values), entry.after)) }
         ensures within { IfSome result (λ _. place ≤ length bytes.now) }
     {
-        let code = *bytes.get(place)?;
+        let (code, start) = short_code(bytes, place)?;
         let Some(layout) = self.layout(code)? else {
             return None;
         };
         let slots = layout.slots.as_ref()?;
-        let rest = &bytes[place + 1..];
+        let rest = &bytes[start..];
         if rest.len() < WINDOW {
             return None;
         }
         let shape = &layout.shape;
-        let after = place + u64::from(shape.len) as usize + 1;
+        let after = u64::from(shape.len) as usize + start;
         if bytes.len() < after {
             return None;
         }
@@ -126,4 +126,22 @@ impl<'a> UnitTable<'a> {
             values: FixedSizeValues { bytes: rest, slots },
         })
     }
+}
+
+/// Returns the code at an offset and the offset after it, if the code takes at most two bytes.
+// Inlined: called for each entry.
+#[inline(always)]
+fn short_code(bytes: &[u8], place: usize) -> Option<(u64, usize)>
+    ensures code { result ≡ short_code_at bytes.now place }
+    ensures within { IfSome result (λ code. code.1 ≤ length bytes.now) }
+{
+    let low = *bytes.get(place)?;
+    if low < 128 {
+        return Some((u64::from(low), place + 1));
+    }
+    let high = *bytes.get(place + 1)?;
+    if high >= 128 {
+        return None;
+    }
+    Some((u64::from(low % 128) + 128 * u64::from(high), place + 2))
 }

@@ -20,20 +20,17 @@ pub trait EntryValues {
 /// The values of the used attributes of an entry. The first of two values counts.
 #[derive(Drop)]
 pub struct UsedAttributes {
-    values: [Option<AttributeValue>; SLOTS],
-    /// Whether an attribute was added.
-    is_filled: bool,
+    /// Whether each slot has a value.
+    has_value: [bool; SLOTS],
+    values: [AttributeValue; SLOTS],
 }
 
 impl Model for UsedAttributes {
-    ghost use Rattle.std.specs.Prelude.{◌≡◌, [], false};
-    ghost use Rattle.dwarf_units.specs.{Private.Slots.in_slots, Used.{Used, used_among}};
+    ghost use Rattle.dwarf_units.specs.{Private.Slots.in_slots, Used.Used};
 
     ghost Value = { Used };
 
-    ghost view = { λ u. in_slots u.values };
-
-    ghost invariant = { λ u. u.is_filled ≡ false → in_slots u.values ≡ used_among [] };
+    ghost view = { λ u. in_slots u.has_value u.values };
 }
 
 impl UsedAttributes {
@@ -42,28 +39,28 @@ impl UsedAttributes {
         ensures { result ≡ used_among [] }
     {
         UsedAttributes {
-            values: [None; SLOTS],
-            is_filled: false,
+            has_value: [false; SLOTS],
+            values: [AttributeValue { form: 0, number: 0 }; SLOTS],
         }
     }
 
-    /// Removes all attributes. It is called for each entry, and most entries add none.
+    /// Removes all attributes.
     pub(crate) fn clear(&mut self)
         ensures { self.new ≡ used_among [] }
     {
-        if self.is_filled {
-            *self = UsedAttributes::none();
-        }
+        self.has_value = [false; SLOTS];
     }
 
     /// Adds an attribute. Has no effect if the entry already has an attribute of this name.
-    #[tactic(auto, using(crate::proofs::SlotLaws::put_is))]
+    #[tactic(auto, using(crate::proofs::SlotLaws::add_steps))]
     pub(crate) fn add(&mut self, name: UsedName, value: AttributeValue)
         ensures { self.new ≡ with_used self.old (named_attribute name value ∷ []) }
     {
-        self.is_filled = true;
         let slot = name.slot();
-        self.values[slot] = self.values[slot].or(Some(value));
+        if !self.has_value[slot] {
+            self.has_value[slot] = true;
+            self.values[slot] = value;
+        }
     }
 }
 
@@ -71,6 +68,7 @@ impl EntryValues for UsedAttributes {
     ghost used = { λ u. u };
 
     fn value(&self, name: UsedName) -> Option<AttributeValue> {
-        self.values[name.slot()]
+        let slot = name.slot();
+        self.has_value[slot].then_some(self.values[slot])
     }
 }

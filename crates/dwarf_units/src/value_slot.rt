@@ -3,7 +3,6 @@
 
 ghost use Rattle.std.specs.Prelude.{◌≡◌, ℕ, List, IfSome, drop};
 ghost use Rattle.dwarf_units.specs.Private.{FixedSizes.number_in, Slots.{AreSlots, slot_value}};
-ghost use Rattle.dwarf_units.specs.Private.Slots.{width_in};
 ghost use Rattle.dwarf_units.specs.declared.used_position.UsedValue.TheVariants as positions;
 
 use crate::attributes::AttributeValue;
@@ -11,7 +10,7 @@ use crate::used_attributes::EntryValues;
 use crate::used_name::{CALL_FILE_SLOT, ENTRY_SLOTS, UsedName};
 use crate::used_position::{UsedPosition, UsedValue};
 use dwarf_bytes::constants::DW_FORM_IMPLICIT_CONST;
-use dwarf_bytes::{Cursor, Format, ValueLayout, Width};
+use dwarf_bytes::{Cursor, Width};
 use std::marker::Model;
 
 /// The number of bytes that must follow the code of an entry so that its slots are read. They
@@ -39,16 +38,14 @@ pub(crate) struct ValueSlots {
 impl ValueSlot {
     /// Returns the slot of a value that starts `offset` bytes after the first attribute, or `None`
     /// if it does not fit.
-    fn of(format: Format, form: u64, offset: u16, layout: ValueLayout) -> Option<ValueSlot>
+    fn of(form: u64, offset: u16, width: Width) -> Option<ValueSlot>
         ensures { IfSome result (λ slot. (bytes : List ℕ) (first : ℕ)
-            → slot_value (drop first bytes) slot ≡ record {
-              form = form;
-              number = number_in format bytes first (positions.At offset layout);
-            }) }
+            → slot_value (drop first bytes) slot
+            ≡ record { form = form; number = number_in bytes first (positions.At offset width) }) }
     {
         Some(ValueSlot {
             form: u8::try_from(form).ok()?,
-            width: width_in(format, layout)?,
+            width,
             offset: u8::try_from(offset).ok()?,
         })
     }
@@ -113,8 +110,8 @@ impl<'a> EntryValues for FixedSizeValues<'a> {
 }
 
 /// Returns the slots of all used attributes. Returns `None` if one has none or does not fit.
-pub(crate) fn slots_of(format: Format, used: &[UsedPosition]) -> Option<ValueSlots>
-    ensures { IfSome result (AreSlots format used.now) }
+pub(crate) fn slots_of(used: &[UsedPosition]) -> Option<ValueSlots>
+    ensures { IfSome result (AreSlots used.now) }
 {
     let mut slots = ValueSlots {
         slots: [None; ENTRY_SLOTS],
@@ -134,8 +131,8 @@ pub(crate) fn slots_of(format: Format, used: &[UsedPosition]) -> Option<ValueSlo
                 }
                 slots.file = Some(u32::try_from(number).ok()?);
             }
-            UsedValue::At(offset, layout) => {
-                slots.slots[slot] = Some(ValueSlot::of(format, position.form, offset, layout)?);
+            UsedValue::At(offset, width) => {
+                slots.slots[slot] = Some(ValueSlot::of(position.form, offset, width)?);
                 if slot == CALL_FILE_SLOT {
                     slots.file = None;
                 }
@@ -143,16 +140,4 @@ pub(crate) fn slots_of(format: Format, used: &[UsedPosition]) -> Option<ValueSlo
         }
     }
     Some(slots)
-}
-
-/// Returns the width of the values in a layout, if they are numbers of a fixed size.
-pub(crate) fn width_in(format: Format, layout: ValueLayout) -> Option<Width>
-    ensures { result ≡ width_in format layout }
-{
-    match (layout, format) {
-        (ValueLayout::Fixed(width), _) => Some(width),
-        (ValueLayout::Offset, Format::Dwarf32) => Some(Width::Four),
-        (ValueLayout::Offset, Format::Dwarf64) => Some(Width::Eight),
-        _ => None,
-    }
 }

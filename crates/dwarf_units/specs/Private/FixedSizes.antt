@@ -1,18 +1,20 @@
 -- The sizes of attributes, and the positions of used attributes after attributes of a fixed size.
-use Rattle.dwarf_bytes.specs.{Bind.◌>>=◌, Contents.{Signed, content_at}, Forms.{byte_len, form_of}}
-use Rattle.dwarf_bytes.specs.{Items.reading, Numbers.{block_at, offset_len}}
-use Rattle.dwarf_bytes.specs.declared.{fault.Cause.Cause, form.Form.TheVariants.Direct}
+use Rattle.dwarf_bytes.specs.{Contents.Signed, Forms.{byte_len, form_of, number_at}}
+use Rattle.dwarf_bytes.specs.{Numbers.offset_len, declared.form.Form.TheVariants.Direct}
 use Rattle.dwarf_bytes.specs.declared.form.Form.TheVariants.{ImplicitConst, Indirect}
 use Rattle.dwarf_bytes.specs.declared.form.ValueLayout.TheVariants.{Fixed, Offset, Present, Sixteen}
-use Rattle.dwarf_bytes.specs.declared.{form.ValueLayout.ValueLayout, format.Format.Format}
+use Rattle.dwarf_bytes.specs.declared.form.{ValueLayout.ValueLayout, Width.Width}
+use Rattle.dwarf_bytes.specs.declared.form.Width.TheVariants.{Eight, Four}
+use Rattle.dwarf_bytes.specs.declared.format.Format.{Format, TheVariants.{Dwarf32, Dwarf64}}
 use Rattle.dwarf_forms.specs.declared.attribute.AttributeSpecification.{AttributeSpecification}
-use Rattle.dwarf_units.specs.Attributes.{accepts, is_negative_count, number_of}
+use Rattle.dwarf_units.specs.Attributes.{accepts, is_negative_count, is_used, number_of}
 use Rattle.dwarf_units.specs.Private.Names.{named_attribute, used_name}
 use Rattle.dwarf_units.specs.declared.attributes.Attribute.{Attribute}
+use Rattle.dwarf_units.specs.declared.attributes.AttributeValue.{AttributeValue}
 use Rattle.dwarf_units.specs.declared.used_position.{UsedPosition.UsedPosition, UsedValue.UsedValue}
 use Rattle.dwarf_units.specs.declared.used_position.UsedValue.TheVariants.{At, Constant}
-use Rattle.std.specs.{Option.option_map_or, Prelude.{Err, List, None, Ok, Option, Result, Some}}
-use Rattle.std.specs.Prelude.{if◌then◌else◌, map, nat_le, option_and_then, option_map, ℕ, ◌+◌}
+use Rattle.std.specs.{Prelude.{List, None, Option, Some, if◌then◌else◌, map}}
+use Rattle.std.specs.Prelude.{nat_le, option_and_then, option_map, unwrap_or, ℕ, ◌+◌}
 
 -- ---- sizes of attributes
 
@@ -31,11 +33,23 @@ constant_len s = elim s.constant [
   | Some c ↦ if is_negative_count s.name (Signed c) then None else Some 0
 ]
 
+-- The width of the values in a layout, if they are numbers of a fixed size.
+abbrev pub width_in : Format → ValueLayout → Option Width
+width_in format (Fixed width) = Some width
+width_in Dwarf32 Offset = Some Four
+width_in Dwarf64 Offset = Some Eight
+width_in format layout = None
+
+-- The size of the values of an attribute in a layout. Those of a used attribute are numbers.
+abbrev pub value_len : Format → ℕ → ValueLayout → Option ℕ
+value_len format name layout = if is_used name then option_map byte_len (width_in format layout)
+    else layout_len format layout
+
 -- The fixed size of an attribute, if it may have its form.
 unfoldable pub fixed_len : Format → AttributeSpecification → Option ℕ
 fixed_len format s = if accepts s.name s.form then (elim (form_of s.form) [
   | None ↦ None
-  | Some (Direct layout) ↦ layout_len format layout
+  | Some (Direct layout) ↦ value_len format s.name layout
   | Some ImplicitConst ↦ constant_len s
   | Some Indirect ↦ None
 ]) else None
@@ -47,48 +61,37 @@ end_of format n s = option_and_then
 
 -- ---- positions of attributes
 
--- The constant of an attribute as a number.
-abbrev pub constant_number : AttributeSpecification → ℕ
-constant_number s = option_map_or (λ c. number_of (Signed c) 0) s.constant 0
-
--- Where the value of an attribute is that starts n bytes after the first attribute.
-abbrev pub used_value : ℕ → AttributeSpecification → UsedValue
-used_value n s = elim (form_of s.form) [
-  | None ↦ Constant (constant_number s)
-  | Some (Direct layout) ↦ At n layout
-  | Some ImplicitConst ↦ Constant (constant_number s)
-  | Some Indirect ↦ Constant (constant_number s)
+-- Where the value of an attribute is that starts n bytes after the first attribute: in the entry,
+-- if it has a width, or in the declaration.
+abbrev pub used_value : Format → ℕ → AttributeSpecification → Option UsedValue
+used_value format n s = elim (form_of s.form) [
+  | None ↦ None
+  | Some (Direct layout) ↦ option_map (At n) (width_in format layout)
+  | Some ImplicitConst ↦ option_map (λ c. Constant (number_of (Signed c) 0)) s.constant
+  | Some Indirect ↦ None
 ]
 
 -- The position of an attribute, if it is used.
-abbrev pub used_position : ℕ → AttributeSpecification → Option UsedPosition
-used_position n s = option_map
-    (λ name. record { name = name; form = s.form; value = used_value n s }) (used_name s.name)
+abbrev pub used_position : Format → ℕ → AttributeSpecification → Option UsedPosition
+used_position format n s = option_and_then (λ name. option_map
+    (λ value. record { name = name; form = s.form; value = value }) (used_value format n s))
+    (used_name s.name)
 
 -- ---- attributes at their positions
 
--- The value in a layout after n bytes, as a number, and the offset after it.
-abbrev pub number_after : ℕ → Format → ValueLayout → List ℕ → ℕ → Result (ℕ × ℕ) Cause
-number_after n format layout bytes at = do
-  block ← reading (block_at n bytes at)
-  content ← reading (content_at layout format bytes block.1)
-  Ok (number_of content.0 content.1, content.1)
+-- The number at a position in an entry whose first attribute is at an offset, or 0 if its bytes are
+-- missing.
+abbrev pub number_in : List ℕ → ℕ → UsedValue → ℕ
+number_in bytes first (Constant n) = n
+number_in bytes first (At n width) = unwrap_or (number_at width bytes (first + n)) 0
 
--- A number, or 0 if its bytes are missing.
-abbrev pub number_or_zero : Result (ℕ × ℕ) Cause → ℕ
-number_or_zero (Ok number) = number.0
-number_or_zero (Err cause) = 0
-
--- The value at a position in an entry whose first attribute is at an offset.
-abbrev pub number_in : Format → List ℕ → ℕ → UsedValue → ℕ
-number_in format bytes first (Constant n) = n
-number_in format bytes first (At n layout) =
-    number_or_zero (number_after n format layout bytes first)
+-- The value at a position.
+abbrev pub value_in : List ℕ → ℕ → UsedPosition → AttributeValue
+value_in bytes first p = record { form = p.form; number = number_in bytes first p.value }
 
 -- The attribute at a position.
-abbrev pub attribute_in : Format → List ℕ → ℕ → UsedPosition → Attribute
-attribute_in format bytes first p = named_attribute p.name
-    (record { form = p.form; number = number_in format bytes first p.value })
+abbrev pub attribute_in : List ℕ → ℕ → UsedPosition → Attribute
+attribute_in bytes first p = named_attribute p.name (value_in bytes first p)
 
-abbrev pub attributes_in : Format → List ℕ → ℕ → List UsedPosition → List Attribute
-attributes_in format bytes first used = map (attribute_in format bytes first) used
+abbrev pub attributes_in : List ℕ → ℕ → List UsedPosition → List Attribute
+attributes_in bytes first used = map (attribute_in bytes first) used

@@ -2,7 +2,7 @@
 use Rattle.dwarf_bytes.specs.declared.format.Format.{Format}
 use Rattle.dwarf_forms.specs.Declarations.{Declaration}
 use Rattle.dwarf_units.specs.{AbbreviationTables.Table, Entries.declaration_of}
-use Rattle.dwarf_units.specs.NodeShapes.{code_limit, shape_at, shape_of, shape_of_code}
+use Rattle.dwarf_units.specs.NodeShapes.{shape_at, shape_of, shape_of_code}
 use Rattle.dwarf_units.specs.{Private.Slots.used_in, StoredAttributes.used_attributes_at}
 use Rattle.dwarf_units.specs.declared.node_layout.NodeLayout.{NodeLayout}
 use Rattle.dwarf_units.specs.declared.value_slot.ValueSlots.{ValueSlots}
@@ -42,5 +42,4 @@ pub record AreLayouts (format : Format) (table : List Declaration) (count : ℕ)
 -- The layout of the nodes with a code, if it is precomputed.
 pub record IsLayoutAt (table : Table) (code : ℕ) (layout : Option NodeLayout) : Type 0 where
   pub shape : option_map (λ l. l.shape) layout ≡ shape_at table code
-  pub slots : IfSome layout
-      (λ l. (code ≤ code_limit) × HasSlotsOf table.format table.declarations code l)
+  pub slots : IfSome layout (HasSlotsOf table.format table.declarations code)

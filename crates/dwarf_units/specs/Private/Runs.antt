@@ -4,16 +4,18 @@ use Rattle.dwarf_bytes.specs.{Numbers.block_at, declared.fault.Cause.Cause}
 use Rattle.dwarf_bytes.specs.declared.form.Form.TheVariants.{Direct, ImplicitConst, Indirect}
 use Rattle.dwarf_bytes.specs.declared.{form.ValueLayout.ValueLayout, format.Format.Format}
 use Rattle.dwarf_forms.specs.declared.attribute.AttributeSpecification.{AttributeSpecification}
-use Rattle.dwarf_units.specs.Attributes.{accepts, is_used}
+use Rattle.dwarf_units.specs.Attributes.{accepts, is_used, number_of}
 use Rattle.dwarf_units.specs.Private.FixedSizes.{attributes_in, end_of, used_position}
+use Rattle.dwarf_units.specs.Private.Names.{named_attribute, used_name}
 use Rattle.dwarf_units.specs.StoredAttributes.{stored_attributes_at}
 use Rattle.dwarf_units.specs.declared.attribute_run.LastAttribute.{LastAttribute}
 use Rattle.dwarf_units.specs.declared.attribute_run.LastAttribute.TheVariants.{Checked, Unchecked}
-use Rattle.dwarf_units.specs.declared.attributes.Attribute.{Attribute}
+use Rattle.dwarf_units.specs.declared.{attributes.Attribute.Attribute, used_name.UsedName.UsedName}
+use Rattle.dwarf_units.specs.declared.attributes.AttributeValue.{AttributeValue}
 use Rattle.dwarf_units.specs.declared.used_position.UsedPosition.{UsedPosition}
 use Rattle.std.specs.{Option.{option_map_or, option_to_list}, Prelude.{Bool, List, None, Ok}}
 use Rattle.std.specs.Prelude.{Option, Result, Some, [], false, if◌then◌else◌, length, true, ℕ}
-use Rattle.std.specs.Prelude.{◌&&◌, ◌++◌, ◌==◌, ◌∷◌}
+use Rattle.std.specs.Prelude.{option_map, ◌&&◌, ◌++◌, ◌==◌, ◌∷◌}
 use Rattle.dwarf_bytes.specs.declared.form.ValueLayout.TheVariants as layouts
 
 -- ---- attributes whose values need no check
@@ -39,7 +41,6 @@ unchecked_layout s = if accepts s.name s.form then (elim (form_of s.form) [
 -- ---- runs
 
 -- Consecutive attributes of a fixed size: their size in bytes, and the positions of the used ones.
--- If the next attribute needs no check, its position is the last one.
 pub record Stretch : Type 0 where
   pub len : ℕ
   pub used : List UsedPosition
@@ -54,19 +55,21 @@ pub record Runs : Type 0 where
   pub runs : List Run
   pub rest : Stretch
 
+-- An attribute, as it is read after a stretch.
+abbrev pub last_of : AttributeSpecification → LastAttribute
+last_of s = option_map_or (λ layout. Unchecked (used_name s.name) s.form layout)
+    (unchecked_layout s) (Checked s)
+
 -- The run of n bytes that ends with an attribute. `used` has the positions before it.
 abbrev pub run_before : ℕ → List UsedPosition → AttributeSpecification → Run
-run_before n used s = option_map_or (λ layout. record {
-  stretch = record { len = n; used = used ++ option_to_list (used_position n s) };
-  last = Unchecked layout;
-}) (unchecked_layout s) (record { stretch = record { len = n; used = used }; last = Checked s })
+run_before n used s = record { stretch = record { len = n; used = used }; last = last_of s }
 
 -- The attributes of a list that starts n bytes after the start of its stretch. `used` has the
 -- positions before it.
 unfoldable pub runs_from : Format → ℕ → List UsedPosition → List AttributeSpecification → Runs
 runs_from format n used [] = record { runs = []; rest = record { len = n; used = used } }
 runs_from format n used (s ∷ ss) = option_map_or
-    (λ end. runs_from format end (used ++ option_to_list (used_position n s)) ss)
+    (λ end. runs_from format end (used ++ option_to_list (used_position format n s)) ss)
     (end_of format n s) (let others = runs_from format 0 [] ss in
     record others { runs = run_before n used s ∷ others.runs })
 
@@ -80,21 +83,30 @@ fixed_size all = if length all.runs == 0 then Some all.rest.len else None
 -- ---- attributes that are read in runs
 
 -- The stored attributes of a stretch, and the offset after it.
-abbrev pub stretch_at : Bool → Format → Stretch → List ℕ → ℕ → Result (List Attribute × ℕ) Cause
-stretch_at keep format stretch bytes at = reading (block_at stretch.len bytes at) >>= λ block.
-    Ok (if keep then attributes_in format bytes at stretch.used else [], block.1)
+abbrev pub stretch_at : Bool → Stretch → List ℕ → ℕ → Result (List Attribute × ℕ) Cause
+stretch_at keep stretch bytes at = reading (block_at stretch.len bytes at) >>= λ block.
+    Ok (if keep then attributes_in bytes at stretch.used else [], block.1)
 
 -- The offset after a value in a layout.
 abbrev pub end_in : ValueLayout → Format → List ℕ → ℕ → Result ℕ Cause
 end_in layout format bytes at =
     reading (content_at layout format bytes at) >>= λ content. Ok content.1
 
--- The stored attributes and the offset after the last attribute of a run. If it needs no check, it
--- is stored with the stretch.
+-- A value in a layout as a number, and the offset after it.
+abbrev pub number_from : ValueLayout → Format → List ℕ → ℕ → Result (ℕ × ℕ) Cause
+number_from layout format bytes at = reading (content_at layout format bytes at)
+    >>= λ content. Ok (number_of content.0 content.1, content.1)
+
+-- The attribute with a name and a value, if it is used.
+abbrev pub named_by : Option UsedName → AttributeValue → List Attribute
+named_by name value = option_to_list (option_map (λ n. named_attribute n value) name)
+
+-- The stored attributes and the offset after the last attribute of a run.
 abbrev pub last_at : Bool → Format → LastAttribute → List ℕ → ℕ
     → Result (List Attribute × ℕ) Cause
-last_at keep format (Unchecked layout) bytes at =
-    end_in layout format bytes at >>= λ end. Ok ([], end)
+last_at keep format (Unchecked name form layout) bytes at = do
+  number ← number_from layout format bytes at
+  Ok (if keep then named_by name (record { form = form; number = number.0 }) else [], number.1)
 last_at keep format (Checked s) bytes at = stored_attributes_at keep format (s ∷ []) bytes at
 
 -- One read after another.
@@ -107,12 +119,12 @@ then_read read next = do
 
 abbrev pub run_at : Bool → Format → Run → List ℕ → ℕ → Result (List Attribute × ℕ) Cause
 run_at keep format run bytes at =
-    then_read (stretch_at keep format run.stretch bytes at) (last_at keep format run.last bytes)
+    then_read (stretch_at keep run.stretch bytes at) (last_at keep format run.last bytes)
 
 -- Runs, and the stretch after them.
 abbrev pub runs_at : Bool → Format → List Run → Stretch → List ℕ → ℕ
     → Result (List Attribute × ℕ) Cause
-runs_at keep format [] rest bytes at = stretch_at keep format rest bytes at
+runs_at keep format [] rest bytes at = stretch_at keep rest bytes at
 runs_at keep format (run ∷ runs) rest bytes at =
     then_read (run_at keep format run bytes at) (runs_at keep format runs rest bytes)
 

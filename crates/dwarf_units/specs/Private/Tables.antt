@@ -35,14 +35,13 @@ pub record IsIndexOf (cached : CachedTables) (unit : UnitHeader) (number : ℕ) 
       → IsAt unit.format unit.abbreviations same → number ≡ other
 
 -- The table at an offset is parsed with a budget of `budget` declarations and added at this index.
--- `left` is the rest of that budget.
-pub record IsAdded (format : Format) (offset budget left : ℕ) (old new : CachedTables) (number : ℕ)
+pub record IsAdded (format : Format) (offset budget : ℕ) (old new : CachedTables) (number : ℕ)
     : Type 0 where
   pub table : Table
   pub within : table.section ≡ old.section
   pub at : IsAt format offset table
   pub read : in_section sections.DebugAbbrev (declarations_of budget old.section offset)
       ≡ Ok table.declarations
-  pub counted : left + length table.declarations ≡ budget
+  pub few : length table.declarations ≤ budget
   pub found : slice_get new.tables number ≡ Some table
   pub added : new ≡ with_table old table

@@ -12,7 +12,7 @@ pub returns : goal.returns
 returns c =
     let count : c.min-count.result + 1 ≡ code_count c.args.table.now.declarations =
     ap (λ (k : ℕ). k + 1)
-    (c.min-count.ensures ∙ ap (λ (k : ℕ). min k 127) c.len.ensures) in
+    (c.min-count.ensures ∙ ap (λ (k : ℕ). min k 511) c.len.ensures) in
     let all : c.loop-code.code ≡ code_count c.args.table.now.declarations =
     omega (arith, c.loop-code-test.false, c.loop-code.auto.code-end, count) in
     rw (← all) c.loop-code.invariant

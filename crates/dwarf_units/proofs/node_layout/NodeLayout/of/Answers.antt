@@ -9,8 +9,8 @@ returns c section is =
     let starts = rw none at is.starts in
     let whole = whole-list section c.args.declaration.now.attributes is.first starts in record {
       shape = grind (arith, common_steps, whole, starts.full, is.runs);
-      slots = if_some-map c.slots_of-slots.result (λ slots are. λ bytes first le. rw (c.from.ensures, whole)
-          (fixed-used c.args.format is.first c.in_ok-len.len slots
+      slots = if_some-map c.slots_of-slots.result (λ slots are. λ bytes first le.
+          rw (c.from.ensures, whole) (fixed-used c.args.format is.first c.in_ok-len.len slots
           (rw (← is.runs) (sym c.fixed_size.ensures ∙ c.in_ok-len.was))
           (rw (c.last_positions.ensures, is.runs) at are) bytes first (rw c.from.ensures at le)))
           c.slots_of-slots.ensures;

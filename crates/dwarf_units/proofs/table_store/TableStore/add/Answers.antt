@@ -11,7 +11,8 @@ pub invariant_of-self-then-size-self : goal.invariant_of-self-then-size-self
 invariant_of-self-then-size-self c = (added _ _ c.args.table c.size-size.result
     (rw (← c.self.view_is) at c.requires.new) (rw c.key.ensures at c.in_ok-insert.ensures.updates.0)
     (rw (← c.self.view_is) at c.requires.parsed)
-    (rw c.truncate.ensures.items at c.in_ok-push.ensures.items) c.size-size.ensures
+    (rw c.truncate.ensures.items at c.in_ok-push.ensures.items)
+    (rw c.table.view_is at c.size-size.ensures)
     (inl (c.if-size-self.true, c.len-self-inside.ensures ∙ c.push.new.self.ok.0, refl))
     c.self.invariant).0
 
@@ -19,7 +20,8 @@ pub invariant_of-self-else-size-self : goal.invariant_of-self-else-size-self
 invariant_of-self-else-size-self c = (added _ _ c.args.table c.size-size.result
     (rw (← c.self.view_is) at c.requires.new) (rw c.key.ensures at c.in_ok-insert.ensures.updates.0)
     (rw (← c.self.view_is) at c.requires.parsed)
-    (rw c.truncate.ensures.items at c.in_ok-push.ensures.items) c.size-size.ensures
+    (rw c.truncate.ensures.items at c.in_ok-push.ensures.items)
+    (rw c.table.view_is at c.size-size.ensures)
     (inr (c.if-size-self.false, refl, refl)) c.self.invariant).0
 
 pub returns-then-size-self-clause-added : goal.returns-then-size-self-clause-added
@@ -29,7 +31,8 @@ returns-then-size-self-clause-added c =
       rw (← c.self.view_is) (added _ _ {next = c.insert.new.self} c.args.table c.size-size.result
           (rw (← c.self.view_is) at c.requires.new)
           (rw c.key.ensures at c.in_ok-insert.ensures.updates.0)
-          (rw (← c.self.view_is) at c.requires.parsed) is c.size-size.ensures
+          (rw (← c.self.view_is) at c.requires.parsed) is
+          (rw c.table.view_is at c.size-size.ensures)
           (inl (c.if-size-self.true, c.len-self-inside.ensures ∙ c.push.new.self.ok.0, refl))
           c.self.invariant).1,
       rw is (at-end _ c.args.table c.len-number.result at),
@@ -42,7 +45,8 @@ returns-else-size-self-clause-added c =
       rw (← c.self.view_is) (added _ _ {next = c.insert.new.self} c.args.table c.size-size.result
           (rw (← c.self.view_is) at c.requires.new)
           (rw c.key.ensures at c.in_ok-insert.ensures.updates.0)
-          (rw (← c.self.view_is) at c.requires.parsed) is c.size-size.ensures
+          (rw (← c.self.view_is) at c.requires.parsed) is
+          (rw c.table.view_is at c.size-size.ensures)
           (inr (c.if-size-self.false, refl, refl)) c.self.invariant).1,
       rw is (at-end _ c.args.table c.len-number.result at),
     )
