@@ -121,6 +121,7 @@ impl<'a> AbbreviationTable<'a> {
                 rest: list.rest,
             })?;
         }
+        declarations.shrink_to_fit();
         Ok(AbbreviationTable {
             section,
             offset,

@@ -87,7 +87,7 @@ end c =
     (rw (same, ← inv.codes, head.0) refl, refl, head.1)
 
 pub returns-clause-table : goal.returns-clause-table
-returns-clause-table c = rw c.section-section.ensures (end c).0
+returns-clause-table c = rw (c.section-section.ensures, c.shrink_to_fit.ensures.items) (end c).0
 
 pub returns-clause-few : goal.returns-clause-few
-returns-clause-few c = rw c.section-section.ensures (end c).1
+returns-clause-few c = rw (c.section-section.ensures, c.shrink_to_fit.ensures.items) (end c).1
