@@ -48,8 +48,8 @@ static int measure(const char *path) {
         count++;
         sum += value;
     }
-    printf("%llu numbers, sum %llu, %ld ms\n", (unsigned long long)count, (unsigned long long)sum,
-        milliseconds(start, now()));
+    printf("%llu numbers, sum %llu, %ld us\n", (unsigned long long)count, (unsigned long long)sum,
+        microseconds(start, now()));
     return 0;
 }
 

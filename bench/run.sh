@@ -27,9 +27,9 @@ bench/build.sh
 [ -f out/objects/lto ] || copy_debug_file "${LTO_PROGRAM:-/usr/bin/python3.11}" out/objects/lto
 [ -f out/objects/hundred ] || tools/repeat_lines.sh out/objects/large out/objects/hundred
 
-# Prints the time in milliseconds that ends the output of a command, as `.., N ms`.
+# Prints the time in microseconds that ends the output of a command, as `.., N us`.
 time_of() {
-    "$@" | sed -n 's/.*, \([0-9]*\) ms$/\1/p'
+    "$@" | sed -n 's/.*, \([0-9]*\) us$/\1/p'
 }
 
 # Prints the minimum of nine times of our reader, of plain C and, if there is one, of earlier plain
@@ -38,7 +38,7 @@ time_of() {
 least_of_all() {
     local object=$1 plain=$2 command=$3 turns=9 earlier
     earlier=out/earlier/$(basename "$plain")
-    if [ "$(time_of "$measure" "$command" "$object")" -lt 500 ]; then turns=25; fi
+    if [ "$(time_of "$measure" "$command" "$object")" -lt 500000 ]; then turns=25; fi
     for ((turn = 0; turn < turns; turn++)); do
         echo "$(time_of "$measure" "$command" "$object") $(time_of "$plain" "$object")" \
             "$([ ! -f "$earlier" ] || time_of "$earlier" "$object")"
@@ -51,8 +51,8 @@ compare() {
     local what=$1
     read -r ours plain earlier <<< "$(least_of_all "$2" "$3" "$4")"
     awk -v w="$what" -v a="$ours" -v b="$plain" -v c="$earlier" 'BEGIN {
-        printf "%-40s %6d ms, plain C %6d ms", w, a, b
-        if (c != "") printf ", earlier plain C %6d ms", c
+        printf "%-40s %6.1f ms, plain C %6.1f ms", w, a / 1000, b / 1000
+        if (c != "") printf ", earlier plain C %6.1f ms", c / 1000
         printf ", ratio %.2f", b / (a > 0 ? a : 1)
         print c == "" ? "" : sprintf(" and %.2f", c / (a > 0 ? a : 1))
     }'
@@ -64,18 +64,18 @@ compare_index() {
     awk -v w="index of $1" -v lines="$2" -v scopes="$3" -v load="$4" 'BEGIN {
         split(lines, l); split(scopes, s); split(load, all)
         for (i = 1; i <= 3; i++) left[i] = all[i] - l[i] - s[i]
-        printf "%-40s %6d ms, plain C %6d ms", w, left[1], left[2]
-        printf ", earlier plain C %6d ms, ratio %.2f and %.2f\n", left[3],
+        printf "%-40s %6.1f ms, plain C %6.1f ms", w, left[1] / 1000, left[2] / 1000
+        printf ", earlier plain C %6.1f ms, ratio %.2f and %.2f\n", left[3] / 1000,
             left[2] / (left[1] > 0 ? left[1] : 1), left[3] / (left[1] > 0 ? left[1] : 1)
     }'
 }
 
 # Prints the peak memory of a command in MiB, and the number of its page faults.
 peak() {
-    python3 -c 'import resource, subprocess, sys
-subprocess.run(sys.argv[1:], stdout=subprocess.DEVNULL, check=True)
-used = resource.getrusage(resource.RUSAGE_CHILDREN)
-print(used.ru_maxrss // 1024, used.ru_minflt)' "$@"
+    PYTHONPATH=bench python3 -c 'import sys
+from usage import usage
+used = usage(sys.argv[1:])
+print(int(used.mebibytes), used.faults)' "$@"
 }
 
 # Prints the duration in milliseconds of a command that prints no time.
@@ -114,8 +114,8 @@ measure_program() {
     for what in entries scopes; do
         awk -v n="$(count_of $what "$output")" -v w="$what a second: $name" -v a="$ours" \
             -v b="$plain" -v c="$earlier" 'BEGIN {
-            printf "%s: %d, plain C %d", w, n * 1000 / a, n * 1000 / b
-            printf ", earlier plain C %d\n", n * 1000 / c
+            printf "%s: %d, plain C %d", w, n * 1000000 / a, n * 1000000 / b
+            printf ", earlier plain C %d\n", n * 1000000 / c
         }'
     done
     "$measure" scopes "$object"

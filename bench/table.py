@@ -31,10 +31,10 @@ COLUMNS = {
 }
 NAMES = "|".join(COLUMNS)
 FIGURES = re.compile(
-    r"(?P<what>.+?):? +(?P<ours>\d+)(?P<unit> ms| MiB|)"
-    rf"(?P<others>(?:, (?:{NAMES}) +\d+(?: ms| MiB|))+)(?:, ratio .*)?"
+    r"(?P<what>.+?):? +(?P<ours>[\d.]+)(?P<unit> ms| MiB|)"
+    rf"(?P<others>(?:, (?:{NAMES}) +[\d.]+(?: ms| MiB|))+)(?:, ratio .*)?"
 )
-OTHER = re.compile(rf"({NAMES}) +(\d+)")
+OTHER = re.compile(rf"({NAMES}) +([\d.]+)")
 ANSWERS = re.compile(
     r"  (?P<program>.*?) {2,}(?P<rate>\d+) (?P<what>answers a second(?: of CPU time)?)"
     r"(?:, [\d.]+ reads and writes an answer)?"
@@ -68,7 +68,8 @@ def rows(lines):
     table = {}
 
     def put(what, unit, better, program, figure):
-        table.setdefault((what, unit, better), {}).setdefault(program, int(figure))
+        number = float(figure) if "." in figure else int(figure)
+        table.setdefault((what, unit, better), {}).setdefault(program, number)
 
     asked = ""
     for line in lines:

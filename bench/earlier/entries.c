@@ -149,8 +149,8 @@ int main(int argc, char **argv) {
     const uint8_t *bytes = file_bytes(argv[1], &size);
     struct timespec start = now();
     if (find_sections(bytes, size, found) || read_scopes(found)) return 1;
-    printf("%zu units, %lu entries, %zu scopes, %zu ranges, %ld ms\n", unit_count,
-        (unsigned long)entry_count, scope_count, range_count, milliseconds(start, now()));
+    printf("%zu units, %lu entries, %zu scopes, %zu ranges, %ld us\n", unit_count,
+        (unsigned long)entry_count, scope_count, range_count, microseconds(start, now()));
     return 0;
 }
 #endif

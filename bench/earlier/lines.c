@@ -114,7 +114,7 @@ int main(int argc, char **argv) {
     const uint8_t *bytes = file_bytes(argv[1], &size);
     struct timespec start = now();
     if (find_sections(bytes, size, found) || read_lines(found)) return 1;
-    printf("%zu rows, %ld ms\n", rows.count, milliseconds(start, now()));
+    printf("%zu rows, %ld us\n", rows.count, microseconds(start, now()));
     return 0;
 }
 #endif

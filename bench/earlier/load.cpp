@@ -206,8 +206,8 @@ int main(int argc, char **argv) {
         print_sums(sections, segments);
         return 0;
     }
-    printf("lines %ld ms, scopes %ld ms, index %ld ms, %zu segments, %lu calls, %ld ms\n",
-        milliseconds(start, lines), milliseconds(lines, entries), milliseconds(entries, end),
-        segments.size(), (unsigned long)calls, milliseconds(start, end));
+    printf("lines %ld us, scopes %ld us, index %ld us, %zu segments, %lu calls, %ld us\n",
+        microseconds(start, lines), microseconds(lines, entries), microseconds(entries, end),
+        segments.size(), (unsigned long)calls, microseconds(start, end));
     return 0;
 }

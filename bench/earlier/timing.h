@@ -23,7 +23,7 @@ static inline struct timespec now(void) {
     return time;
 }
 
-static inline long milliseconds(struct timespec from, struct timespec to) {
-    return (to.tv_sec - from.tv_sec) * 1000 + (to.tv_nsec - from.tv_nsec) / 1000000;
+static inline long microseconds(struct timespec from, struct timespec to) {
+    return (to.tv_sec - from.tv_sec) * 1000000 + (to.tv_nsec - from.tv_nsec) / 1000;
 }
 #endif

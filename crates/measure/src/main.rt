@@ -54,10 +54,10 @@ fn measure_leb(rt: &HostRuntime, bytes: &[u8]) -> Result<()> {
     let total = leb::total(bytes);
     let time = start.elapsed(rt)?;
     println!(rt;
-        "{} numbers, sum {}, {} ms",
+        "{} numbers, sum {}, {} us",
         total.count,
         total.sum,
-        time.as_millis()
+        time.as_micros()
     )?;
     Ok(())
 }
@@ -66,7 +66,7 @@ fn measure_lines(rt: &HostRuntime, bytes: &[u8]) -> Result<()> {
     let start = Instant::now(rt)?;
     let lines = lines::read(rt.alloc(), bytes)?;
     let time = start.elapsed(rt)?;
-    println!(rt; "{} rows, {} ms", lines.rows().len(), time.as_millis())?;
+    println!(rt; "{} rows, {} us", lines.rows().len(), time.as_micros())?;
     Ok(())
 }
 
@@ -75,11 +75,11 @@ fn measure_scopes(rt: &HostRuntime, bytes: &[u8]) -> Result<()> {
     let scopes = scopes::read(rt.alloc(), bytes)?;
     let time = start.elapsed(rt)?;
     println!(rt;
-        "{} roots, {} scopes, {} ranges, {} ms",
+        "{} roots, {} scopes, {} ranges, {} us",
         scopes.roots().len(),
         scopes.scopes().len(),
         scopes::count_ranges(&scopes),
-        time.as_millis()
+        time.as_micros()
     )?;
     Ok(())
 }
@@ -89,10 +89,10 @@ fn measure_module(rt: &HostRuntime, bytes: Vec<u8>) -> Result<()> {
     let module = decoded(rt, bytes)?;
     let time = start.elapsed(rt)?;
     println!(rt;
-        "{} segments, {} calls, {} ms",
+        "{} segments, {} calls, {} us",
         module.segments().list().len(),
         module.sweep_calls(),
-        time.as_millis()
+        time.as_micros()
     )?;
     Ok(())
 }
