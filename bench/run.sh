@@ -33,12 +33,14 @@ time_of() {
 }
 
 # Prints the minimum of nine times of our reader, of plain C and, if there is one, of earlier plain
-# C, in alternating runs. If our reader takes less than half a second, there are twenty-five runs,
-# to reduce noise.
+# C, in alternating runs. To reduce noise, there are 25 runs if our reader takes less than half a
+# second, and 75 if it takes less than a tenth.
 least_of_all() {
-    local object=$1 plain=$2 command=$3 turns=9 earlier
+    local object=$1 plain=$2 command=$3 turns=9 first earlier
     earlier=out/earlier/$(basename "$plain")
-    if [ "$(time_of "$measure" "$command" "$object")" -lt 500000 ]; then turns=25; fi
+    first=$(time_of "$measure" "$command" "$object")
+    if [ "$first" -lt 500000 ]; then turns=25; fi
+    if [ "$first" -lt 100000 ]; then turns=75; fi
     for ((turn = 0; turn < turns; turn++)); do
         echo "$(time_of "$measure" "$command" "$object") $(time_of "$plain" "$object")" \
             "$([ ! -f "$earlier" ] || time_of "$earlier" "$object")"
