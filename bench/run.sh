@@ -27,6 +27,11 @@ bench/build.sh
 [ -f out/objects/lto ] || copy_debug_file "${LTO_PROGRAM:-/usr/bin/python3.11}" out/objects/lto
 [ -f out/objects/hundred ] || tools/repeat_lines.sh out/objects/large out/objects/hundred
 
+# Prints the processor time that this machine had, and that other machines took from it, in ticks.
+processor_time() {
+    awk '/^cpu / { print $2 + $3 + $4 + $7 + $8, $9 }' /proc/stat
+}
+
 # Prints the time in microseconds that ends the output of a command, as `.., N us`.
 time_of() {
     "$@" | sed -n 's/.*, \([0-9]*\) us$/\1/p'
@@ -132,6 +137,7 @@ measure_program() {
     bench/same_data.py --measure "$measure" "$object"
 }
 
+read -r had taken <<< "$(processor_time)"
 compare 'LEB128, 100 MB' out/leb.bin out/leb leb
 compare 'line programs, 100 MB' out/objects/hundred out/lines lines
 measure_program 'a C++ program' out/objects/large
@@ -148,3 +154,8 @@ for peer in 'llvm-dwarfdump --debug-info' 'readelf --debug-dump=info'; do
         echo "$peer of a C++ program: $(duration $peer out/objects/large) ms, $memory MiB"
     fi
 done
+read -r had_now taken_now <<< "$(processor_time)"
+awk -v had=$((had_now - had)) -v taken=$((taken_now - taken)) 'BEGIN {
+    if (had > 0) printf "other machines took %.1f %% of the processor time\n",
+        100 * taken / (had + taken)
+}'
